@@ -1,5 +1,5 @@
 -- Lists of TCP options with one timestamp.
-use Rattle.std.proofs.Common.{ℕ, ◌≡◌, ◌∙◌, ◌+◌, ◌*◌, ◌/◌, ◌++◌, List, [], ◌∷◌, ap, arith, length, refl, slice_index, slice_range, take}
+use Rattle.std.proofs.Common.{ℕ, ◌≡◌, ◌∙◌, ◌+◌, ◌*◌, ◌++◌, List, [], ◌∷◌, ap, arith, length, refl, slice_index, slice_range}
 use Rattle.ip_wire.specs.TcpItems.{IsOptionList, item}
 use Rattle.ip_wire.specs.TcpSummary.{Summarizes, summary_of}
 use Rattle.wire_field.proofs.Cells.{cells-all}
@@ -8,15 +8,8 @@ use Rattle.wire_tcp_parts.proofs.Items.{IsItem_bare}
 use Rattle.wire_tcp_parts.specs.declared.tcp.summary.TcpOptionSummary.{TcpOptionSummary}
 use Rattle.c_structs.proofs.TcpKept.{IsItem-stamp, eight}
 
--- the first four bytes as one number
-abbrev pub first : List ℕ → ℕ
-first options = 16777216 * slice_index options 0 + 65536 * slice_index options 1 + 256 * slice_index options 2 + slice_index options 3
-
-pub first-take : (options : List ℕ) → length options ≡ 12 → first (take 4 options) ≡ first options
-first-take options size = rw (cells-all 12 options size) refl
-
 -- two bytes of no operation before it
-pub padded-summary : (options : List ℕ) (summary : TcpOptionSummary) → AreBytes options → length options ≡ 12 → first options ≡ 0x0101080a
+pub padded-summary : (options : List ℕ) (summary : TcpOptionSummary) → AreBytes options → length options ≡ 12 → 16777216 * slice_index options 0 + 65536 * slice_index options 1 + 256 * slice_index options 2 + slice_index options 3 ≡ 0x0101080a
     → summary ≡ summary_of (item 8 (slice_range options 4 12) ∷ []) → Summarizes options summary
 padded-summary options summary h size kinds is =
     let at = slice_index options in
@@ -38,14 +31,14 @@ padded-summary options summary h size kinds is =
     (items, [], list, is ∙ ap (λ (l : List ℕ). summary_of (item 8 l ∷ [])) part)
 
 -- zeros after it
-pub first-summary : (options : List ℕ) (summary : TcpOptionSummary) → AreBytes options → length options ≡ 12 → first options / 65536 ≡ 0x080a → slice_index options 10 ≡ 0
+pub first-summary : (options : List ℕ) (summary : TcpOptionSummary) → AreBytes options → length options ≡ 12 → 256 * slice_index options 0 + slice_index options 1 ≡ 0x080a → slice_index options 10 ≡ 0
     → summary ≡ summary_of (item 8 (slice_range options 2 10) ∷ []) → Summarizes options summary
 first-summary options summary h size kind zero is =
     let at = slice_index options in
     let all : options ≡ at 0 ∷ at 1 ∷ (eight options 2 ++ at 10 ∷ at 11 ∷ []) = rw (cells-all 12 options size) refl in
     let part : slice_range options 2 10 ≡ eight options 2 = rw (cells-all 12 options size) refl in
-    let a : at 0 ≡ 8 = omega (arith, kind, h 0, h 1, h 2, h 3) in
-    let b : at 1 ≡ 10 = omega (arith, kind, h 0, h 1, h 2, h 3) in
+    let a : at 0 ≡ 8 = omega (arith, kind, h 0, h 1) in
+    let b : at 1 ≡ 10 = omega (arith, kind, h 0, h 1) in
     let tail = at 10 ∷ at 11 ∷ [] in
     let joined : options ≡ 8 ∷ 10 ∷ (eight options 2 ++ tail) =
     all ∙ ap (λ (n : ℕ). n ∷ at 1 ∷ (eight options 2 ++ tail)) a ∙ ap (λ (n : ℕ). 8 ∷ n ∷ (eight options 2 ++ tail)) b in

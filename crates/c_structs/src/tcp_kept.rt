@@ -16,10 +16,11 @@ const NO_CHECKSUM: u16 = 0xffff;
 // The length of a header whose only option is a timestamp.
 const STAMPED_LEN: u8 = 32;
 
-// The kind and the length of a timestamp, and two bytes of no operation before them.
-const STAMP: u16 = 0x080a;
+/// The kind and the length of a timestamp.
+pub const STAMP: u16 = 0x080a;
 
-const PADDED_STAMP: u32 = 0x0101_080a;
+/// Two bytes of no operation, then the kind and the length of a timestamp.
+pub const PADDED_STAMP: u32 = 0x0101_080a;
 
 /// Whether a segment has a header that is emitted as it is, with no option or a timestamp.
 #[inline(always)]

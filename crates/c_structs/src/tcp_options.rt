@@ -6,6 +6,7 @@ ghost use Rattle.ip_wire.specs.TcpSummary.{Summarizes, summary_of};
 ghost use Rattle.c_structs.specs.TcpOptions.{IsListed, ReadsItems, range_of, tcp_options_of};
 ghost use Rattle.c_structs.specs.Written.{IsRead, flag};
 
+use crate::tcp_kept::{PADDED_STAMP, STAMP};
 use crate::types::{SackRange, TcpOptions};
 use byteorder::{ByteOrder, NetworkEndian};
 use ip_wire::{TcpOptionSummary, TcpPacket};
@@ -16,11 +17,6 @@ const MAX_WINDOW_SCALE: u8 = 14;
 
 // The bytes of a timestamp and of two more.
 const STAMP_LIST_LEN: usize = 12;
-
-// The kind and the length of a timestamp, and two bytes of no operation before them.
-const STAMP: u32 = 0x080a;
-
-const PADDED_STAMP: u32 = 0x0101_080a;
 
 impl SackRange {
     // The range in this place, or zeros.
@@ -111,10 +107,9 @@ fn only_timestamp(options: &[u8]) -> Option<TcpOptionSummary>
     if options.len() != STAMP_LIST_LEN {
         return None;
     }
-    let first = NetworkEndian::read_u32(&options[..4]);
-    if first == PADDED_STAMP {
+    if NetworkEndian::read_u32(options) == PADDED_STAMP {
         Some(timestamp_in(&options[4..12]))
-    } else if first / 65_536 == STAMP && options[10] == 0 {
+    } else if NetworkEndian::read_u16(options) == STAMP && options[10] == 0 {
         Some(timestamp_in(&options[2..10]))
     } else {
         None
