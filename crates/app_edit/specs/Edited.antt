@@ -136,7 +136,7 @@ header_checksum version.Ipv6 end frame at bytes = 0
 -- ---- edits
 
 -- Pinned by: `apps/edits`
--- the frame with this checksum of its IP header, which IPv6 has not
+-- the frame with this checksum of its IP header; IPv6 has none
 abbrev pub with_header_checksum : IpVersion → List ℕ → ℕ → List ℕ
 with_header_checksum version.Ipv4 frame n = with_word frame 24 n
 with_header_checksum version.Ipv6 frame n = frame
@@ -229,7 +229,8 @@ port_set frame side n =
 -- ---- bytes that may not be replaced
 
 -- Pinned by: `apps/edits`
--- whether the bytes from `at` up to `end` have none of those from `first` up to `last`; no bytes are not between them
+-- whether the bytes from `at` up to `end` have none of those from `first` up to `last`; an empty range must not begin
+-- between two of them either
 abbrev pub is_apart : ℕ → ℕ → ℕ → ℕ → Bool
 is_apart at end first last = nat_le end first || nat_le last at || nat_le last first
 
@@ -248,8 +249,8 @@ keeps_segment protocol.Udp start at end = is_apart at end (start + 4) (start + 8
 keeps_segment _ start at end = is_apart at end (start + 2) (start + 4)
 
 -- Pinned by: `apps/edits`
--- whether an edit keeps the bytes of what a packet carries that it may not replace: all that a checksum covers which
--- is not found
+-- whether an edit keeps the bytes after the IP header that it may not replace: of a later fragment all, and without a
+-- known place of the checksum all that it may cover, with the addresses
 abbrev pub keeps_carried : Carried → Places → ℕ → ℕ → Bool
 keeps_carried (carried.Segment s) p at end = keeps_segment s.protocol s.start at end
 keeps_carried carried.Other p at end = true
@@ -262,7 +263,7 @@ abbrev pub allows : Places → ℕ → ℕ → Bool
 allows p at end = keeps_header p.version p.start at end && keeps_carried p.carried p at end
 
 -- Pinned by: `apps/edits`
--- the frame with these bytes, if they fit and none of them may not be replaced
+-- the frame with these bytes from byte `at` on, if they fit and all bytes there may be replaced
 unfoldable pub bytes_set : List ℕ → ℕ → List ℕ → Option (List ℕ)
 bytes_set frame at bytes =
     if nat_le (at + length bytes) (length frame)

@@ -166,6 +166,8 @@ fn port_place(side: Side, carried: Carried) -> Option<usize>
 /// - the transport checksum, the data offset of TCP, the length of UDP;
 /// - the payload of a later fragment;
 /// - all from the addresses on, if the transport checksum is not found (`Carried::Hidden`).
+///
+/// No bytes are rejected too, if `at` is between two of these.
 #[tactic(auto, unfolding(crate::specs::Edited::bytes_set))]
 pub fn set_bytes(frame: &mut [u8], at: usize, bytes: &[u8]) -> bool
     ensures done { result ≡ is_some (bytes_set frame.old at bytes.now) }

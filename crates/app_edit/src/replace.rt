@@ -222,7 +222,7 @@ fn update_over(field: u16, first: usize, last: usize, at: usize, before: &[u8], 
     update_by(IpProtocol::Tcp, field, first, last, at, before, after)
 }
 
-// The same for the checksum of this protocol. In UDP a field of 0 stays.
+// The same for the checksum of this protocol. That of UDP differs from the others: a field of 0 stays.
 fn update_by(
     protocol: IpProtocol,
     field: u16,

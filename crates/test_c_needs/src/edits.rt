@@ -1,7 +1,7 @@
 //! Needs the contracts and laws of the edits of a field.
 
-ghost use Rattle.std.specs.Prelude.{◌≡◌, ◌≢◌, ◌≤◌, ◌+◌, ◌%◌, Some, false, length, slice_range};
-ghost use Rattle.app_edit.specs.Edited.{edited, is_left, segment_sum, word_at};
+ghost use Rattle.std.specs.Prelude.{◌≡◌, ◌≢◌, ◌≤◌, ◌+◌, ◌%◌, Some, false, length, slice_range, true};
+ghost use Rattle.app_edit.specs.Edited.{edited, is_left, pseudo_header_sum, segment_sum, word_at};
 ghost use Rattle.app_edit.specs.Filled.{filled};
 ghost use Rattle.app_edit.specs.Places.{checksum_place, places_of};
 ghost use Rattle.app_edit.specs.declared.places.Carried.TheVariants.{Segment as OfSegment};
@@ -82,6 +82,19 @@ fn segment_sum_stays(frame: &[u8], at: usize, bytes: &[u8])
         → segment_sum p.version s (edited p frame.now at bytes.now) % 65535 ≡ segment_sum p.version s frame.now % 65535 }
 {
     laws::segment_sum_stays(frame, at, bytes);
+}
+
+/// Bytes up to a checksum that is left to the device are written, or right after it.
+fn pseudo_header_sum_stays(frame: &[u8], at: usize, bytes: &[u8])
+    requires { at + length bytes.now ≤ length frame.now }
+    ensures before { (p : PlacesOf) (s : SegmentOf) → places_of frame.now ≡ Some p → p.carried ≡ OfSegment s
+        → is_left p.version s frame.now ≡ true → at + length bytes.now ≡ checksum_place s
+        → word_at (edited p frame.now at bytes.now) (checksum_place s) ≡ pseudo_header_sum p.version s (edited p frame.now at bytes.now) }
+    ensures after { (p : PlacesOf) (s : SegmentOf) → places_of frame.now ≡ Some p → p.carried ≡ OfSegment s
+        → is_left p.version s frame.now ≡ true → at ≡ checksum_place s + 2
+        → word_at (edited p frame.now at bytes.now) (checksum_place s) ≡ pseudo_header_sum p.version s (edited p frame.now at bytes.now) }
+{
+    laws::pseudo_header_sum_stays(frame, at, bytes);
 }
 
 /// A computed checksum makes the sum 0xffff.

@@ -18,7 +18,7 @@ GROUPS = {
     "wire_addr": "Addresses and CIDR blocks", "wire_ends": "Either IP version: addresses, blocks, endpoints",
     "wire_icmp": "ICMP", "wire_ndisc": "Neighbor discovery", "app_short": "Short applications",
     "app_link": "Link-layer headers", "app_host": "Host",
-    "app_router": "Router", "app_nat": "NAT",
+    "app_router": "Router", "app_nat": "NAT", "app_edit": "Edits of a field",
 }
 # What types come first below a heading, by the end of their names.
 ORDER = "Frame", "Packet", "Header", "Repr", "Address", "Cidr"

@@ -10,7 +10,10 @@ from contracts import Item  # noqa: E402
 from sources import Crate, Module, Sources  # noqa: E402
 
 # The libraries that a program in Rattle names.
-LIBRARIES = "net_base", "ip_wire", "wire_icmp", "wire_ndisc", "app_short", "app_link", "app_host", "app_router", "app_nat"
+LIBRARIES = (
+    "net_base", "ip_wire", "wire_icmp", "wire_ndisc", "app_short", "app_link", "app_host", "app_router", "app_nat",
+    "app_edit",
+)
 VIEW = re.compile(r"= (\w+View)<")
 # Before the pins of a definition, in each line of its comment that has some.
 PIN = "Pinned by: "
