@@ -3,6 +3,7 @@ pub mod Calls
 pub mod EchoEnds
 pub mod Echoes
 pub mod Ends
+pub mod EndsRead
 pub mod Faults
 pub mod FlowsOnce
 pub mod Headers

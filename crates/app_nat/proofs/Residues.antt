@@ -1,8 +1,8 @@
 -- A checksum that is updated and then updated back.
-use Rattle.std.proofs.Common.{ℕ, ◌≡◌, ◌+◌, ◌-◌, ◌*◌, ◌<◌, ◌≤◌, ◌==◌, ◌≢◌, ◌⊎◌, inl, inr, true, false, List, sum, refl, arith}
+use Rattle.std.proofs.Common.{ℕ, ◌≡◌, ◌+◌, ◌-◌, ◌*◌, ◌<◌, ◌≤◌, ◌==◌, ◌≢◌, ◌⊎◌, inl, inr, true, false, List, ap, sum, sym, ◌∙◌, refl, arith}
 use Rattle.std.proofs.lemmas.Bool.{cases_lt}
 use Rattle.std.proofs.lemmas.Bool.Decides.{nat_tests}
-use Rattle.ip_wire.proofs.Residues.{residue-bound, residue-quotient, residue-zero}
+use Rattle.ip_wire.proofs.Residues.{residue-add, residue-bound, residue-quotient, residue-same, residue-small, residue-zero}
 use Rattle.ip_wire.specs.Udp.{checksum_for}
 use Rattle.ip_wire.specs.WordSum.{residue, sum_of_bytes, updated, words}
 
@@ -34,6 +34,18 @@ pub below-full : (c old new : ℕ) → c < 65535 → updated c old new < 65535
 below-full c old new h =
     let least = residue-least ((65535 - c) + (65535 - old) + new) (omega (arith, h)) in
     omega (arith, least)
+
+-- two updates are one update by the sum of both changes
+pub updated_twice : (c old new p q r : ℕ) → c ≤ 65535 → r ≡ residue (65535 - c + (65535 - old + (new + (65535 - p + (q + 0)))))
+    → 65535 - r ≡ updated (updated c old new) p q
+updated_twice c old new p q r h is =
+    let t = (65535 - c) + (65535 - old) + new in
+    let once : 65535 - (65535 - residue t) ≡ residue t = omega (arith, residue-bound t) in
+    let one : residue (residue t + ((65535 - p) + q)) ≡ residue (t + ((65535 - p) + q)) =
+    residue-add (residue t) t ((65535 - p) + q) ((65535 - p) + q) (residue-small (residue t) (residue-bound t)) refl in
+    let first : residue (65535 - c + (65535 - old + (new + (65535 - p + (q + 0))))) ≡ residue (t + ((65535 - p) + q)) = ap residue (omega arith) in
+    let second : residue (65535 - (65535 - residue t) + (65535 - p) + q) ≡ residue (residue t + ((65535 - p) + q)) = ap residue (omega (arith, once)) in
+    ap (λ (n : ℕ). 65535 - n) (is ∙ first ∙ sym one ∙ sym second)
 
 -- the checksum after an update back, if it was not 0xffff
 pub updated-back : (c old new : ℕ) → c < 65535 → old ≤ 65535 → new ≤ 65535 → updated (updated c old new) new old ≡ c
@@ -106,3 +118,23 @@ udp-back_twice c old new p q some h o n ps qs =
     let s3 = udp-step u2 new old in
     let s4 = udp-step u3 q p in
     omega (arith, s1.by.moves, s2.by.moves, s3.by.moves, s4.by.moves, s1.some, s2.some, s3.some, s4.some, s1.fits, s2.fits, s3.fits, s4.fits, some, h, o, n, ps, qs)
+
+-- 0xffff and 0 are updated to the same checksum
+full-or-none : (p x : ℕ) → p ≤ 65535 → udp_updated 65535 p x ≡ udp_updated 0 p x
+full-or-none p x fits = elim (cases_lt 0 (65535 - p + x)) [
+  | inl some ↦
+      let same : residue (65535 - 65535 + (65535 - p) + x) ≡ residue (65535 - 0 + (65535 - p) + x) =
+      residue-same (65535 - 65535 + (65535 - p) + x) (65535 - 0 + (65535 - p) + x) 1 0 (omega arith) (λ z. absurd (omega (arith, z, some))) (λ z. absurd (omega (arith, z))) in
+      ap (λ (r : ℕ). checksum_for (65535 - (65535 - r))) same
+  | inr none ↦
+      let zero : residue (65535 - 65535 + (65535 - p) + x) ≡ 0 = residue-small (65535 - 65535 + (65535 - p) + x) (omega (arith, none)) ∙ omega (arith, none) in
+      let all : residue (65535 - 0 + (65535 - p) + x) ≡ 65535 = residue-small (65535 - 0 + (65535 - p) + x) (omega (arith, none)) ∙ omega (arith, none) in
+      ap (λ (r : ℕ). checksum_for (65535 - (65535 - r))) zero ∙ sym (ap (λ (r : ℕ). checksum_for (65535 - (65535 - r))) all)
+]
+
+-- of two updates only the second one need avoid 0
+pub udp_twice : (c old new p q : ℕ) → p ≤ 65535 → udp_updated (udp_updated c old new) p q ≡ udp_updated (updated c old new) p q
+udp_twice c old new p q fits = elim (udp-cases (updated c old new) (omega arith)) [
+  | inl (none, is) ↦ ap (λ (k : ℕ). udp_updated k p q) is ∙ full-or-none p q fits ∙ sym (ap (λ (k : ℕ). udp_updated k p q) none)
+  | inr (some, is) ↦ ap (λ (k : ℕ). udp_updated k p q) is
+]

@@ -74,14 +74,6 @@ pub rewritten : (side on : Side) (v : Ipv4Repr) (old done new addr : List ℕ) (
 rewritten side on v old done new addr port t is at r =
     subst (λ (s : Side). Rewrites v old new s addr port t) (sym is) (subst (λ (l : List ℕ). Rewrites v old l on addr port t) (sym at) r)
 
--- the bytes after both steps, for a side that is equal to this one
-pub end-by : (update : List ℕ → ℕ → ℕ → List ℕ) (side on : Side) (old new bytes mid done result : List ℕ) (port : ℕ) → side ≡ on → result ≡ done
-    → mid ≡ update bytes (sum_of_bytes old) (sum_of_bytes new) → done ≡ update (with_field mid (port_bit on) 16 port) (field mid (port_bit on) 16) port
-    → result ≡ with_end_by update side old new port bytes
-end-by update side on old new bytes mid done result port is at first second =
-    subst (λ (s : Side). result ≡ with_end_by update s old new port bytes) (sym is)
-    (at ∙ second ∙ ap (λ (l : List ℕ). update (with_field l (port_bit on) 16 port) (field l (port_bit on) 16) port) first)
-
 -- each transport, from its own setters
 pub rewrites-udp : (v : Ipv4Repr) (old new : List ℕ) (side : Side) (addr : List ℕ) (port : ℕ) → v.next_header ≡ protocol.Udp
     → ((u : UdpRepr) (payload : List ℕ) → Rewrites v old new side addr port (datagram u payload))

@@ -1,14 +1,14 @@
 -- A UDP packet with another port, after an address of its pseudo-header changed.
-use Rattle.std.proofs.Common.{ℕ, ◌≡◌, ◌≢◌, ◌≤◌, ◌<◌, ◌==◌, ◌↔◌, inl, inr, if◌then◌else◌, Bool, true, false, List, ◌∷◌, ◌++◌, length, slice_index, refl, sym, ap, subst, ◌∙◌, arith}
+use Rattle.std.proofs.Common.{ℕ, ◌≡◌, ◌≢◌, ◌≤◌, ◌<◌, ◌-◌, ◌==◌, ◌↔◌, inl, inr, if◌then◌else◌, Bool, true, false, List, ◌∷◌, ◌++◌, drop, length, slice_index, refl, sym, ap, subst, ◌∙◌, arith}
 use Rattle.std.proofs.lemmas.Bool.{cases_lt}
 use Rattle.std.proofs.lemmas.Bool.Decides.{nat_tests}
 use Rattle.ip_wire.proofs.Spelled.{AreBytes}
 use Rattle.ip_wire.specs.Field.{field, with_field, word_at}
-use Rattle.ip_wire.specs.Udp.{with_updated_checksum}
-use Rattle.ip_wire.specs.WordSum.{sum_of_bytes}
+use Rattle.ip_wire.specs.Udp.{checksum_for, with_updated_checksum}
+use Rattle.ip_wire.specs.WordSum.{sum_of_bytes, updated}
 use Rattle.ip_wire.proofs.Cells.{cells, cells-drop, word_high, word_low}
 use Rattle.app_nat.proofs.Ends.{IsPorted, back, checksum, ended, has-both, header, indexed, port-fits, ported, with_both}
-use Rattle.app_nat.proofs.Residues.{sum-fits, udp-back_twice, udp-step, udp_updated}
+use Rattle.app_nat.proofs.Residues.{sum-fits, udp-back_twice, udp-step, udp_twice, udp_updated}
 use Rattle.app_nat.proofs.Words.{spelled-fits, spelled-word, word}
 use Rattle.app_nat.specs.Nat.{port_bit, with_udp_end}
 use Rattle.app_nat.specs.declared.translation.Side.{Side}
@@ -24,6 +24,9 @@ next-some : (s old new : ℕ) → 1 ≤ s → udp_next s old new ≡ udp_updated
 next-some s old new some =
     let test : (s == 0) ≡ false = let is : s ≢ 0 = λ z. omega (arith, z, some) in grind (arith, nat_tests) in
     rw test refl
+
+next-none : (s old new : ℕ) → s ≡ 0 → udp_next s old new ≡ 0
+next-none s old new zero = subst (λ (k : ℕ). udp_next k old new ≡ 0) (sym zero) refl
 
 next-fits : (s old new : ℕ) → s < 65536 → udp_next s old new < 65536
 next-fits s old new fits = by_case (s == 0)
@@ -74,6 +77,49 @@ whole l room = subst (λ m. m ≡ indexed 2 m) (sym (cells-drop 8 l room)) refl
 pub udp-ported : (side : Side) (l : List ℕ) → IsPorted with_updated_checksum udp_next side (with_both 2 side l)
 udp-ported side l = ported 2 with_updated_checksum udp_next side l updated-header next-fits
 
+put-both : (side : Side) (l : List ℕ) (x s u : ℕ) → with_field (with_both 2 side l x s) 48 16 u ≡ with_both 2 side l x u
+put-both Source l x s u = put-checksum x (field l 16 16) s u (drop 4 l) (drop 8 l)
+put-both Destination l x s u = put-checksum (field l 0 16) x s u (drop 4 l) (drop 8 l)
+
+-- without a checksum only the port is written
+pub udp-unsummed : (side : Side) (l old new : List ℕ) (x : ℕ) → AreBytes l → 8 ≤ length l → field l 48 16 ≡ 0
+    → with_field l (port_bit side) 16 x ≡ with_udp_end side old new x l
+udp-unsummed side l old new x are room none =
+    let p = field l (port_bit side) 16 in
+    let s = field l 48 16 in
+    let o = sum_of_bytes old in
+    let n = sum_of_bytes new in
+    let ss = spelled-fits (slice_index l 6) (slice_index l 7) in
+    let at = udp-ported side l in
+    let both = has-both 2 side l are (whole l room) in
+    let same : s ≡ udp_next (udp_next s o n) p x = none ∙ sym (next-none (udp_next s o n) p x (next-none s o n none)) in
+    ap (λ (m : List ℕ). with_field m (port_bit side) 16 x) both ∙ at.put p s x ∙ ap (with_both 2 side l x) same
+    ∙ sym (ended with_updated_checksum udp_next side (with_both 2 side l) p s x old new at (port-fits side l) ss)
+    ∙ ap (with_udp_end side old new x) (sym both)
+
+-- else the port is written, and then the checksum that was updated twice
+pub udp-written : (side : Side) (l old new : List ℕ) (x u : ℕ) → AreBytes l → 8 ≤ length l → field l 48 16 ≢ 0
+    → u ≡ checksum_for (65535 - updated (updated (field l 48 16) (sum_of_bytes old) (sum_of_bytes new)) (field l (port_bit side) 16) x)
+    → with_field (with_field l (port_bit side) 16 x) 48 16 u ≡ with_udp_end side old new x l
+udp-written side l old new x u are room usual is =
+    let p = field l (port_bit side) 16 in
+    let s = field l 48 16 in
+    let o = sum_of_bytes old in
+    let n = sum_of_bytes new in
+    let ss = spelled-fits (slice_index l 6) (slice_index l 7) in
+    let some : 1 ≤ s = omega (arith, usual) in
+    let at = udp-ported side l in
+    let both = has-both 2 side l are (whole l room) in
+    let next : udp_next (udp_next s o n) p x ≡ u =
+    ap (λ (k : ℕ). udp_next k p x) (next-some s o n some) ∙ next-some (udp_updated s o n) p x (udp-step s o n).some
+    ∙ udp_twice s o n p x (omega (arith, port-fits side l)) ∙ sym is in
+    ap (λ (m : List ℕ). with_field (with_field m (port_bit side) 16 x) 48 16 u) both
+    ∙ ap (λ (m : List ℕ). with_field m 48 16 u) (at.put p s x)
+    ∙ put-both side l x s u
+    ∙ ap (with_both 2 side l x) (sym next)
+    ∙ sym (ended with_updated_checksum udp_next side (with_both 2 side l) p s x old new at (port-fits side l) ss)
+    ∙ ap (with_udp_end side old new x) (sym both)
+
 -- translating a UDP packet and then back gives the packet again
 pub udp-back : (side : Side) (l old new : List ℕ) (x : ℕ) → AreBytes l → 8 ≤ length l → x < 65536
     → with_udp_end side new old (field l (port_bit side) 16) (with_udp_end side old new x l) ≡ l
@@ -89,9 +135,6 @@ udp-back side l old new x are room xs =
 pub record IsEnded (old new : List ℕ) : Type 0 where
   pub long : length new ≡ length old
   pub unsummed : (field old 48 16 ≡ 0) ↔ (field new 48 16 ≡ 0)
-
-next-none : (s old new : ℕ) → s ≡ 0 → udp_next s old new ≡ 0
-next-none s old new zero = subst (λ (k : ℕ). udp_next k old new ≡ 0) (sym zero) refl
 
 none-next : (s old new : ℕ) → udp_next s old new ≡ 0 → s ≡ 0
 none-next s old new z = elim (cases_lt 0 s) [

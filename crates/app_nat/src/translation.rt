@@ -1,17 +1,20 @@
 //! Network address translation of one address and port (RFC 3022, sections 2.2 and 4.1).
 
-ghost use Rattle.std.specs.Prelude.{◌≡◌, ◌↔◌, ◌≤◌, List, ℕ, IfErr, OnErr, OnOk, length, true};
+ghost use Rattle.std.specs.Prelude.{◌≡◌, ◌↔◌, ◌≤◌, ◌-◌, List, ℕ, IfErr, OnErr, OnOk, length, true};
 ghost use Rattle.app_nat.specs.Nat as nat;
-ghost use Rattle.app_nat.specs.Nat.{AllowsPort, CarriesPorts, IsPacket, IsTranslated, IsUntranslated, ReadsPorts, RejectsPort, Rewrites, Transport, addr_of, of_header, opposite, translated_packet, with_addr, with_address, with_echo_ident, with_end, with_port, with_tcp_end, with_udp_end};
+ghost use Rattle.app_nat.specs.Nat.{AllowsPort, CarriesPorts, IsPacket, IsTranslated, IsUntranslated, ReadsPorts, RejectsPort, Rewrites, Transport, addr_of, of_header, opposite, port_bit, translated_packet, with_addr, with_address, with_echo_ident, with_end, with_port, with_tcp_end, with_udp_end};
 ghost use Rattle.ip_wire.specs.Ipv4 as ipv4;
+ghost use Rattle.ip_wire.specs.Field.{field, with_field};
 ghost use Rattle.ip_wire.specs.TcpRepr.{TcpHeader};
 ghost use Rattle.ip_wire.specs.Types.{Ipv4Repr, UdpRepr};
+ghost use Rattle.ip_wire.specs.Udp.{checksum_for};
+ghost use Rattle.ip_wire.specs.WordSum.{sum_of_bytes, updated};
 
 use crate::packet::Packet;
 use ip_wire::laws::field::bytes_fit;
 use ip_wire::{
     ETHERNET_HEADER_LEN, HeaderFault, IpAddress, IpProtocol, IpRepr, Ipv4Address, Ipv4Packet,
-    Ipv4PacketMut, Ipv4Repr, TcpPacketMut, UdpPacketMut, checksum,
+    Ipv4PacketMut, Ipv4Repr, TcpPacket, TcpPacketMut, UdpPacket, UdpPacketMut, checksum,
 };
 use wire_icmp::IcmpPacketMut;
 
@@ -205,12 +208,14 @@ pub(crate) fn rewrite_udp(
         → Rewrites header bytes.old bytes.new side new port (nat.datagram v payload) }
     ensures bytes { bytes.new ≡ with_udp_end side old new port bytes.old }
 {
-    let mut datagram = UdpPacketMut::new_unchecked(bytes);
-    datagram.update_address(&IpAddress::Ipv4(old), &IpAddress::Ipv4(new));
-    match side {
-        Side::Source => datagram.update_src_port(port),
-        Side::Destination => datagram.update_dst_port(port),
+    bytes_fit(bytes);
+    let checksum = UdpPacket::new_unchecked(bytes).checksum();
+    let old_port = replace_port(bytes, side, port);
+    if checksum == 0 {
+        return;
     }
+    let checksum = updated_checksum(checksum, old, new, old_port, port);
+    UdpPacketMut::new_unchecked(bytes).set_checksum(udp_checksum(checksum));
 }
 
 // Writes the port into a TCP segment, and updates its checksum, which must be there, for it and the address.
@@ -227,12 +232,58 @@ pub(crate) fn rewrite_tcp(
         → Rewrites header bytes.old bytes.new side new port (nat.segment v payload) }
     ensures bytes { bytes.new ≡ with_tcp_end side old new port bytes.old }
 {
-    let mut segment = TcpPacketMut::new_unchecked(bytes);
-    segment.update_address(&IpAddress::Ipv4(old), &IpAddress::Ipv4(new));
+    bytes_fit(bytes);
+    let checksum = TcpPacket::new_unchecked(bytes).checksum();
+    let old_port = replace_port(bytes, side, port);
+    let checksum = updated_checksum(checksum, old, new, old_port, port);
+    TcpPacketMut::new_unchecked(bytes).set_checksum(checksum);
+}
+
+// Writes a port of UDP or TCP, whose headers begin with the same ports. Returns the port before.
+#[inline(always)]
+fn replace_port(bytes: &mut [u8], side: Side, port: u16) -> u16
+    requires { 4 ≤ length bytes.old }
+    ensures before { result ≡ field bytes.old (port_bit side) 16 }
+    ensures written { bytes.new ≡ with_field bytes.old (port_bit side) 16 port }
+{
+    let mut header = UdpPacketMut::new_unchecked(bytes);
     match side {
-        Side::Source => segment.update_src_port(port),
-        Side::Destination => segment.update_dst_port(port),
+        Side::Source => {
+            let before = header.src_port();
+            header.set_src_port(port);
+            before
+        }
+        Side::Destination => {
+            let before = header.dst_port();
+            header.set_dst_port(port);
+            before
+        }
     }
+}
+
+// A UDP checksum is never 0, which means that there is none.
+#[inline(always)]
+fn udp_checksum(checksum: u16) -> u16
+    ensures { result ≡ checksum_for (65535 - checksum) }
+{
+    if checksum == 0 { 0xffff } else { checksum }
+}
+
+// The checksum after two updates, one for the address and one for the port.
+#[tactic(auto, using(crate::proofs::Residues::updated_twice))]
+#[inline(always)]
+fn updated_checksum(
+    checksum: u16,
+    old: Ipv4Address,
+    new: Ipv4Address,
+    old_port: u16,
+    new_port: u16,
+) -> u16
+    ensures { result ≡ updated (updated checksum (sum_of_bytes old) (sum_of_bytes new)) old_port new_port }
+{
+    let old_sum = checksum::address(&IpAddress::Ipv4(old));
+    let new_sum = checksum::address(&IpAddress::Ipv4(new));
+    !checksum::combine(&[!checksum, !old_sum, new_sum, !old_port, new_port])
 }
 
 #[inline(always)]

@@ -1,49 +1,25 @@
-use Rattle.std.proofs.Common.{◌≡◌, length, rules, subst}
-use Rattle.app_nat.proofs.Translates.{end-by, moved-end, rewritten}
-use Rattle.app_nat.specs.Nat.{addr_of, opposite, segment, with_tcp_port}
-use Rattle.app_nat.specs.declared.translation.Side.{Side}
-use Rattle.app_nat.specs.declared.translation.Side.TheVariants.{Source, Destination}
-use Rattle.ip_wire.specs.Tcp.{packet_bytes_mut, with_updated_checksum}
-use Rattle.ip_wire.specs.TcpRepr.{Reads}
-use Rattle.ip_wire.specs.WordSum.{sum_of_bytes}
+use Rattle.std.proofs.Common.{◌≡◌, ◌∙◌, length, refl, rules}
+use Rattle.ip_wire.proofs.Spelled.{AreBytes}
+use Rattle.ip_wire.specs.Field.{field}
+use Rattle.app_nat.proofs.EndsRead.{tcp-rewrites}
+use Rattle.app_nat.proofs.TcpEnds.{tcp-written}
+use Rattle.app_nat.proofs.Translates.{rewritten}
+use Rattle.app_nat.specs.Nat.{segment, with_tcp_end}
 use Rattle.app_nat.proofs.translation.rewrite_tcp.Goals as goal
 
-pub returns-in-Source-clause-reads : goal.returns-in-Source-clause-reads
-returns-in-Source-clause-reads c v u payload far named =
-    let view : packet_bytes_mut c.new_unchecked-segment.result ≡ c.args.bytes.now = search rules in
-    let done = packet_bytes_mut c.update_src_port.new.self in
-    let own : v.src_addr ≡ c.args.old = subst (λ (s : Side). addr_of s v ≡ c.args.old) c.in-Source.is named in
-    let other : length v.dst_addr ≡ 4 = subst (λ (s : Side). length (addr_of (opposite s) v) ≡ 4) c.in-Source.is far in
-    rewritten c.args.side Source v c.args.bytes.now done _ c.args.new c.args.port (segment u payload) c.in-Source.is (search rules)
-    (λ a r. (
-      r.0,
-      moved-end Reads (with_tcp_port Source c.args.port) c.args.bytes.now (packet_bytes_mut c.update_address.new.self) done c.args.new v.src_addr v.dst_addr c.args.old
-          own (search rules) other (rw view at c.update_address.ensures.reads_src) (λ s d b u q f g. c.update_src_port.ensures.reads s d b u q f g a) u payload r.1,
-    ))
+pub returns-clause-bytes : goal.returns-clause-bytes
+returns-clause-bytes c =
+    let bytes = c.args.bytes.now in
+    let are : AreBytes bytes = c.bytes_fit.ensures in
+    let checksum : c.checksum-checksum.result ≡ field bytes 128 16 = search rules in
+    let is = rw (checksum, c.replace_port-old_port.ensures.before) at c.updated_checksum-checksum.ensures in
+    let written = tcp-written c.args.side bytes c.args.old c.args.new c.args.port c.updated_checksum-checksum.result are c.requires.len is in
+    search rules ∙ written
 
-pub returns-in-Destination-clause-reads : goal.returns-in-Destination-clause-reads
-returns-in-Destination-clause-reads c v u payload far named =
-    let view : packet_bytes_mut c.new_unchecked-segment.result ≡ c.args.bytes.now = search rules in
-    let done = packet_bytes_mut c.update_dst_port.new.self in
-    let own : v.dst_addr ≡ c.args.old = subst (λ (s : Side). addr_of s v ≡ c.args.old) c.in-Destination.is named in
-    let other : length v.src_addr ≡ 4 = subst (λ (s : Side). length (addr_of (opposite s) v) ≡ 4) c.in-Destination.is far in
-    rewritten c.args.side Destination v c.args.bytes.now done _ c.args.new c.args.port (segment u payload) c.in-Destination.is (search rules)
-    (λ a r. (
-      r.0,
-      moved-end (λ l d s. Reads l s d) (with_tcp_port Destination c.args.port) c.args.bytes.now (packet_bytes_mut c.update_address.new.self) done c.args.new v.dst_addr v.src_addr c.args.old
-          own (search rules) other (rw view at c.update_address.ensures.reads_dst) (λ d s b u q g f. c.update_dst_port.ensures.reads s d b u q f g a) u payload r.1,
-    ))
-
-pub returns-in-Source-clause-bytes : goal.returns-in-Source-clause-bytes
-returns-in-Source-clause-bytes c =
-    let view : packet_bytes_mut c.new_unchecked-segment.result ≡ c.args.bytes.now = search rules in
-    let mid = packet_bytes_mut c.update_address.new.self in
-    let first : mid ≡ with_updated_checksum c.args.bytes.now (sum_of_bytes c.args.old) (sum_of_bytes c.args.new) = rw view at c.update_address.ensures.value.holds in
-    end-by with_updated_checksum c.args.side Source c.args.old c.args.new c.args.bytes.now mid (packet_bytes_mut c.update_src_port.new.self) _ c.args.port c.in-Source.is (search rules) first c.update_src_port.ensures.value.holds
-
-pub returns-in-Destination-clause-bytes : goal.returns-in-Destination-clause-bytes
-returns-in-Destination-clause-bytes c =
-    let view : packet_bytes_mut c.new_unchecked-segment.result ≡ c.args.bytes.now = search rules in
-    let mid = packet_bytes_mut c.update_address.new.self in
-    let first : mid ≡ with_updated_checksum c.args.bytes.now (sum_of_bytes c.args.old) (sum_of_bytes c.args.new) = rw view at c.update_address.ensures.value.holds in
-    end-by with_updated_checksum c.args.side Destination c.args.old c.args.new c.args.bytes.now mid (packet_bytes_mut c.update_dst_port.new.self) _ c.args.port c.in-Destination.is (search rules) first c.update_dst_port.ensures.value.holds
+pub returns-clause-reads : goal.returns-clause-reads
+returns-clause-reads c v u payload far named =
+    let bytes = c.args.bytes.now in
+    let are : AreBytes bytes = c.bytes_fit.ensures in
+    let old : length c.args.old ≡ 4 = search rules in
+    let new : length c.args.new ≡ 4 = search rules in
+    rewritten c.args.side c.args.side v bytes (with_tcp_end c.args.side c.args.old c.args.new c.args.port bytes) _ c.args.new c.args.port (segment u payload) refl (returns-clause-bytes c) (tcp-rewrites c.args.side v bytes c.args.old c.args.new c.args.port u payload are c.requires.len (search rules) old new far named)
