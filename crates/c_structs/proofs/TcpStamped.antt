@@ -27,27 +27,6 @@ use Rattle.c_structs.specs.TcpKept.{HasPaddedStamp, IsPlain, IsSound, with_stamp
 
 -- ---- whether it parses
 
--- the checksum was verified before
-pub tcp_of-verified : (src dst : IpAddress) (bytes : List ℕ) → Verifies src dst bytes → tcp_of src dst true bytes ≡ tcp_of src dst false bytes
-unfolding tcp_of
-tcp_of-verified src dst bytes valid = rw valid refl
-
-pub Reads-verified : (src dst : IpAddress) (bytes : List ℕ) (v : TcpHeader) (p : List ℕ) → Reads bytes src dst false v p → Verifies src dst bytes → Reads bytes src dst true v p
-Reads-verified src dst bytes v p r valid = record {
-  lengths = r.lengths;
-  sender = r.sender;
-  receiver = r.receiver;
-  control = r.control;
-  checksum = λ on. valid;
-  options = r.options;
-  src_port = r.src_port;
-  dst_port = r.dst_port;
-  seq_number = r.seq_number;
-  ack_number = r.ack_number;
-  window_len = r.window_len;
-  body = r.body;
-}
-
 -- a segment that is not sound is copied
 pub rebuilt-unsound : (src dst : IpAddress) (bytes : List ℕ) → (IsSound src dst bytes → ⊥) → rebuilt_transport_by protocol.Tcp src dst bytes ≡ bytes
 rebuilt-unsound src dst bytes unsound = by (tcp_of src dst true bytes) refl

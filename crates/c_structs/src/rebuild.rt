@@ -194,23 +194,37 @@ fn rebuild_tcp(ip_header: &IpRepr, bytes: &[u8], out: &mut [u8]) -> Option<usize
     if tcp_kept::is_kept(bytes) {
         return try_copy(out, bytes);
     }
-    if !tcp_kept::is_sound(bytes, &src_addr, &dst_addr) {
-        return try_copy(out, bytes);
-    }
     if tcp_kept::is_stamped(bytes) {
+        if !tcp_kept::is_sound(bytes, &src_addr, &dst_addr) {
+            return try_copy(out, bytes);
+        }
         return tcp_kept::copy_stamped(bytes, out);
     }
-    let unsummed = ChecksumCapabilities::ignored();
+    rebuild_any_tcp(ip_header, bytes, out)
+}
+
+// The same by the values of the segment. The call keeps their room out of all other frames.
+#[inline(never)]
+fn rebuild_any_tcp(ip_header: &IpRepr, bytes: &[u8], out: &mut [u8]) -> Option<usize>
+    ensures { let src = src_addr_of ip_header.now in let dst = dst_addr_of ip_header.now in
+        Fills (Some (rebuilt_transport_by Tcp src dst bytes.now)) out.old out.new result }
+{
+    let src_addr = ip_header.src_addr();
+    let dst_addr = ip_header.dst_addr();
+    let caps = ChecksumCapabilities::default();
     let packet = TcpPacket::new_unchecked(bytes);
-    match TcpRepr::parse(&packet, &src_addr, &dst_addr, &unsummed) {
-        Ok(segment) => match segment.try_emit(out, &src_addr, &dst_addr, &unsummed) {
-            Some(len) => {
-                let old = &bytes[..usize::from(packet.header_len())];
-                tcp::put_checksum(old, bytes.len(), segment.header_len(), len, out);
-                Some(len)
+    match TcpRepr::parse(&packet, &src_addr, &dst_addr, &caps) {
+        Ok(segment) => {
+            let unsummed = ChecksumCapabilities::ignored();
+            match segment.try_emit(out, &src_addr, &dst_addr, &unsummed) {
+                Some(len) => {
+                    let old = &bytes[..usize::from(packet.header_len())];
+                    tcp::put_checksum(old, bytes.len(), segment.header_len(), len, out);
+                    Some(len)
+                }
+                None => None,
             }
-            None => None,
-        },
+        }
         Err(_) => try_copy(out, bytes),
     }
 }

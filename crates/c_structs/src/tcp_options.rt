@@ -118,12 +118,12 @@ fn only_timestamp(options: &[u8]) -> Option<TcpOptionSummary>
 
 // The values of a list whose only option is a timestamp with these data.
 #[inline(always)]
-fn timestamp_in(data: &[u8]) -> TcpOptionSummary
-    requires { length data.now ≡ 8 }
-    ensures { result ≡ summary_of (item 8 data.now ∷ []) }
+fn timestamp_in(bytes: &[u8]) -> TcpOptionSummary
+    requires { length bytes.now ≡ 8 }
+    ensures { result ≡ summary_of (item 8 bytes.now ∷ []) }
 {
-    let tsval = NetworkEndian::read_u32(data);
-    let tsecr = NetworkEndian::read_u32(&data[4..]);
+    let tsval = NetworkEndian::read_u32(bytes);
+    let tsecr = NetworkEndian::read_u32(&bytes[4..]);
     TcpOptionSummary {
         timestamp: Some((tsval, tsecr)),
         ..TcpOptionSummary::default()
