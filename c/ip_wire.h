@@ -901,8 +901,8 @@ int lk_set_port(uint8_t *frame, size_t len, int side, uint16_t port);
 /* Writes the `count` bytes at `ptr` from byte `offset` of the frame on, as an option, an address or payload. Returns 0 if
  * the frame does not have all of them, or if they would replace one of these bytes, or be between two of them:
  *
- * - the Ethernet header, and of the IP header the version, the header length, the lengths, the fields of fragments, the
- *   protocol and the checksum,
+ * - the Ethernet header,
+ * - the version, lengths, fragment fields, protocol and checksum of the IP header,
  * - the transport checksum, the data offset of TCP, and the length of UDP,
  * - the payload of a fragment that is not the first, whose checksum is in the first one,
  * - all from the addresses on, if lk_set_addr does not find the transport checksum. */
