@@ -13,6 +13,7 @@ mod Exact
 mod ExactFrames
 mod FieldsOf
 pub mod Filled
+mod FrameOptions
 mod Framed
 mod Headed
 pub mod InFrame

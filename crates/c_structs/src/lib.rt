@@ -11,6 +11,7 @@ mod emit;
 mod failures;
 mod faults;
 mod frame_fields;
+mod frame_options;
 mod frames;
 mod ip;
 mod ipv6_steps;

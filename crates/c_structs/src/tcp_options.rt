@@ -36,11 +36,17 @@ impl TcpOptions {
     pub fn read(&mut self, header: &[u8]) -> bool
         ensures { IsRead ReadsItems tcp_options_of header.now self.old self.new (pos (flag result)) }
     {
-        let packet = match TcpPacket::new_checked(header) {
-            Ok(packet) => packet,
-            Err(_) => return false,
-        };
-        let options = packet.options();
+        match TcpPacket::new_checked(header) {
+            Ok(packet) => self.read_options(packet.options()),
+            Err(_) => false,
+        }
+    }
+
+    // Stores the options of a list.
+    #[inline(always)]
+    pub(super) fn read_options(&mut self, options: &[u8]) -> bool
+        ensures { IsRead IsListed tcp_options_of options.now self.old self.new (pos (flag result)) }
+    {
         // The common cases have stores of their own, which the compiler does not merge with those of a walk.
         if options.is_empty() {
             *self = TcpOptions::of(&TcpOptionSummary::default());
@@ -55,7 +61,7 @@ impl TcpOptions {
         }
     }
 
-    // Stores the options of a list. The call keeps the registers of a walk out of `read`.
+    // The same by a walk. The call keeps its registers out of `read_options`.
     #[inline(never)]
     fn read_list(&mut self, options: &[u8]) -> bool
         ensures { IsRead IsListed tcp_options_of options.now self.old self.new (pos (flag result)) }
@@ -71,7 +77,7 @@ impl TcpOptions {
 
     // The options with these values.
     #[inline(always)]
-    fn of(summary: &TcpOptionSummary) -> TcpOptions
+    pub(super) fn of(summary: &TcpOptionSummary) -> TcpOptions
         ensures { (items : List Item) → summary.now ≡ summary_of items → result ≡ tcp_options_of items }
     {
         let [first, second, third, fourth] = summary.sack_ranges;
