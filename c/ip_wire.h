@@ -486,6 +486,11 @@ int lk_next_ipv6_header(const uint8_t *ptr, size_t len, struct lk_ipv6_header *h
  * window scale, SACK permitted or SACK. Timestamps of another length than 10 are as options of other kinds. */
 int lk_read_tcp_options(const uint8_t *ptr, size_t len, struct lk_tcp_options *options);
 
+/* Parses an Ethernet frame as lk_read_frame does, with the same result, and stores the options of its TCP header in
+ * `options`. They are all zeros if no TCP header was read: the frame has none, is a fragment, or a header was rejected.
+ * A frame with a malformed option is rejected with LK_BAD_OPTIONS. */
+int lk_read_frame_options(const uint8_t *ptr, size_t len, struct lk_frame *frame, struct lk_tcp_options *options);
+
 /* Where an option of a TCP header is. */
 struct lk_tcp_option {
     uint8_t offset; /* of its first byte in the header; 0: before the first option */

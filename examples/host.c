@@ -74,7 +74,8 @@ static int has_wrong_checksum(const struct lk_frame *in)
 static void on_frame(const uint8_t *frame, size_t len)
 {
     struct lk_frame in;
-    int reason = lk_read_frame(frame, len, &in);
+    struct lk_tcp_options options;
+    int reason = lk_read_frame_options(frame, len, &in, &options);
     if (reason != LK_READ)
         rejected++;
     if (has_wrong_checksum(&in))
@@ -84,7 +85,7 @@ static void on_frame(const uint8_t *frame, size_t len)
     else if (is_for_us(&in) && reason == LK_BAD_FLAGS)
         reset(&in, in.payload_len - in.tcp.header_len); /* here the payload begins at the TCP header */
     else if (is_for_us(&in) && reason == LK_READ)
-        on_tcp(&in, frame);
+        on_tcp(&in, &options, frame);
 }
 
 /* Reads the MTU of the device. */

@@ -401,16 +401,13 @@ static void on_segment(struct connection *c, const struct lk_frame *in, const st
 }
 
 /* A new connection takes a free place, or that of the oldest one which is half open. */
-void on_tcp(const struct lk_frame *in, const uint8_t *frame)
+void on_tcp(const struct lk_frame *in, const struct lk_tcp_options *options, const uint8_t *frame)
 {
     struct connection *unused = NULL;
-    struct lk_tcp_options options;
-    if (!lk_read_tcp_options(frame + in->transport_offset, in->tcp.header_len, &options))
-        return;
     for (struct connection *c = connections; c < connections + CONNECTIONS; c++) {
         if (c->state != FREE && memcmp(&c->headers.dst, &in->src, sizeof in->src) == 0
             && memcmp(&c->headers.src, &in->dst, sizeof in->dst) == 0) {
-            on_segment(c, in, &options, frame + in->payload_offset);
+            on_segment(c, in, options, frame + in->payload_offset);
             return;
         }
         if (c->state != OPEN && (unused == NULL || c->state < unused->state
@@ -420,5 +417,5 @@ void on_tcp(const struct lk_frame *in, const uint8_t *frame)
     if ((in->tcp.flags & (LK_SYN | LK_ACK | LK_RST)) != LK_SYN || in->dst.port != ECHO_PORT || unused == NULL)
         reset(in, in->payload_len);
     else
-        open_connection(unused, in, &options);
+        open_connection(unused, in, options);
 }

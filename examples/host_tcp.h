@@ -8,7 +8,7 @@ enum { ECHO_PORT = 7 };
 /* ---- host_tcp.c ---- */
 
 /* Handles a TCP segment to this host, whose checksums are right. */
-void on_tcp(const struct lk_frame *in, const uint8_t *frame);
+void on_tcp(const struct lk_frame *in, const struct lk_tcp_options *options, const uint8_t *frame);
 
 /* Rejects a segment of no connection (RFC 9293, section 3.10.7.1). */
 void reset(const struct lk_frame *in, size_t payload_len);

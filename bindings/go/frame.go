@@ -86,6 +86,19 @@ func ReadFrame(frame []byte) Frame {
 	return frameOf(frame, &f)
 }
 
+// ReadFrameOptions parses an Ethernet frame and the options of its TCP header. They are nil if no TCP header was read.
+func ReadFrameOptions(frame []byte) (Frame, *TCPOptions) {
+	var f C.struct_lk_frame
+	var set C.struct_lk_tcp_options
+	ptr, length := memory(frame)
+	C.lk_read_frame_options(ptr, length, &f, &set)
+	if f.transport != C.LK_TCP {
+		return frameOf(frame, &f), nil
+	}
+	options := optionsOf(&set)
+	return frameOf(frame, &f), &options
+}
+
 // ReadPacket parses a packet that begins with its IPv4 or IPv6 header.
 func ReadPacket(packet []byte) Frame {
 	var f C.struct_lk_frame

@@ -229,12 +229,18 @@ func TestTCPOptions(t *testing.T) {
 		if options, err := ReadTCPOptions(frame.TCPHeader); err != nil || !reflect.DeepEqual(options, it.options) {
 			t.Errorf("ReadTCPOptions: %+v, %v", options, err)
 		}
+		if same, options := ReadFrameOptions(written); !reflect.DeepEqual(same, frame) || !reflect.DeepEqual(options, &it.options) {
+			t.Errorf("ReadFrameOptions: %+v, %+v", same, options)
+		}
 		if length, err := it.options.HeaderLen(); length != len(frame.TCPHeader) || err != nil {
 			t.Errorf("HeaderLen: %v, %v", length, err)
 		}
 	}
 	if _, err := ReadTCPOptions(nil); !errors.Is(err, BadOptions) {
 		t.Errorf("ReadTCPOptions: %v", err)
+	}
+	if frame, options := ReadFrameOptions(nil); frame.Reason != TooShort || options != nil {
+		t.Errorf("ReadFrameOptions: %+v, %+v", frame, options)
 	}
 	many := TCPOptions{SackRanges: make([]SackRange, 5)}
 	if _, err := many.HeaderLen(); !errors.Is(err, OptionsTooLong) {

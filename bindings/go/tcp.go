@@ -32,6 +32,10 @@ func ReadTCPOptions(header []byte) (TCPOptions, error) {
 	if C.lk_read_tcp_options(ptr, length, &set) == 0 {
 		return TCPOptions{}, BadOptions
 	}
+	return optionsOf(&set), nil
+}
+
+func optionsOf(set *C.struct_lk_tcp_options) TCPOptions {
 	options := TCPOptions{SackPermitted: set.sack_permitted != 0}
 	if set.has_max_seg_size != 0 {
 		size := uint16(set.max_seg_size)
@@ -47,7 +51,7 @@ func ReadTCPOptions(header []byte) (TCPOptions, error) {
 	for _, it := range set.sack_ranges[:set.sack_range_count] {
 		options.SackRanges = append(options.SackRanges, SackRange{uint32(it.left), uint32(it.right)})
 	}
-	return options, nil
+	return options
 }
 
 // HeaderLen returns the length of a TCP header with these options, 20 to 60 bytes. The error is OptionsTooLong.

@@ -109,6 +109,7 @@ CALLS: Dict[str, Tuple[Any, ...]] = {
     "lk_tcp_flag_name": (c_char_p, c_int),
     "lk_next_ipv6_header": (c_int, DATA, Ipv6Header),
     "lk_read_tcp_options": (c_int, DATA, TcpOptions),
+    "lk_read_frame_options": (c_int, DATA, Frame, TcpOptions),
     "lk_next_tcp_option": (c_int, DATA, TcpOption),
     "lk_reply": (None, Frame),
     "lk_emit_udp_frame": (c_ssize_t, Frame, DATA, OUT),

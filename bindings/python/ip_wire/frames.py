@@ -9,7 +9,7 @@ from typing import Any, Callable, Optional, Tuple
 from . import _c as c
 from ._convert import Data, address_of, call, data_of, from_c, number_of, to_c, written
 from .addresses import Endpoint
-from .headers import Arp, Ethernet, Headers, Icmp, Ip, Reason, Rejected, Tcp
+from .headers import Arp, Ethernet, Headers, Icmp, Ip, Reason, Rejected, Tcp, TcpOptions, options_from_c
 
 
 class Network(IntEnum):
@@ -153,6 +153,13 @@ def _frame_of(frame: Any, data: bytes, is_ethernet: bool) -> Frame:
 def parse_frame(data: Data) -> Frame:
     """Parses an Ethernet frame."""
     return _parse("lk_read_frame", data_of(data))
+
+
+def parse_frame_options(data: Data) -> Tuple[Frame, Optional[TcpOptions]]:
+    """Parses an Ethernet frame and the options of its TCP header. None: no TCP header was read."""
+    frame, options, octets = c.Frame(), c.TcpOptions(), data_of(data)
+    call("lk_read_frame_options", octets, frame, options)
+    return _frame_of(frame, octets, True), options_from_c(options) if frame.transport == Transport.TCP else None
 
 
 def parse_packet(data: Data) -> Frame:

@@ -180,11 +180,8 @@ def tcp_header_len(options: TcpOptions) -> int:
     return succeeded(call("lk_tcp_header_len", options_to_c(options)))
 
 
-def parse_tcp_options(header: Data) -> Optional[TcpOptions]:
-    """Parses the options of a TCP header. None if one is malformed, or the header is shorter than it says."""
-    options = c.TcpOptions()
-    if not call("lk_read_tcp_options", header, options):
-        return None
+def options_from_c(options: Any) -> TcpOptions:
+    """The options in a struct."""
     return TcpOptions(
         options.max_seg_size if options.has_max_seg_size else None,
         options.window_scale if options.has_window_scale else None,
@@ -192,6 +189,12 @@ def parse_tcp_options(header: Data) -> Optional[TcpOptions]:
         tuple((r.left, r.right) for r in options.sack_ranges[: options.sack_range_count]),
         (options.tsval, options.tsecr) if options.has_timestamp else None,
     )
+
+
+def parse_tcp_options(header: Data) -> Optional[TcpOptions]:
+    """Parses the options of a TCP header. None if one is malformed, or the header is shorter than it says."""
+    options = c.TcpOptions()
+    return options_from_c(options) if call("lk_read_tcp_options", header, options) else None
 
 
 def raw_tcp_options(header: Data) -> Iterator[RawOption]:

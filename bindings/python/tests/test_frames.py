@@ -44,6 +44,14 @@ class Reading(unittest.TestCase):
         options = {option.kind: option.data for option in ip_wire.raw_tcp_options(frame.tcp_header)}
         self.assertEqual((options[2], options[3]), ((1460).to_bytes(2, "big"), b"\7"))
 
+    def test_options_of_a_frame(self):
+        data = bytearray(ip_wire.emit_tcp(IPV4, Tcp(flags=TcpFlag.SYN), OPTIONS))
+        self.assertEqual(ip_wire.parse_frame_options(data), (ip_wire.parse_frame(data), OPTIONS))
+        data[14 + 20 + 20 + 1] = 1  # the length of the first option
+        frame, options = ip_wire.parse_frame_options(data)
+        self.assertEqual((frame.reason, options), (Reason.BAD_OPTIONS, None))
+        self.assertIsNone(ip_wire.parse_frame_options(ip_wire.emit_udp(IPV6, b"ping"))[1])
+
     def test_lines(self):
         tcp = Tcp(seq_number=7, window_len=9, flags=TcpFlag.SYN)
         udp = ip_wire.emit_udp(IPV4, b"ping")

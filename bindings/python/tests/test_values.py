@@ -162,7 +162,7 @@ ARGUMENTS = [
     (ip_wire.parse_ethernet, "1-2-3-4-5-6"), (ip_wire.print_addr, ADDR), (ip_wire.print_block, BLOCK),
     (ip_wire.print_ethernet, HARDWARE), (ip_wire.contains, BLOCK, ADDR), (ip_wire.is_multicast, ADDR),
     (ip_wire.is_unicast, ADDR), (ip_wire.parse_frame, b""), (ip_wire.parse_packet, b""), (ip_wire.parse_captured, b"", 0),
-    (ip_wire.parse_link, 228, b""), (ip_wire.parse_linktype, 1, b""),
+    (ip_wire.parse_link, 228, b""), (ip_wire.parse_linktype, 1, b""), (ip_wire.parse_frame_options, b""),
     (ip_wire.parse_tcp_options, b""), (ip_wire.tcp_header_len, OPTIONS), (ip_wire.emit_udp, HEADERS, b""),
     (ip_wire.emit_tcp, HEADERS, Tcp(), OPTIONS, b""), (ip_wire.emit_icmp, HEADERS, Icmp(8), b""),
     (ip_wire.emit_arp, HEADERS.ethernet, ARP), (ip_wire.emit_ethernet_header, HEADERS.ethernet),

@@ -43,6 +43,18 @@ impl<'a> Frame<'a> {
         Self::read(bytes, false, |c, fields| unsafe { c.lk_read_frame(bytes.as_ptr(), bytes.len(), fields) })
     }
 
+    /// Parses an Ethernet frame and the options of its TCP header, in one call. The options are those of
+    /// [`Frame::tcp_options`].
+    #[must_use]
+    pub fn parse_with_options(bytes: &'a [u8]) -> (Self, Option<TcpOptions>) {
+        let mut options = sys::TcpOptions::default();
+        // SAFETY: there are `len` bytes at `ptr`, and only `fields` and `options` are written.
+        let frame = Self::read(bytes, false, |c, fields| unsafe {
+            c.lk_read_frame_options(bytes.as_ptr(), bytes.len(), fields, &mut options)
+        });
+        (frame, frame.tcp().map(|_| options.into()))
+    }
+
     /// Parses a packet that begins with its IPv4 or IPv6 header: of a TUN device, of a capture of raw
     /// packets, or after VLAN tags.
     #[must_use]

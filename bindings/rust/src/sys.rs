@@ -282,6 +282,9 @@ calls! {
     fn lk_ethertype_name(ethertype: c_int) -> *const c_char;
     fn lk_next_ipv6_header(ptr: *const u8, len: usize, header: &mut Ipv6Header) -> c_int;
     fn lk_read_tcp_options(ptr: *const u8, len: usize, options: &mut TcpOptions) -> c_int;
+    fn lk_read_frame_options(
+        ptr: *const u8, len: usize, frame: &mut Frame, options: &mut TcpOptions
+    ) -> c_int;
     fn lk_next_tcp_option(ptr: *const u8, len: usize, option: &mut TcpOption) -> c_int;
     fn lk_reply(frame: &mut Frame);
     fn lk_emit_udp_frame(

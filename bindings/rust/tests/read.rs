@@ -54,6 +54,18 @@ fn a_tcp_frame_has_its_values() {
 }
 
 #[test]
+fn a_frame_is_parsed_with_its_options() {
+    let options = TcpOptions { max_seg_size: Some(1460), sack_permitted: true, ..TcpOptions::default() };
+    let mut bytes = tcp(&ipv4(), TcpFlags::SYN, &options);
+    assert_eq!(Frame::parse_with_options(&bytes), (Frame::parse(&bytes), Some(options)));
+    bytes[14 + 20 + 20 + 1] = 3; // the length of the first option
+    let (frame, none) = Frame::parse_with_options(&bytes);
+    assert_eq!((frame.rejected(), none), (Some(Reason::BadOptions), None));
+    let bytes = udp(&ipv6(), b"ping");
+    assert_eq!(Frame::parse_with_options(&bytes), (Frame::parse(&bytes), None));
+}
+
+#[test]
 fn an_icmp_frame_has_its_values() {
     for (headers, protocol, icmp_type) in [(ipv4(), 1, 8), (ipv6(), 58, 128)] {
         let echo = Icmp { icmp_type, code: 0, word: 0x1234_0001 };

@@ -1,3 +1,4 @@
+mod FrameOptions
 mod NatsOnce
 mod Once
 mod RepliesOnce

@@ -4,6 +4,7 @@ ghost use Rattle.std.specs.Prelude.{List, ℕ, ◌++◌, ◌≡◌, ◌≤◌, �
 ghost use Rattle.c_icmp.specs.Messages.{IsCutFrame, with_icmp};
 ghost use Rattle.c_structs.specs.Captured.{captured_of, captured_packet_of};
 ghost use Rattle.c_structs.specs.FrameFields.{fields_of, packet_fields_of};
+ghost use Rattle.c_structs.specs.FrameOptions.{HasOptions};
 ghost use Rattle.c_structs.specs.Ipv6Steps as ipv6_steps;
 ghost use Rattle.c_structs.specs.TcpOptions.{ReadsItems, tcp_options_of};
 ghost use Rattle.c_structs.specs.TcpSteps.{step};
@@ -119,6 +120,23 @@ pub extern "C" fn lk_read_tcp_options(header: &[u8], options: &mut TcpOptions) -
     ensures { IsRead ReadsItems tcp_options_of (within header.now) options.old options.new result }
 {
     if options.read(within(header)) { 1 } else { 0 }
+}
+
+/// Parses an Ethernet frame as `lk_read_frame` does. Stores the options of the TCP header too, or zeros if none was read.
+#[unsafe(no_mangle)]
+pub extern "C" fn lk_read_frame_options(
+    bytes: &[u8],
+    frame: &mut FullFrame,
+    options: &mut TcpOptions,
+) -> i32
+    ensures fields { frame.new ≡ with_icmp (within bytes.now) (fields_of (within bytes.now)) }
+    ensures options { HasOptions frame.new.fields (within bytes.now) options.new }
+    ensures within { frame.new.fields.payload_offset + frame.new.fields.payload_len ≤ length bytes.now }
+    ensures reason { result ≡ pos (fields_of (within bytes.now)).reason }
+{
+    let reason = lk_read_frame(bytes, frame);
+    options.read_in(&frame.fields, bytes);
+    reason
 }
 
 /// Steps to the next option of a TCP header, and returns 1. Returns 0 if there is none, and -1 if it is

@@ -6,7 +6,7 @@ ghost use Rattle.c_structs.specs.FrameFields.{fields_of, packet_fields_of};
 
 use crate::read_calls::{
     lk_next_ipv6_header, lk_next_tcp_option, lk_read_captured, lk_read_captured_packet,
-    lk_read_frame, lk_read_packet, lk_read_tcp_options, lk_version,
+    lk_read_frame, lk_read_frame_options, lk_read_packet, lk_read_tcp_options, lk_version,
 };
 use c_icmp::FullFrame;
 use c_structs::{Ipv6HeaderPlace, TcpOptionPlace, TcpOptions};
@@ -82,6 +82,24 @@ fn read_tcp_options(header: &[u8], options: &mut TcpOptions, other: &mut TcpOpti
     )
 }
 
+// Bytes parse as one frame with one list of options.
+fn read_frame_options(
+    bytes: &[u8],
+    frame: &mut FullFrame,
+    other: &mut FullFrame,
+    options: &mut TcpOptions,
+    others: &mut TcpOptions,
+) -> (i32, i32)
+    ensures returned { result.0 ≡ result.1 }
+    ensures written { frame.new ≡ other.new }
+    ensures stored { options.new ≡ others.new }
+{
+    (
+        lk_read_frame_options(bytes, frame, options),
+        lk_read_frame_options(bytes, other, others),
+    )
+}
+
 // An option of TCP has one successor.
 fn next_tcp_option(
     header: &[u8],
@@ -117,6 +135,17 @@ fn next_ipv6_header(
 // The payload is in the frame.
 fn payload_of_frame<'a>(bytes: &'a [u8], frame: &mut FullFrame) -> &'a [u8] {
     lk_read_frame(bytes, frame);
+    let start = frame.fields.payload_offset;
+    &bytes[start..start + frame.fields.payload_len]
+}
+
+// The payload is in the frame whose options are stored.
+fn payload_of_frame_options<'a>(
+    bytes: &'a [u8],
+    frame: &mut FullFrame,
+    options: &mut TcpOptions,
+) -> &'a [u8] {
+    lk_read_frame_options(bytes, frame, options);
     let start = frame.fields.payload_offset;
     &bytes[start..start + frame.fields.payload_len]
 }

@@ -1,0 +1,11 @@
+use Rattle.c_exports.proofs.FrameOptions.{tcp-fields, used-whole}
+use Rattle.c_exports.proofs.read_calls.lk_read_frame_options.Goals as goal
+
+pub read_in-requires : goal.read_in-requires
+read_in-requires c tcp = tcp-fields c.args.bytes.now c.lk_read_frame-reason.new.frame c.lk_read_frame-reason.ensures.fields tcp
+
+pub returns-clause-options : goal.returns-clause-options
+returns-clause-options c = record {
+  stored = λ tcp. rw (used-whole c.args.bytes.now c.lk_read_frame-reason.new.frame c.lk_read_frame-reason.ensures.fields tcp) (c.read_in.ensures.stored tcp);
+  none = c.read_in.ensures.none;
+}
