@@ -179,6 +179,22 @@ READER(read_link, same_link, struct lk_link, link,
        (NUMBER(link_type), given("captured octets", ptr, used_len(captured)), NUMBER(captured), room_of_it))
 READER(read_tcp_options, same_options, struct lk_tcp_options, options,
        (const uint8_t *ptr, size_t len, struct lk_tcp_options *options), (ptr, len, &stored), (INPUT, room_of_it))
+
+int both_read_frame_options(const uint8_t *ptr, size_t len, struct lk_frame *frame, struct lk_tcp_options *options)
+{
+    struct lk_frame *room_of_frame;
+    struct lk_tcp_options *room_of_options;
+    int came;
+    CALL(lk_read_frame_options);
+    room_of_frame = room(frame, sizeof *frame);
+    room_of_options = room(options, sizeof *options);
+    came = lk_read_frame_options(INPUT, room_of_frame, room_of_options);
+    end_call(model_read_frame_options(ptr, len, frame, options), came);
+    same_frame(frame, room_of_frame);
+    same_options(options, room_of_options);
+    return came;
+}
+
 READER(next_tcp_option, SAME_VALUE, struct lk_tcp_option, option,
        (const uint8_t *ptr, size_t len, struct lk_tcp_option *option), (ptr, len, &stored),
        (INPUT, (given("option before", option, sizeof *option), room_of_it)))

@@ -17,6 +17,15 @@ static void read_one_frame(const uint8_t *ptr, size_t len)
     both_read_frame(ptr, len, &frame);
 }
 
+static void read_one_with_options(const uint8_t *ptr, size_t len)
+{
+    struct lk_frame frame;
+    struct lk_tcp_options options;
+    fill_frame(&frame);
+    fill(&options, sizeof options);
+    both_read_frame_options(ptr, len, &frame, &options);
+}
+
 static void read_one_packet(const uint8_t *ptr, size_t len)
 {
     struct lk_frame frame;
@@ -45,9 +54,12 @@ void read_whole(void)
     front = made.len >= 14 && !one_in(16) ? 14 : 0;
     len = made.len - front;
     read_one_frame(made.octets, made.len);
+    read_one_with_options(made.octets, made.len);
     read_one_packet(made.octets + front, len);
     if (one_in(64))
         read_one_frame(made.octets, unused_len());
+    if (one_in(64))
+        read_one_with_options(made.octets, unused_len());
     if (one_in(64))
         read_one_packet(made.octets, unused_len());
 }

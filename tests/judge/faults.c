@@ -42,7 +42,7 @@ __attribute__((constructor)) static void choose(void)
         "the note about a wrong checksum missing", "a fragment offset in units of 8 bytes",
         "ECN cleared with the DSCP", "a checksum left to the device updated as a computed one",
         "the checksum in a first fragment not updated", "the protocol replaced as other bytes",
-        "no checksum filled in where UDP has none",
+        "no checksum filled in where UDP has none", "the options of a rejected TCP header",
     };
     const char *number = getenv("FAULT");
     fault = number ? (enum fault)atoi(number) : NO_FAULT;
@@ -59,6 +59,8 @@ int __real_lk_read_linktype(uint32_t link_type, const uint8_t *ptr, size_t captu
                             struct lk_frame *frame);
 int __real_lk_next_ipv6_header(const uint8_t *ptr, size_t len, struct lk_ipv6_header *header);
 int __real_lk_read_tcp_options(const uint8_t *ptr, size_t len, struct lk_tcp_options *options);
+int __real_lk_read_frame_options(const uint8_t *ptr, size_t len, struct lk_frame *frame,
+                                 struct lk_tcp_options *options);
 ptrdiff_t __real_lk_emit_udp(const struct lk_endpoint *src, const struct lk_endpoint *dst, const uint8_t *ptr,
                              size_t len, int computed, uint8_t *out, size_t cap);
 ptrdiff_t __real_lk_emit_udp_frame(const struct lk_frame *headers, const uint8_t *ptr, size_t len, uint8_t *out,
@@ -172,6 +174,15 @@ int __wrap_lk_read_tcp_options(const uint8_t *ptr, size_t len, struct lk_tcp_opt
         if (option.kind == 3)
             options->window_scale = ptr[option.offset + 2] > 15 ? 15 : ptr[option.offset + 2];
     return result;
+}
+
+int __wrap_lk_read_frame_options(const uint8_t *ptr, size_t len, struct lk_frame *frame,
+                                 struct lk_tcp_options *options)
+{
+    int reason = __real_lk_read_frame_options(ptr, len, frame, options);
+    if (fault == REJECTED_OPTIONS_STORED && frame->rejected == LK_TCP)
+        __real_lk_read_tcp_options(ptr + frame->transport_offset, len - frame->transport_offset, options);
+    return reason;
 }
 
 /* ---- writing ---- */

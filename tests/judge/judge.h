@@ -65,10 +65,10 @@ BOTH(emit_udp_frame); BOTH(emit_tcp_frame); BOTH(emit_icmp_frame); BOTH(emit_arp
 BOTH(wrap_udp_frame); BOTH(wrap_tcp_frame); BOTH(emit_ethernet); BOTH(emit_arp); BOTH(emit_ip); BOTH(emit_udp);
 BOTH(emit_tcp); BOTH(emit_icmp); BOTH(emit_icmp_error); BOTH(rebuild); BOTH(answer); BOTH(print_addr);
 BOTH(print_block); BOTH(print_endpoint); BOTH(print_ethernet); BOTH(print_frame); BOTH(read_frame); BOTH(read_packet);
-BOTH(read_captured); BOTH(read_captured_packet); BOTH(read_tcp_options); BOTH(next_tcp_option);
-BOTH(next_ipv6_header); BOTH(read_link); BOTH(read_linktype); BOTH(read_ndisc); BOTH(parse_addr); BOTH(parse_block);
-BOTH(parse_endpoint); BOTH(parse_ethernet); BOTH(reply); BOTH(tcp_header_len); BOTH(contains); BOTH(is_multicast);
-BOTH(is_unicast); BOTH(checksum);
+BOTH(read_captured); BOTH(read_captured_packet); BOTH(read_tcp_options); BOTH(read_frame_options);
+BOTH(next_tcp_option); BOTH(next_ipv6_header); BOTH(read_link); BOTH(read_linktype); BOTH(read_ndisc);
+BOTH(parse_addr); BOTH(parse_block); BOTH(parse_endpoint); BOTH(parse_ethernet); BOTH(reply); BOTH(tcp_header_len);
+BOTH(contains); BOTH(is_multicast); BOTH(is_unicast); BOTH(checksum);
 BOTH(update_checksum); BOTH(update_udp_checksum); BOTH(update_checksum_addr); BOTH(update_udp_checksum_addr);
 BOTH(update_checksum_bytes); BOTH(update_udp_checksum_bytes);
 BOTH(add_seq); BOTH(subtract_seq); BOTH(compare_seq); BOTH(failure_name); BOTH(reason_name);

@@ -82,6 +82,7 @@ int model_next_tcp_option(const uint8_t *ptr, size_t len, struct lk_tcp_option *
 /* ---- model_read.c ---- */
 
 int model_read_frame(const uint8_t *ptr, size_t len, struct lk_frame *frame);
+int model_read_frame_options(const uint8_t *ptr, size_t len, struct lk_frame *frame, struct lk_tcp_options *options);
 int model_read_packet(const uint8_t *ptr, size_t len, struct lk_frame *frame);
 int model_read_captured(const uint8_t *ptr, size_t captured, size_t len, struct lk_frame *frame);
 int model_read_captured_packet(const uint8_t *ptr, size_t captured, size_t len, struct lk_frame *frame);

@@ -386,6 +386,15 @@ int model_read_frame(const uint8_t *ptr, size_t len, struct lk_frame *frame)
     return model_read_captured(ptr, len, len, frame);
 }
 
+int model_read_frame_options(const uint8_t *ptr, size_t len, struct lk_frame *frame, struct lk_tcp_options *options)
+{
+    int reason = model_read_frame(ptr, len, frame);
+    memset(options, 0, sizeof *options);
+    if (frame->transport == LK_TCP)
+        model_read_tcp_options(ptr + frame->transport_offset, frame->tcp.header_len, options);
+    return reason;
+}
+
 int model_read_packet(const uint8_t *ptr, size_t len, struct lk_frame *frame)
 {
     return model_read_captured_packet(ptr, len, len, frame);

@@ -106,8 +106,38 @@ static void steps_through_options(void)
     }
 }
 
+/* A SYN of Linux, and frames without options or with a TCP header that is rejected. */
+static void reads_options_of_frames(void)
+{
+    struct lk_tcp_options of_syn = size_and_scale(1460, 10);
+    of_syn.sack_permitted = of_syn.has_timestamp = 1;
+    of_syn.tsval = 0x39d3a625;
+    const struct {
+        struct octets frame;
+        int reason;
+        struct lk_tcp_options expected;
+    } rows[] = {
+        {syn, LK_READ, of_syn},
+        {ack6, LK_READ, ranges(0)},
+        {ping, LK_READ, ranges(0)},
+        {changed(syn, 55, 3), LK_BAD_OPTIONS, ranges(0)}, /* a maximum segment size in 3 bytes */
+        {changed(syn, 37, 0), LK_PORT_ZERO, ranges(0)},
+        {changed(syn, 20, 0x20), LK_READ, ranges(0)}, /* a fragment */
+        {nothing, LK_TOO_SHORT, ranges(0)},
+    };
+    for (size_t i = 0; i < sizeof rows / sizeof rows[0]; i++) {
+        struct lk_frame frame;
+        struct lk_tcp_options found;
+        memset(&frame, OLD, sizeof frame);
+        memset(&found, OLD, sizeof found);
+        CHECK_ROW(i, both_read_frame_options(rows[i].frame.at, rows[i].frame.len, &frame, &found) == rows[i].reason);
+        same_options(&rows[i].expected, &found);
+    }
+}
+
 void worked_options(void)
 {
     reads_all_options();
+    reads_options_of_frames();
     steps_through_options();
 }
