@@ -401,7 +401,7 @@ INLINE size_t rebuild_transport(const struct packet *packet, uint8_t *out, size_
         if (checksum == LK_RIGHT || checksum == LK_LEFT_OUT)
             return rebuild_udp(packet, len, checksum, out, cap, at);
     }
-    if (packet->protocol == PROTOCOL_TCP && read_tcp(packet, &len) == LK_READ) {
+    if (packet->protocol == PROTOCOL_TCP && read_tcp(packet, &len, NULL) == LK_READ) {
         uint64_t pseudo = pseudo_total(addresses_total(packet), packet->protocol, packet->len);
         uint64_t of_payload = total(packet->payload + len, packet->len - len);
         if (holds(around(around(pseudo, total_of_words(packet->payload, len)), of_payload)))

@@ -1,4 +1,4 @@
-/* lk_read_frame and lk_read_tcp_options by hand: straight code with all checks that the library makes. */
+/* lk_read_frame, lk_read_tcp_options and both in one by hand: straight code with all checks that the library makes. */
 #include <tmmintrin.h>
 #include "../c/ip_wire.h"
 #include "sums.h"
@@ -149,22 +149,6 @@ INLINE int has_two_controls(uint8_t flags)
     return 0xe8 >> (flags & (LK_SYN | LK_FIN | LK_RST)) & 1;
 }
 
-/* Returns an `lk_reason`, and stores the length of a TCP header. */
-INLINE int read_tcp(const struct packet *packet, size_t *len)
-{
-    const uint8_t *ptr = packet->payload;
-    if (packet->len < TCP_LEN)
-        return LK_TOO_SHORT;
-    *len = ptr[12] / 16 * 4;
-    if (*len < TCP_LEN || packet->len < *len)
-        return LK_BAD_LENGTH;
-    if (!load_16(ptr) || !load_16(ptr + 2))
-        return LK_PORT_ZERO;
-    if (has_two_controls(ptr[13]))
-        return LK_BAD_FLAGS;
-    return has_options(ptr + TCP_LEN, ptr + *len) ? LK_READ : LK_BAD_OPTIONS;
-}
-
 INLINE void store_option(const uint8_t *ptr, size_t len, struct lk_tcp_options *options)
 {
     switch (ptr[0]) {
@@ -232,6 +216,23 @@ INLINE int read_options(const uint8_t *ptr, const uint8_t *end, struct lk_tcp_op
     return 1;
 }
 
+/* Returns an `lk_reason`, and stores the length of a TCP header, and its options unless `options` is null. */
+INLINE int read_tcp(const struct packet *packet, size_t *len, struct lk_tcp_options *options)
+{
+    const uint8_t *ptr = packet->payload;
+    if (packet->len < TCP_LEN)
+        return LK_TOO_SHORT;
+    *len = ptr[12] / 16 * 4;
+    if (*len < TCP_LEN || packet->len < *len)
+        return LK_BAD_LENGTH;
+    if (!load_16(ptr) || !load_16(ptr + 2))
+        return LK_PORT_ZERO;
+    if (has_two_controls(ptr[13]))
+        return LK_BAD_FLAGS;
+    const uint8_t *at = ptr + TCP_LEN, *end = ptr + *len;
+    return (options ? read_options(at, end, options) : has_options(at, end)) ? LK_READ : LK_BAD_OPTIONS;
+}
+
 int lk_read_tcp_options(const uint8_t *ptr, size_t len, struct lk_tcp_options *options)
 {
     if (!reaches(len, TCP_LEN))
@@ -296,11 +297,11 @@ INLINE int store_udp(const struct packet *packet, struct lk_frame *frame)
     return reason;
 }
 
-INLINE int store_tcp(const struct packet *packet, struct lk_frame *frame)
+INLINE int store_tcp(const struct packet *packet, struct lk_frame *frame, struct lk_tcp_options *options)
 {
     const uint8_t *ptr = packet->payload;
     size_t len = 0;
-    int reason = read_tcp(packet, &len);
+    int reason = read_tcp(packet, &len, options);
     if (reason == LK_TOO_SHORT)
         return reason;
     frame->transport = LK_TCP;
@@ -335,10 +336,10 @@ INLINE int store_icmp(const struct packet *packet, struct lk_frame *frame)
     return LK_READ;
 }
 
-INLINE int store_transport(const struct packet *packet, struct lk_frame *frame)
+INLINE int store_transport(const struct packet *packet, struct lk_frame *frame, struct lk_tcp_options *options)
 {
     if (packet->protocol == PROTOCOL_TCP)
-        return store_tcp(packet, frame);
+        return store_tcp(packet, frame, options);
     if (packet->protocol == PROTOCOL_UDP)
         return store_udp(packet, frame);
     if (packet->protocol == (packet->is_ipv4 ? PROTOCOL_ICMP : PROTOCOL_ICMPV6))
@@ -346,7 +347,7 @@ INLINE int store_transport(const struct packet *packet, struct lk_frame *frame)
     return LK_READ;
 }
 
-INLINE int store_ipv4(const uint8_t *ptr, size_t len, struct lk_frame *frame)
+INLINE int store_ipv4(const uint8_t *ptr, size_t len, struct lk_frame *frame, struct lk_tcp_options *options)
 {
     struct packet packet;
     int reason = read_ipv4(ptr, len, &packet);
@@ -371,7 +372,7 @@ INLINE int store_ipv4(const uint8_t *ptr, size_t len, struct lk_frame *frame)
     frame->is_fragment = (uint8_t)packet.is_fragment;
     frame->ipv4_checksum = ipv4_holds(&packet) ? LK_RIGHT : LK_WRONG;
     follow(frame, (size_t)(packet.payload - ptr), packet.len);
-    return packet.is_fragment ? LK_READ : store_transport(&packet, frame);
+    return packet.is_fragment ? LK_READ : store_transport(&packet, frame, options);
 }
 
 /* The payload begins at a fragment header. One that is cut off has no values. */
@@ -388,7 +389,7 @@ INLINE int store_ipv6_fragment(const struct packet *packet, struct lk_frame *fra
     return LK_READ;
 }
 
-INLINE int store_ipv6(const uint8_t *ptr, size_t len, struct lk_frame *frame)
+INLINE int store_ipv6(const uint8_t *ptr, size_t len, struct lk_frame *frame, struct lk_tcp_options *options)
 {
     struct packet packet;
     int reason = read_ipv6(ptr, len, &packet);
@@ -409,7 +410,7 @@ INLINE int store_ipv6(const uint8_t *ptr, size_t len, struct lk_frame *frame)
     };
     follow(frame, IPV6_LEN, packet.len);
     return packet.protocol == PROTOCOL_IPV6_FRAGMENT ? store_ipv6_fragment(&packet, frame)
-                                                     : store_transport(&packet, frame);
+                                                     : store_transport(&packet, frame, options);
 }
 
 INLINE int store_arp(const uint8_t *ptr, size_t len, struct lk_frame *frame)
@@ -430,13 +431,14 @@ INLINE int store_arp(const uint8_t *ptr, size_t len, struct lk_frame *frame)
     return LK_READ;
 }
 
-INLINE int store_ip(uint16_t type, const uint8_t *ptr, size_t len, struct lk_frame *frame)
+INLINE int store_ip(uint16_t type, const uint8_t *ptr, size_t len, struct lk_frame *frame,
+                    struct lk_tcp_options *options)
 {
     switch (type) {
     case TYPE_IPV4:
-        return store_ipv4(ptr, len, frame);
+        return store_ipv4(ptr, len, frame, options);
     case TYPE_IPV6:
-        return store_ipv6(ptr, len, frame);
+        return store_ipv6(ptr, len, frame, options);
     }
     return LK_READ;
 }
@@ -461,7 +463,7 @@ INLINE void store_ethernet(const uint8_t *ptr, struct lk_frame *frame)
     _mm_storeu_si128((__m128i *)&frame->ethernet, _mm_shuffle_epi8(bytes, order));
 }
 
-int lk_read_frame(const uint8_t *ptr, size_t len, struct lk_frame *frame)
+INLINE int read_frame(const uint8_t *ptr, size_t len, struct lk_frame *frame, struct lk_tcp_options *options)
 {
     clear(frame);
     if (!reaches(len, ETHERNET_LEN)) {
@@ -479,5 +481,17 @@ int lk_read_frame(const uint8_t *ptr, size_t len, struct lk_frame *frame)
     follow(frame, ETHERNET_LEN, len - ETHERNET_LEN);
     if (type == TYPE_ARP) /* apart, so that no registers are saved for it */
         return frame->reason = (uint8_t)store_arp(ptr + ETHERNET_LEN, len - ETHERNET_LEN, frame);
-    return frame->reason = (uint8_t)store_ip(type, ptr + ETHERNET_LEN, len - ETHERNET_LEN, frame);
+    return frame->reason = (uint8_t)store_ip(type, ptr + ETHERNET_LEN, len - ETHERNET_LEN, frame, options);
+}
+
+int lk_read_frame(const uint8_t *ptr, size_t len, struct lk_frame *frame) { return read_frame(ptr, len, frame, NULL); }
+
+/* The options before a malformed one were stored. */
+int lk_read_frame_options(const uint8_t *ptr, size_t len, struct lk_frame *frame, struct lk_tcp_options *options)
+{
+    clear_options(options);
+    int reason = read_frame(ptr, len, frame, options);
+    if (reason == LK_BAD_OPTIONS)
+        clear_options(options);
+    return reason;
 }

@@ -9,6 +9,7 @@ GROUPS = [
     ("read a frame", r"read (ARP|IPv4|IPv6|solicitation|(UDP|TCP|ICMP)/.*)", 0.80, 0.60),
     ("read mixed frames", r"read mixed frames.*", None, None),
     ("read TCP options", r"read options .*", 0.80, 0.60),
+    ("read a frame and TCP options", r"read frame, options .*", 0.80, 0.60),
     ("emit one layer", r"emit (?!frame|ICMP error).*", 0.90, 0.70),
     ("emit a whole frame", r"emit frame .*", 0.90, 0.70),
     ("rebuild", r"rebuild .*", 0.80, 0.60),

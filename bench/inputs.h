@@ -10,13 +10,13 @@ enum {
     MOST_TEXT = 39, /* of an address */
 };
 
-/* The calls of a library: on packets, of a router and on ICMP, of texts, and those that only ours has. The floor has
- * the first two kinds, the reference the first and the third. */
+/* The calls of a library: on packets, of a router, on ICMP and on frames with their options, of texts, and those that
+ * only ours has. The floor has the first two kinds, the reference the first and the third. */
 #define PACKET_CALLS(X)                                                                                     \
     X(checksum) X(read_frame) X(read_tcp_options) X(rebuild) X(emit_arp) X(emit_ip) X(emit_udp) X(emit_tcp) \
     X(emit_arp_frame) X(emit_udp_frame) X(emit_tcp_frame) X(contains)
 #define ROUTER_CALLS(X) \
-    X(forward) X(translate) X(emit_icmp) X(emit_icmp_frame) X(read_ndisc) X(emit_ndisc_frame)
+    X(forward) X(translate) X(emit_icmp) X(emit_icmp_frame) X(read_ndisc) X(emit_ndisc_frame) X(read_frame_options)
 #define TEXT_CALLS(X) X(parse_addr) X(parse_block) X(print_addr) X(print_block) X(print_endpoint)
 #define OWN_CALLS(X)                                                                                   \
     X(index_routes) X(choose_route) X(check_source) X(translate_out) X(translate_in) X(answer)         \

@@ -5,6 +5,7 @@
 REPEAT(call_checksum, checksum, bytes, row->size)
 REPEAT(call_read, read_frame, bytes, frame_len, &out.frame)
 REPEAT(call_read_options, read_tcp_options, bytes + 34, 60, &out.options)
+REPEAT(call_read_frame_options, read_frame_options, bytes, frame_len, &out.frame, &out.options)
 REPEAT(call_rebuild, rebuild, bytes, frame_len, OUT)
 REPEAT(call_emit_arp, emit_arp, &ipv4_headers.arp, &ipv4_headers.src.addr, &ipv4_headers.dst.addr, OUT)
 REPEAT(call_emit_arp_frame, emit_arp_frame, &ipv4_headers, OUT)
@@ -179,6 +180,10 @@ static const struct call tcp_emit_rows[] = {
     {"emit frame TCP/IPv6", prepare_tcp_ipv6, call_emit_tcp_frame},
 };
 static const struct call option_rows[] = {{"read options", prepare_tcp_ipv4, call_read_options}};
+static const struct call frame_option_rows[] = {
+    {"read frame, options IPv4", prepare_tcp_ipv4, call_read_frame_options},
+    {"read frame, options IPv6", prepare_tcp_ipv6, call_read_frame_options},
+};
 static const struct call contains_rows[] = {
     {"block contains IPv4", prepare_bytes, call_contains_ipv4},
     {"block contains IPv6", prepare_bytes, call_contains_ipv6},
@@ -266,6 +271,7 @@ static const struct block packet_blocks[] = {
 static const struct block tcp_blocks[] = {
     BLOCK(tcp_rows, sizes, IN_ALL, 1),
     BLOCK(option_rows, no_size, IN_ALL, 1),
+    BLOCK(frame_option_rows, no_size, IN_FLOOR, 1),
     BLOCK(tcp_emit_rows, sizes, IN_ALL, 1),
 };
 static const struct block address_block = BLOCK(address_rows, address_counts, IN_REFERENCE, 1);
