@@ -1,5 +1,5 @@
 -- A TCP segment with two bytes of no operation before its timestamp, as it is emitted.
-use Rattle.std.proofs.Common.{ℕ, ◌≡◌, ◌∙◌, ◌≤◌, ◌<◌, ◌+◌, ◌*◌, ◌-◌, ◌%◌, ◌++◌, true, false, List, [], ◌∷◌, Option, None, Some, ap, append_assoc, append-nil, arith, drop, length, length-append, refl, slice_index, slice_range, sum, sym, take}
+use Rattle.std.proofs.Common.{ℕ, ◌≡◌, ◌∙◌, ◌≤◌, ◌<◌, ◌+◌, ◌*◌, ◌-◌, ◌%◌, ◌++◌, true, List, [], ◌∷◌, Option, None, Some, ap, append_assoc, append-nil, arith, drop, length, length-append, refl, slice_index, slice_range, sum, sym, take}
 use Rattle.std.proofs.lemmas.List.{length-take-le}
 use Rattle.byteorder.specs.Endian.{big_bytes}
 use Rattle.ip_wire.proofs.TcpLayer.{rebuilt-tcp, rebuilt-tcp-copied}
@@ -18,7 +18,7 @@ use Rattle.wire_field.specs.Field.{field, with_range}
 use Rattle.wire_tcp.proofs.Sums.{field-word}
 use Rattle.wire_tcp.proofs.TcpComputed.{reads-with, tcp_of-Reads}
 use Rattle.wire_tcp.specs.Tcp.{Verifies, options_of, payload_of, segment_sum}
-use Rattle.wire_tcp.specs.TcpRepr.{Reads, TcpHeader, header_with, option_bytes, segment_with, tcp_of}
+use Rattle.wire_tcp.specs.TcpRepr.{TcpHeader, header_with, option_bytes, segment_with, tcp_of}
 use Rattle.wire_tcp_parts.proofs.Items.{IsItem_bare}
 use Rattle.wire_tcp_parts.specs.TcpItems.{IsOptionList, Item, item}
 use Rattle.wire_tcp_parts.specs.declared.tcp.control.TcpControl.{TcpControl}
