@@ -183,11 +183,15 @@ fn rebuild_transport(header: &IpRepr, protocol: u8, bytes: &[u8], out: &mut [u8]
     requires { next_header_of header.now ≡ protocol_of protocol }
     ensures { Fills (Some (rebuilt_transport header.now bytes.now)) out.old out.new result }
 {
-    let src_addr = header.src_addr();
-    let dst_addr = header.dst_addr();
+    // Once they are read, the checker knows how long they are.
+    let _addresses = (header.src_addr(), header.dst_addr());
     match IpProtocol::from(protocol) {
-        IpProtocol::Udp if !is_whole_udp(bytes) => rebuild_udp(src_addr, dst_addr, bytes, out),
-        IpProtocol::Tcp if !tcp_kept::is_kept(bytes) => rebuild_tcp(src_addr, dst_addr, bytes, out),
+        IpProtocol::Udp if !is_whole_udp(bytes) => {
+            rebuild_udp(header.src_addr(), header.dst_addr(), bytes, out)
+        }
+        IpProtocol::Tcp if !tcp_kept::is_kept(bytes) => {
+            rebuild_tcp(header.src_addr(), header.dst_addr(), bytes, out)
+        }
         _ => try_copy(out, bytes),
     }
 }
