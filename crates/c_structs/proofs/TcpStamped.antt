@@ -40,7 +40,7 @@ rebuilt-unsound src dst bytes unsound = by (tcp_of src dst true bytes) refl
 -- ---- the options
 
 -- two items without operation, and a timestamp
-abbrev padded : List ℕ → List Item
+abbrev pub padded : List ℕ → List Item
 padded bytes = item 1 [] ∷ item 1 [] ∷ item 8 (eight bytes 24) ∷ []
 
 padded-options : (bytes : List ℕ) → AreBytes bytes → HasPaddedStamp bytes → slice_range bytes 20 24 ≡ 1 ∷ 1 ∷ 8 ∷ 10 ∷ []
@@ -55,7 +55,7 @@ padded-options bytes h s =
     let d : at 23 ≡ 10 = omega (arith, kinds, h 20, h 21, h 22, h 23) in
     cells ∙ rw (a, b, c, d) refl
 
-padded-list : (bytes : List ℕ) → AreBytes bytes → HasPaddedStamp bytes → IsOptionList (options_of bytes) (padded bytes) []
+pub padded-list : (bytes : List ℕ) → AreBytes bytes → HasPaddedStamp bytes → IsOptionList (options_of bytes) (padded bytes) []
 padded-list bytes h s =
     let whole = s.whole in
     let parts : slice_range bytes 20 32 ≡ slice_range bytes 20 24 ++ eight bytes 24 = rw (cells-drop 32 bytes whole) refl in
