@@ -1,7 +1,7 @@
 -- The TCP header that the struct of a frame names is in the frame, and its options are well-formed.
-use Rattle.std.proofs.Common.{ℕ, ◌≡◌, ◌∙◌, ◌≤◌, ◌+◌, ◌-◌, ◌*◌, ◌++◌, nat_lt, if◌then◌else◌, Bool, true, false, List, Option, None, Some, ap, arith, drop, length, refl, slice_range, sym, take}
+use Rattle.std.proofs.Common.{ℕ, ◌≡◌, ◌∙◌, ◌≤◌, ◌+◌, ◌*◌, ◌++◌, nat_lt, if◌then◌else◌, Bool, true, false, List, Option, None, Some, ap, arith, drop, length, refl, slice_range, sym, take}
 use Rattle.std.proofs.lemmas.Grind.{common_steps}
-use Rattle.std.proofs.lemmas.List.{drop-drop, take-append-drop}
+use Rattle.std.proofs.lemmas.List.{take-append-drop}
 use Rattle.std.specs.Option.{option_map_or}
 use Rattle.ip_wire.proofs.Ipv4Computed.{ipv4_of-Reads}
 use Rattle.ip_wire.proofs.Ipv6Computed.{ipv6_of-Reads}
@@ -37,16 +37,6 @@ use Rattle.c_structs.specs.declared.types.FrameFields.{FrameFields}
 
 -- ---- the header of a segment
 
--- the header by itself has the same length
-header-len : (bytes : List ℕ) → HasLengths bytes → header_len (take (header_len bytes) bytes) ≡ header_len bytes
-header-len bytes h =
-    let n : ℕ = header_len bytes in
-    let first = h.header in
-    let whole = h.whole in
-    let size : length (take n bytes) ≡ n = grind (arith, common_steps) in
-    let all : take n bytes ++ drop n bytes ≡ bytes = take-append-drop n bytes in
-    ap (λ (k : ℕ). 4 * k) (sym (field-front (take n bytes) (drop n bytes) 96 4 (omega (arith, size, first))) ∙ ap (λ (l : List ℕ). field l 96 4) all)
-
 -- the header by itself has the same options
 header-items : (bytes : List ℕ) (items : List Item) (tail : List ℕ) → HasLengths bytes → IsOptionList (options_of bytes) items tail
     → ReadsItems (take (header_len bytes) bytes) items
@@ -55,7 +45,9 @@ header-items bytes items tail h list =
     let first = h.header in
     let whole = h.whole in
     let size : length (take n bytes) ≡ n = grind (arith, common_steps) in
-    let len = header-len bytes h in
+    let all : take n bytes ++ drop n bytes ≡ bytes = take-append-drop n bytes in
+    let len : header_len (take n bytes) ≡ n =
+    ap (λ (k : ℕ). 4 * k) (sym (field-front (take n bytes) (drop n bytes) 96 4 (omega (arith, size, first))) ∙ ap (λ (l : List ℕ). field l 96 4) all) in
     let options : options_of (take n bytes) ≡ options_of bytes = ap (slice_range (take n bytes) 20) len ∙ slice_range-take bytes 20 n n first (omega arith) in
     record {
       lengths = record { least = omega (arith, size, first); header = omega (arith, len, first); whole = omega (arith, len, size) };
@@ -63,24 +55,12 @@ header-items bytes items tail h list =
       list = rw options list;
     }
 
--- the header is in the frame, and has well-formed options
+-- the header is in the frame, up to the payload, and has well-formed options
 pub record HasHeader (f : FrameFields) (frame : List ℕ) : Type 0 where
-  pub least : 20 ≤ f.tcp.header_len
   pub ends : f.payload_offset ≡ f.transport_offset + f.tcp.header_len
   pub room : f.payload_offset ≤ length frame
   pub items : List Item
   pub reads : ReadsItems (header_in f frame) items
-  pub options : options_of (header_in f frame) ≡ slice_range frame (f.transport_offset + 20) f.payload_offset
-
--- the options of a header that begins here
-options-at : (frame : List ℕ) (o n : ℕ) → 20 ≤ n → header_len (slice_range frame o (o + n)) ≡ n → options_of (slice_range frame o (o + n)) ≡ slice_range frame (o + 20) (o + n)
-options-at frame o n least len =
-    let size : o + n - o ≡ n = omega arith in
-    let part : slice_range frame o (o + n) ≡ take n (drop o frame) = ap (λ (k : ℕ). take k (drop o frame)) size in
-    let left : o + n - (o + 20) ≡ n - 20 = omega arith in
-    let all : n ≤ n = omega arith in
-    ap (slice_range (slice_range frame o (o + n)) 20) len ∙ ap (λ (l : List ℕ). slice_range l 20 n) part ∙ slice_range-take (drop o frame) 20 n n least all
-    ∙ ap (take (n - 20)) (drop-drop 20 o frame) ∙ ap (λ (k : ℕ). take k (drop (o + 20) frame)) (sym left)
 
 -- of a segment that begins here in the frame
 segment-header : (f : FrameFields) (frame bytes : List ℕ) (o n : ℕ) (items : List Item) (tail : List ℕ) → n ≡ length bytes → slice_range frame o (o + n) ≡ bytes
@@ -89,18 +69,14 @@ segment-header : (f : FrameFields) (frame bytes : List ℕ) (o n : ℕ) (items :
 segment-header f frame bytes o n items tail len at offset header end h list =
     let size : ℕ = header_len bytes in
     let whole : size ≤ length bytes = h.whole in
-    let first : 20 ≤ size = h.header in
     let ends : o + n ≤ length frame = grind (arith, common_steps) in
     let part : slice_range frame o (o + size) ≡ take size bytes = grind (arith, common_steps) in
     let reads : ReadsItems (slice_range frame o (o + size)) items = rw part (header-items bytes items tail h list) in
-    let same : header_len (slice_range frame o (o + size)) ≡ size = rw part (header-len bytes h) in
     record {
-      least = rw header first;
       ends = rw (offset, header) end;
       room = rw end (omega (arith, ends, len, whole));
       items = items;
       reads = rw (offset, header) reads;
-      options = rw (offset, header, end) (options-at frame o size first same);
     }
 
 -- ---- the struct of a frame

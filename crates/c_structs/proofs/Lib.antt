@@ -18,6 +18,7 @@ mod Framed
 mod Headed
 pub mod InFrame
 mod Ipv4Words
+mod Ipv6Put
 mod Ipv6Words
 mod Numbered
 mod OnlyTimestamp

@@ -239,16 +239,18 @@ stamp-options bytes h s =
     ∙ ap (λ (k : ℕ). 8 ∷ k ∷ (eight bytes 22 ++ at 30 ∷ at 31 ∷ [])) size ∙ ap (λ (k : ℕ). 8 ∷ 10 ∷ (eight bytes 22 ++ k ∷ at 31 ∷ [])) high
     ∙ ap (λ (k : ℕ). 8 ∷ 10 ∷ (eight bytes 22 ++ 0 ∷ k ∷ [])) low
 
+pub stamp-list : (bytes : List ℕ) → AreBytes bytes → HasStamp bytes → IsOptionList (options_of bytes) (item 8 (eight bytes 22) ∷ []) (0 ∷ 0 ∷ [])
+stamp-list bytes h s = record { each = (IsItem-stamp (eight bytes 22) refl, search); joined = stamp-options bytes h s; ended = refl }
+
 rebuilt-stamp : (src dst : IpAddress) (bytes : List ℕ) → AreBytes bytes → AreWords src dst → IsPlain bytes → HasStamp bytes
     → rebuilt_transport_by protocol.Tcp src dst bytes ≡ bytes
 rebuilt-stamp src dst bytes h whole plain s =
     let (asked, has) = control-of bytes h plain.flags in
     let stamp = item 8 (eight bytes 22) in
-    let list : IsOptionList (options_of bytes) (stamp ∷ []) (0 ∷ 0 ∷ []) = record { each = (IsItem-stamp (eight bytes 22) refl, search); joined = stamp-options bytes h s; ended = refl } in
     let size = s.size in
     let options : option_bytes (acked bytes asked (stamp ∷ [])) ≡ 8 ∷ 10 ∷ (eight bytes 22 ++ 0 ∷ 0 ∷ []) =
     ap (λ (t : List ℕ). 8 ∷ 10 ∷ (t ++ 0 ∷ 0 ∷ [])) (stamp-bytes bytes 22 h) in
-    rebuilt-read src dst bytes asked (stamp ∷ []) (0 ∷ 0 ∷ []) h whole plain has (omega (arith, size)) list (omega (arith, size, has.flags))
+    rebuilt-read src dst bytes asked (stamp ∷ []) (0 ∷ 0 ∷ []) h whole plain has (omega (arith, size)) (stamp-list bytes h s) (omega (arith, size, has.flags))
     (options ∙ sym (stamp-options bytes h s))
 
 pub rebuilt-kept : (src dst : IpAddress) (bytes : List ℕ) → AreBytes bytes → AreWords src dst → IsPlain bytes → (header_len bytes ≡ 20) ⊎ HasStamp bytes

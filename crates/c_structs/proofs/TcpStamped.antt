@@ -1,5 +1,5 @@
 -- A TCP segment with two bytes of no operation before its timestamp, as it is emitted.
-use Rattle.std.proofs.Common.{ℕ, ◌≡◌, ◌∙◌, ◌≤◌, ◌<◌, ◌+◌, ◌*◌, ◌-◌, ◌%◌, ◌++◌, true, false, List, [], ◌∷◌, Option, None, Some, ap, append_assoc, append-nil, arith, drop, length, length-append, refl, slice_index, slice_range, sum, sym, take}
+use Rattle.std.proofs.Common.{ℕ, ◌≡◌, ◌∙◌, ◌≤◌, ◌<◌, ◌+◌, ◌*◌, ◌-◌, ◌%◌, ◌++◌, true, List, [], ◌∷◌, Option, None, Some, ap, append_assoc, append-nil, arith, drop, length, length-append, refl, slice_index, slice_range, sum, sym, take}
 use Rattle.std.proofs.lemmas.List.{length-take-le}
 use Rattle.byteorder.specs.Endian.{big_bytes}
 use Rattle.ip_wire.proofs.TcpLayer.{rebuilt-tcp, rebuilt-tcp-copied}
@@ -18,7 +18,7 @@ use Rattle.wire_field.specs.Field.{field, with_range}
 use Rattle.wire_tcp.proofs.Sums.{field-word}
 use Rattle.wire_tcp.proofs.TcpComputed.{reads-with, tcp_of-Reads}
 use Rattle.wire_tcp.specs.Tcp.{Verifies, options_of, payload_of, segment_sum}
-use Rattle.wire_tcp.specs.TcpRepr.{Reads, TcpHeader, header_with, option_bytes, segment_with, tcp_of}
+use Rattle.wire_tcp.specs.TcpRepr.{TcpHeader, header_with, option_bytes, segment_with, tcp_of}
 use Rattle.wire_tcp_parts.proofs.Items.{IsItem_bare}
 use Rattle.wire_tcp_parts.specs.TcpItems.{IsOptionList, Item, item}
 use Rattle.wire_tcp_parts.specs.declared.tcp.control.TcpControl.{TcpControl}
@@ -40,7 +40,7 @@ rebuilt-unsound src dst bytes unsound = by (tcp_of src dst true bytes) refl
 -- ---- the options
 
 -- two items without operation, and a timestamp
-abbrev padded : List ℕ → List Item
+abbrev pub padded : List ℕ → List Item
 padded bytes = item 1 [] ∷ item 1 [] ∷ item 8 (eight bytes 24) ∷ []
 
 padded-options : (bytes : List ℕ) → AreBytes bytes → HasPaddedStamp bytes → slice_range bytes 20 24 ≡ 1 ∷ 1 ∷ 8 ∷ 10 ∷ []
@@ -55,7 +55,7 @@ padded-options bytes h s =
     let d : at 23 ≡ 10 = omega (arith, kinds, h 20, h 21, h 22, h 23) in
     cells ∙ rw (a, b, c, d) refl
 
-padded-list : (bytes : List ℕ) → AreBytes bytes → HasPaddedStamp bytes → IsOptionList (options_of bytes) (padded bytes) []
+pub padded-list : (bytes : List ℕ) → AreBytes bytes → HasPaddedStamp bytes → IsOptionList (options_of bytes) (padded bytes) []
 padded-list bytes h s =
     let whole = s.whole in
     let parts : slice_range bytes 20 32 ≡ slice_range bytes 20 24 ++ eight bytes 24 = rw (cells-drop 32 bytes whole) refl in

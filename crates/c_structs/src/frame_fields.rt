@@ -273,21 +273,24 @@ impl FrameFields {
         requires header { ipv4.header_len (ipv4.packet_bytes packet.now) ≤ length (ipv4.packet_bytes packet.now) }
         ensures { self.new ≡ with_ipv4_fields self.old (ipv4.packet_bytes packet.now) header.now payload_len }
     {
+        // Read before anything is stored: the compiler does not know that the struct and the packet are apart.
         let header_len = usize::from(packet.header_len());
+        let service = packet.as_bytes()[1];
+        let fragment = NetworkEndian::read_u16(&packet.as_bytes()[6..8]);
         self.network = NetworkKind::Ipv4.code();
         self.network_offset = self.payload_offset;
         self.src = Endpoint::without_port(IpAddress::Ipv4(header.src_addr));
         self.dst = Endpoint::without_port(IpAddress::Ipv4(header.dst_addr));
         self.ip.ident = u32::from(packet.ident());
         self.ip.flow_label = 0;
-        self.ip.fragment_offset = packet.frag_offset();
+        self.ip.fragment_offset = fragment % 8192 * 8;
         self.ip.protocol = packet.as_bytes()[9];
         self.ip.hop_limit = header.hop_limit;
-        self.ip.dscp = packet.dscp();
-        self.ip.ecn = packet.ecn();
-        self.ip.more_fragments = u8::from(packet.more_frags());
-        self.ip.dont_fragment = u8::from(packet.dont_frag());
-        self.is_fragment = u8::from(packet.is_fragment());
+        self.ip.dscp = service / 4;
+        self.ip.ecn = service % 4;
+        self.ip.more_fragments = (fragment / 8192 % 2) as u8;
+        self.ip.dont_fragment = (fragment / 16384 % 2) as u8;
+        self.is_fragment = u8::from(fragment % 16384 != 0);
         self.ipv4_checksum = ipv4_verdict(packet).code();
         self.step_after(header_len, payload_len);
     }

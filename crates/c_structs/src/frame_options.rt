@@ -10,7 +10,7 @@ ghost use Rattle.c_structs.specs.declared.codes.TransportKind.TheVariants as tra
 
 use crate::codes::TransportKind;
 use crate::types::{FrameFields, TcpOptions};
-use ip_wire::{TCP_HEADER_LEN, TcpOptionSummary};
+use ip_wire::TcpOptionSummary;
 
 impl TcpOptions {
     /// Stores the options of the TCP header in a frame whose fields are stored, or zeros if none was read.
@@ -23,7 +23,6 @@ impl TcpOptions {
             *self = TcpOptions::of(&TcpOptionSummary::default());
             return;
         }
-        let start = fields.transport_offset + TCP_HEADER_LEN;
-        self.read_options(&frame[start..fields.payload_offset]);
+        self.read_header(&frame[fields.transport_offset..fields.payload_offset]);
     }
 }

@@ -1,10 +1,13 @@
 //! Rebuilding a whole frame.
 
-ghost use Rattle.std.specs.Prelude.{◌≡◌, ◌≢◌, ◌≤◌, IsTrue, Some, length};
+ghost use Rattle.std.specs.Prelude.{◌≡◌, ◌≢◌, ◌≤◌, ◌++◌, IsTrue, Some, drop, length, true};
 ghost use Rattle.ip_wire.specs.Field.{field};
 ghost use Rattle.ip_wire.specs.Frame.{rebuilt_transport_by, rebuilt_packet, rebuilt_payload, rebuilt_transport};
-ghost use Rattle.ip_wire.specs.Ip.{dst_addr_of, max_payload_len, next_header_of, src_addr_of};
+ghost use Rattle.ip_wire.specs.Ip.{bytes_of, max_payload_len, next_header_of, with_payload_len};
+ghost use Rattle.ip_wire.specs.IpAddress.{version_of};
+ghost use Rattle.ip_wire.specs.Ipv6.{header_of};
 ghost use Rattle.ip_wire.specs.Protocol.{protocol_of};
+ghost use Rattle.ip_wire.specs.Types as repr;
 ghost use Rattle.ip_wire.specs.Udp.{packet_len};
 ghost use Rattle.ip_wire.specs.declared.EthernetProtocol.TheVariants.{Arp, Ipv4, Ipv6};
 ghost use Rattle.ip_wire.specs.declared.IpProtocol.TheVariants.{Tcp, Udp};
@@ -12,13 +15,14 @@ ghost use Rattle.c_structs.specs.Frames.{rebuilt_of};
 ghost use Rattle.c_structs.specs.Written.{Fills};
 
 use crate::{tcp, tcp_kept};
+use byteorder::{ByteOrder, NetworkEndian};
 use ip_wire::{
-    ArpPacket, ArpRepr, ETHERNET_HEADER_LEN, EthernetFrame, EthernetProtocol, IpProtocol, IpRepr,
-    Ipv4Packet, Ipv4Repr, Ipv6Packet, Ipv6Repr, TcpPacket, TcpRepr, UDP_HEADER_LEN, UdpPacket,
-    UdpRepr,
+    ArpPacket, ArpRepr, ETHERNET_HEADER_LEN, EthernetFrame, EthernetProtocol, IPV4_HEADER_LEN,
+    IPV6_HEADER_LEN, IpAddress, IpProtocol, IpRepr, Ipv4Packet, Ipv4Repr, Ipv6Packet, Ipv6Repr,
+    TcpPacket, TcpRepr, UDP_HEADER_LEN, UdpPacket, UdpRepr,
 };
 use net_base::ChecksumCapabilities;
-use wire_field::{array_at, try_copy, write_front};
+use wire_field::{array_at, try_copy, write_at, write_front};
 
 // The length of an ARP packet for Ethernet and IPv4.
 const ARP_LEN: usize = 28;
@@ -28,6 +32,8 @@ const ARP_LEN: usize = 28;
 const IPV4_PROTOCOL: usize = 9;
 
 const IPV6_NEXT_HEADER: usize = 6;
+
+const IPV6_HOP_LIMIT: usize = 7;
 
 /// Writes a rebuilt frame to the front of `out` and returns its length. `None` if it does not fit, or if
 /// there is no Ethernet header.
@@ -79,14 +85,38 @@ fn rebuild_ipv4(bytes: &[u8], out: &mut [u8]) -> Option<usize>
     let packet = Ipv4Packet::new_unchecked(bytes);
     match Ipv4Repr::parse(&packet, &ChecksumCapabilities::default()) {
         Ok(header) if !packet.is_fragment() => {
-            rebuild_packet(
-                IpRepr::Ipv4(header),
-                bytes[IPV4_PROTOCOL],
-                packet.payload(),
-                out,
-            )
+            rebuild_ipv4_packet(header, bytes[IPV4_PROTOCOL], packet.payload(), out)
         }
         _ => try_copy(out, bytes),
+    }
+}
+
+// Rebuilds an IPv4 packet with this header and protocol number. The payload length is set to that of the
+// rebuilt payload.
+#[inline(always)]
+fn rebuild_ipv4_packet(
+    header: Ipv4Repr,
+    protocol: u8,
+    payload: &[u8],
+    out: &mut [u8],
+) -> Option<usize>
+    requires len { length payload.now ≤ max_payload_len (repr.Ipv4 header) }
+    requires protocol { header.next_header ≡ protocol_of protocol }
+    ensures { Fills (Some (rebuilt_packet (repr.Ipv4 header) payload.now)) out.old out.new result }
+{
+    if out.len() < IPV4_HEADER_LEN {
+        return None;
+    }
+    let (front, rest) = out.split_at_mut(IPV4_HEADER_LEN);
+    let header = IpRepr::Ipv4(header);
+    match rebuild_transport(&header, protocol, payload, rest) {
+        Some(payload_len) => {
+            // A number is written as it is: the name of a protocol would first be looked up in a table.
+            let header = header.before(IpProtocol::Unknown(protocol), payload_len);
+            header.emit(front, &ChecksumCapabilities::default());
+            Some(IPV4_HEADER_LEN + payload_len)
+        }
+        None => None,
     }
 }
 
@@ -96,52 +126,72 @@ fn rebuild_ipv6(bytes: &[u8], out: &mut [u8]) -> Option<usize>
 {
     let packet = Ipv6Packet::new_unchecked(bytes);
     match Ipv6Repr::parse(&packet) {
-        Ok(header) => {
-            rebuild_packet(
-                IpRepr::Ipv6(header),
-                bytes[IPV6_NEXT_HEADER],
-                packet.payload(),
-                out,
-            )
-        }
+        Ok(header) => rebuild_ipv6_packet(header, bytes, packet.payload(), out),
         Err(_) => try_copy(out, bytes),
     }
 }
 
-// Rebuilds a packet with this header and protocol number. The payload length is set to that of the rebuilt
-// payload.
+// Rebuilds an IPv6 packet with this header, which the bytes begin with. The payload length is set to that of
+// the rebuilt payload.
 #[inline(always)]
-fn rebuild_packet(header: IpRepr, protocol: u8, payload: &[u8], out: &mut [u8]) -> Option<usize>
-    requires len { length payload.now ≤ max_payload_len header }
-    requires protocol { next_header_of header ≡ protocol_of protocol }
-    ensures { Fills (Some (rebuilt_packet header payload.now)) out.old out.new result }
+fn rebuild_ipv6_packet(
+    header: Ipv6Repr,
+    bytes: &[u8],
+    payload: &[u8],
+    out: &mut [u8],
+) -> Option<usize>
+    requires len { length payload.now ≤ max_payload_len (repr.Ipv6 header) }
+    requires whole { 40 ≤ length bytes.now }
+    requires header { header ≡ header_of bytes.now }
+    ensures { Fills (Some (rebuilt_packet (repr.Ipv6 header) payload.now)) out.old out.new result }
 {
-    let header_len = header.header_len();
-    if out.len() < header_len {
+    if out.len() < IPV6_HEADER_LEN {
         return None;
     }
-    let (front, rest) = out.split_at_mut(header_len);
-    match rebuild_transport(&header, protocol, payload, rest) {
+    let (front, rest) = out.split_at_mut(IPV6_HEADER_LEN);
+    let protocol = bytes[IPV6_NEXT_HEADER];
+    match rebuild_transport(&IpRepr::Ipv6(header), protocol, payload, rest) {
         Some(payload_len) => {
-            // A number is written as it is: the name of a protocol would first be looked up in a table.
-            let header = header.before(IpProtocol::Unknown(protocol), payload_len);
-            header.emit(front, &ChecksumCapabilities::default());
-            Some(header_len + payload_len)
+            put_ipv6(bytes, payload_len, front);
+            Some(IPV6_HEADER_LEN + payload_len)
         }
         None => None,
     }
 }
 
+// Writes the IPv6 header that the bytes begin with before a payload of this length. It is copied: values
+// would take registers while the payload is rebuilt.
+#[inline(always)]
+fn put_ipv6(bytes: &[u8], payload_len: usize, out: &mut [u8])
+    requires whole { 40 ≤ length bytes.now }
+    requires payload_len { payload_len ≤ 65535 }
+    requires room { 40 ≤ length out.old }
+    ensures { out.new ≡ bytes_of (with_payload_len (repr.Ipv6 (header_of bytes.now)) payload_len) true ++ drop 40 out.old }
+{
+    let (protocol, hop_limit) = (bytes[IPV6_NEXT_HEADER], bytes[IPV6_HOP_LIMIT]);
+    let mut first = [0x60, 0, 0, 0, 0, 0, protocol, hop_limit];
+    NetworkEndian::write_u16(&mut first[4..6], payload_len as u16);
+    write_front(out, &first);
+    write_at(out, 8, &bytes[8..IPV6_HEADER_LEN]);
+}
+
 // Rebuilds the payload of a packet with this header and protocol number. The number is compared here as it
-// is: its name in the header would have been looked up before.
+// is: its name in the header would have been looked up before. What is copied whether it parses or not is
+// not summed.
 #[inline(always)]
 fn rebuild_transport(header: &IpRepr, protocol: u8, bytes: &[u8], out: &mut [u8]) -> Option<usize>
     requires { next_header_of header.now ≡ protocol_of protocol }
     ensures { Fills (Some (rebuilt_transport header.now bytes.now)) out.old out.new result }
 {
+    // Once they are read, the checker knows how long they are.
+    let _addresses = (header.src_addr(), header.dst_addr());
     match IpProtocol::from(protocol) {
-        IpProtocol::Udp => rebuild_udp(header, bytes, out),
-        IpProtocol::Tcp => rebuild_tcp(header, bytes, out),
+        IpProtocol::Udp if !is_whole_udp(bytes) => {
+            rebuild_udp(header.src_addr(), header.dst_addr(), bytes, out)
+        }
+        IpProtocol::Tcp if !tcp_kept::is_kept(bytes) => {
+            rebuild_tcp(header.src_addr(), header.dst_addr(), bytes, out)
+        }
         _ => try_copy(out, bytes),
     }
 }
@@ -159,17 +209,16 @@ fn is_whole_udp(bytes: &[u8]) -> bool
 }
 
 // Rebuilds a UDP packet; copies it if it does not parse with its checksum.
-#[inline(always)]
-fn rebuild_udp(ip_header: &IpRepr, bytes: &[u8], out: &mut [u8]) -> Option<usize>
-    ensures { let src = src_addr_of ip_header.now in let dst = dst_addr_of ip_header.now in
-        Fills (Some (rebuilt_transport_by Udp src dst bytes.now)) out.old out.new result }
+#[inline(never)]
+fn rebuild_udp(
+    src_addr: IpAddress,
+    dst_addr: IpAddress,
+    bytes: &[u8],
+    out: &mut [u8],
+) -> Option<usize>
+    requires { version_of src_addr ≡ version_of dst_addr }
+    ensures { Fills (Some (rebuilt_transport_by Udp src_addr dst_addr bytes.now)) out.old out.new result }
 {
-    let src_addr = ip_header.src_addr();
-    let dst_addr = ip_header.dst_addr();
-    // Such a packet is copied whether it parses or not, so it is not summed.
-    if is_whole_udp(bytes) {
-        return try_copy(out, bytes);
-    }
     let caps = ChecksumCapabilities::default();
     let packet = UdpPacket::new_unchecked(bytes);
     match UdpRepr::parse(&packet, &src_addr, &dst_addr, &caps) {
@@ -184,33 +233,35 @@ fn rebuild_udp(ip_header: &IpRepr, bytes: &[u8], out: &mut [u8]) -> Option<usize
 
 // Rebuilds a TCP segment; copies it if it does not parse with its checksum.
 #[inline(always)]
-fn rebuild_tcp(ip_header: &IpRepr, bytes: &[u8], out: &mut [u8]) -> Option<usize>
-    ensures { let src = src_addr_of ip_header.now in let dst = dst_addr_of ip_header.now in
-        Fills (Some (rebuilt_transport_by Tcp src dst bytes.now)) out.old out.new result }
+fn rebuild_tcp(
+    src_addr: IpAddress,
+    dst_addr: IpAddress,
+    bytes: &[u8],
+    out: &mut [u8],
+) -> Option<usize>
+    requires { version_of src_addr ≡ version_of dst_addr }
+    ensures { Fills (Some (rebuilt_transport_by Tcp src_addr dst_addr bytes.now)) out.old out.new result }
 {
-    let src_addr = ip_header.src_addr();
-    let dst_addr = ip_header.dst_addr();
-    // A segment that is kept is copied whether it parses or not, so it is not summed.
-    if tcp_kept::is_kept(bytes) {
-        return try_copy(out, bytes);
-    }
     if tcp_kept::is_stamped(bytes) {
         if !tcp_kept::is_sound(bytes, &src_addr, &dst_addr) {
             return try_copy(out, bytes);
         }
         return tcp_kept::copy_stamped(bytes, out);
     }
-    rebuild_any_tcp(ip_header, bytes, out)
+    rebuild_any_tcp(src_addr, dst_addr, bytes, out)
 }
 
 // The same by the values of the segment. The call keeps their room out of all other frames.
 #[inline(never)]
-fn rebuild_any_tcp(ip_header: &IpRepr, bytes: &[u8], out: &mut [u8]) -> Option<usize>
-    ensures { let src = src_addr_of ip_header.now in let dst = dst_addr_of ip_header.now in
-        Fills (Some (rebuilt_transport_by Tcp src dst bytes.now)) out.old out.new result }
+fn rebuild_any_tcp(
+    src_addr: IpAddress,
+    dst_addr: IpAddress,
+    bytes: &[u8],
+    out: &mut [u8],
+) -> Option<usize>
+    requires { version_of src_addr ≡ version_of dst_addr }
+    ensures { Fills (Some (rebuilt_transport_by Tcp src_addr dst_addr bytes.now)) out.old out.new result }
 {
-    let src_addr = ip_header.src_addr();
-    let dst_addr = ip_header.dst_addr();
     let caps = ChecksumCapabilities::default();
     let packet = TcpPacket::new_unchecked(bytes);
     match TcpRepr::parse(&packet, &src_addr, &dst_addr, &caps) {

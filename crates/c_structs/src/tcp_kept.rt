@@ -16,11 +16,10 @@ const NO_CHECKSUM: u16 = 0xffff;
 // The length of a header whose only option is a timestamp.
 const STAMPED_LEN: u8 = 32;
 
-/// The kind and the length of a timestamp.
-pub const STAMP: u16 = 0x080a;
+// The kind and the length of a timestamp, and two bytes of no operation before them.
+const STAMP: u16 = 0x080a;
 
-/// Two bytes of no operation, then the kind and the length of a timestamp.
-pub const PADDED_STAMP: u32 = 0x0101_080a;
+const PADDED_STAMP: u32 = 0x0101_080a;
 
 /// Whether a segment has a header that is emitted as it is, with no option or a timestamp.
 #[inline(always)]
@@ -111,9 +110,9 @@ fn has_no_options(bytes: &[u8]) -> bool
     usize::from(TcpPacket::new_unchecked(bytes).header_len()) == TCP_HEADER_LEN
 }
 
-// Whether the options are a timestamp and two zeros.
+/// Whether the options are a timestamp and two zeros.
 #[inline(always)]
-fn has_stamp(bytes: &[u8]) -> bool
+pub fn has_stamp(bytes: &[u8]) -> bool
     ensures { IsTrue result → HasStamp bytes.now }
 {
     if bytes.len() < usize::from(STAMPED_LEN) {
@@ -124,9 +123,9 @@ fn has_stamp(bytes: &[u8]) -> bool
         && NetworkEndian::read_u16(&bytes[30..32]) == 0
 }
 
-// Whether the options are two bytes of no operation and a timestamp.
+/// Whether the options are two bytes of no operation and a timestamp.
 #[inline(always)]
-fn has_padded_stamp(bytes: &[u8]) -> bool
+pub fn has_padded_stamp(bytes: &[u8]) -> bool
     ensures { IsTrue result → HasPaddedStamp bytes.now }
 {
     if bytes.len() < usize::from(STAMPED_LEN) {

@@ -1,12 +1,13 @@
 //! The options of a TCP header, stored in the struct of C.
 
-ghost use Rattle.std.specs.Prelude.{◌≡◌, [], ◌∷◌, IfSome, List, length, pos};
+ghost use Rattle.std.specs.Prelude.{◌≡◌, [], ◌∷◌, List, length, pos};
+ghost use Rattle.ip_wire.specs.Tcp.{HasLengths};
 ghost use Rattle.ip_wire.specs.TcpItems.{Item, item};
-ghost use Rattle.ip_wire.specs.TcpSummary.{Summarizes, summary_of};
+ghost use Rattle.ip_wire.specs.TcpSummary.{summary_of};
 ghost use Rattle.c_structs.specs.TcpOptions.{IsListed, ReadsItems, range_of, tcp_options_of};
 ghost use Rattle.c_structs.specs.Written.{IsRead, flag};
 
-use crate::tcp_kept::{PADDED_STAMP, STAMP};
+use crate::tcp_kept::{has_padded_stamp, has_stamp};
 use crate::types::{SackRange, TcpOptions};
 use byteorder::{ByteOrder, NetworkEndian};
 use ip_wire::{TcpOptionSummary, TcpPacket};
@@ -14,9 +15,6 @@ use wire_tcp_parts::summarize;
 
 // The largest window scale (RFC 7323, section 2.3).
 const MAX_WINDOW_SCALE: u8 = 14;
-
-// The bytes of a timestamp and of two more.
-const STAMP_LIST_LEN: usize = 12;
 
 impl SackRange {
     // The range in this place, or zeros.
@@ -37,31 +35,35 @@ impl TcpOptions {
         ensures { IsRead ReadsItems tcp_options_of header.now self.old self.new (pos (flag result)) }
     {
         match TcpPacket::new_checked(header) {
-            Ok(packet) => self.read_options(packet.options()),
+            Ok(_) => self.read_header(header),
             Err(_) => false,
         }
     }
 
-    // Stores the options of a list.
+    // The same for a header with valid lengths.
     #[inline(always)]
-    pub(super) fn read_options(&mut self, options: &[u8]) -> bool
-        ensures { IsRead IsListed tcp_options_of options.now self.old self.new (pos (flag result)) }
+    pub(super) fn read_header(&mut self, header: &[u8]) -> bool
+        requires { HasLengths header.now }
+        ensures { IsRead ReadsItems tcp_options_of header.now self.old self.new (pos (flag result)) }
     {
+        let options = TcpPacket::new_unchecked(header).options();
         // The common cases have stores of their own, which the compiler does not merge with those of a walk.
         if options.is_empty() {
             *self = TcpOptions::of(&TcpOptionSummary::default());
             return true;
         }
-        match only_timestamp(options) {
-            Some(summary) => {
-                *self = TcpOptions::of(&summary);
-                true
-            }
-            None => self.read_list(options),
+        if has_padded_stamp(header) {
+            *self = TcpOptions::of(&timestamp_in(&header[24..32]));
+            return true;
         }
+        if has_stamp(header) {
+            *self = TcpOptions::of(&timestamp_in(&header[22..30]));
+            return true;
+        }
+        self.read_list(options)
     }
 
-    // The same by a walk. The call keeps its registers out of `read_options`.
+    // Stores the options of a list. The call keeps the registers of a walk out of `read_header`.
     #[inline(never)]
     fn read_list(&mut self, options: &[u8]) -> bool
         ensures { IsRead IsListed tcp_options_of options.now self.old self.new (pos (flag result)) }
@@ -102,23 +104,6 @@ impl TcpOptions {
             has_window_scale: u8::from(summary.window_scale.is_some()),
             has_timestamp: u8::from(summary.timestamp.is_some()),
         }
-    }
-}
-
-// The values of a timestamp that is the only option. `None` if the list is not one of the usual two.
-#[inline(always)]
-fn only_timestamp(options: &[u8]) -> Option<TcpOptionSummary>
-    ensures { IfSome result (Summarizes options.now) }
-{
-    if options.len() != STAMP_LIST_LEN {
-        return None;
-    }
-    if NetworkEndian::read_u32(options) == PADDED_STAMP {
-        Some(timestamp_in(&options[4..12]))
-    } else if NetworkEndian::read_u16(options) == STAMP && options[10] == 0 {
-        Some(timestamp_in(&options[2..10]))
-    } else {
-        None
     }
 }
 

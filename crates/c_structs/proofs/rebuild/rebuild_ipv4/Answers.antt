@@ -14,7 +14,7 @@ returns-in-Ok c =
     let read : ipv4_of true bytes ≡ Some c.in-Ok.header = rw (caps, c.new_unchecked-packet.ensures) at c.in-Ok.ensures.value in
     let whole : is_fragment bytes ≡ false = ap (λ slice. is_fragment slice.now) (sym c.new_unchecked-packet.ensures) ∙ sym c.is_fragment.ensures ∙ c.if-not-is_fragment.true in
     let payload : c.payload.result.now ≡ slice_range bytes (header_len bytes) (total_len bytes) = rw c.new_unchecked-packet.ensures at c.payload.ensures in
-    rw (rebuilt-ipv4 bytes c.in-Ok.header read whole, ← payload) c.rebuild_packet.ensures
+    rw (rebuilt-ipv4 bytes c.in-Ok.header read whole, ← payload) c.rebuild_ipv4_packet.ensures
 
 pub returns-in_default : goal.returns-in_default
 returns-in_default c =
@@ -27,8 +27,8 @@ returns-in_default c =
     ] in
     rw (rebuilt-ipv4-copied bytes copied) c.try_copy.ensures
 
-pub rebuild_packet-requires-clause-protocol : goal.rebuild_packet-requires-clause-protocol
-rebuild_packet-requires-clause-protocol c =
+pub rebuild_ipv4_packet-requires-clause-protocol : goal.rebuild_ipv4_packet-requires-clause-protocol
+rebuild_ipv4_packet-requires-clause-protocol c =
     let bytes = c.args.bytes.now in
     let header = (c.in-Ok.ensures.reads c.in-Ok.header).0 refl in
     let named : c.in-Ok.header.next_header ≡ protocol_of (field bytes 72 8) = rw c.new_unchecked-packet.ensures at header.next_header in

@@ -1,5 +1,7 @@
-use Rattle.std.proofs.Common.{[], ◌∙◌, ◌≤◌, ◌+◌, arith, inl, inr, length, rules, sym}
+use Rattle.std.proofs.Common.{ℕ, [], ◌∙◌, ◌≤◌, arith, inl, inr, length, rules, slice_range, subst, sym}
+use Rattle.ip_wire.specs.Tcp.{HasLengths}
 use Rattle.c_structs.proofs.FrameOptions.{header-found}
+use Rattle.c_structs.specs.TcpOptions.{ReadsItems}
 use Rattle.c_structs.proofs.types.TcpOptions.read_in.Goals as goal
 
 pub returns-then-fields-code : goal.returns-then-fields-code
@@ -8,48 +10,46 @@ returns-then-fields-code c = record {
   none = λ other. c.of.ensures [] c.default.ensures;
 }
 
-pub overflow_add-start : goal.overflow_add-start
-overflow_add-start c =
-    let f = c.args.fields.now in
-    let tcp = c.if-fields-code.false ∙ c.code.ensures in
-    let h = header-found c.args.frame.now f (c.requires tcp) tcp in
-    let least = h.least in
-    let ends = h.ends in
-    let room : f.payload_offset ≤ length c.args.frame.now = h.room in
-    search rules
-
-pub slice_bounds-read_options-count : goal.slice_bounds-read_options-count
-slice_bounds-read_options-count c =
+pub slice_bounds-read_header-count : goal.slice_bounds-read_header-count
+slice_bounds-read_header-count c =
     let tcp = c.if-fields-code.false ∙ c.code.ensures in
     let h = header-found c.args.frame.now c.args.fields.now (c.requires tcp) tcp in
-    let least = h.least in
     let ends = h.ends in
-    omega (arith, least, ends)
+    omega (arith, ends)
 
-pub slice_bounds-read_options-start : goal.slice_bounds-read_options-start
-slice_bounds-read_options-start c =
+pub slice_bounds-read_header-start : goal.slice_bounds-read_header-start
+slice_bounds-read_header-start c =
     let f = c.args.fields.now in
     let tcp = c.if-fields-code.false ∙ c.code.ensures in
     let h = header-found c.args.frame.now f (c.requires tcp) tcp in
-    let least = h.least in
     let ends = h.ends in
-    let order : f.transport_offset + 20 ≤ f.payload_offset = omega (arith, least, ends) in
+    let order : f.transport_offset ≤ f.payload_offset = omega (arith, ends) in
     search rules
 
-pub slice_bounds-read_options-end : goal.slice_bounds-read_options-end
-slice_bounds-read_options-end c =
+pub slice_bounds-read_header-end : goal.slice_bounds-read_header-end
+slice_bounds-read_header-end c =
     let f = c.args.fields.now in
     let tcp = c.if-fields-code.false ∙ c.code.ensures in
     let h = header-found c.args.frame.now f (c.requires tcp) tcp in
     let room : f.payload_offset ≤ length c.args.frame.now = h.room in
     search rules
+
+pub read_header-requires : goal.read_header-requires
+read_header-requires c =
+    let f = c.args.fields.now in
+    let tcp = c.if-fields-code.false ∙ c.code.ensures in
+    let h = header-found c.args.frame.now f (c.requires tcp) tcp in
+    let lengths : HasLengths (slice_range c.args.frame.now f.transport_offset f.payload_offset) = rw h.ends h.reads.lengths in
+    lengths
 
 pub returns : goal.returns
 returns c =
+    let f = c.args.fields.now in
+    let frame = c.args.frame.now in
     let tcp = c.if-fields-code.false ∙ c.code.ensures in
-    let h = header-found c.args.frame.now c.args.fields.now (c.requires tcp) tcp in
-    elim c.read_options.ensures [
-      | inl (one, (items, (tail, list), stored)) ↦
-          record { stored = λ e. (items, record { lengths = h.reads.lengths; tail = tail; list = rw h.options list }, stored); none = λ other. absurd (other tcp) }
-      | inr (zero, same, unread) ↦ absurd (unread h.items (h.reads.tail, rw (← h.options) h.reads.list))
+    let h = header-found frame f (c.requires tcp) tcp in
+    elim c.read_header.ensures [
+      | inl (one, (items, reads, stored)) ↦
+          record { stored = λ e. (items, subst (λ (end : ℕ). ReadsItems (slice_range frame f.transport_offset end) items) h.ends reads, stored); none = λ other. absurd (other tcp) }
+      | inr (zero, same, unread) ↦ absurd (unread h.items (subst (λ (end : ℕ). ReadsItems (slice_range frame f.transport_offset end) h.items) (sym h.ends) h.reads))
     ]
