@@ -31,5 +31,6 @@ mod TcpFronts
 mod TcpKept
 mod TcpResummed
 mod TcpStamped
+mod TcpUsual
 mod UdpKept
 mod WrittenOnce
