@@ -32,5 +32,6 @@ mod TcpFronts
 mod TcpKept
 mod TcpResummed
 mod TcpStamped
+mod TcpUsual
 mod UdpKept
 mod WrittenOnce

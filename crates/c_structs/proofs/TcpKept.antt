@@ -197,7 +197,7 @@ rebuilt-read src dst bytes asked items tail h whole plain has size list offset o
 
 -- ---- no options, or a timestamp
 
-bare-list : (bytes : List ℕ) → header_len bytes ≡ 20 → IsOptionList (options_of bytes) [] []
+pub bare-list : (bytes : List ℕ) → header_len bytes ≡ 20 → IsOptionList (options_of bytes) [] []
 bare-list bytes size = record { each = search; joined = ap (λ (n : ℕ). slice_range bytes 20 n) size; ended = search }
 
 rebuilt-bare : (src dst : IpAddress) (bytes : List ℕ) → AreBytes bytes → AreWords src dst → IsPlain bytes → header_len bytes ≡ 20

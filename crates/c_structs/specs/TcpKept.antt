@@ -42,6 +42,15 @@ pub record HasPaddedStamp (bytes : List ℕ) : Type 0 where
   pub size : header_len bytes ≡ 32
   pub kinds : field bytes 160 32 ≡ 0x0101080a
 
+-- Pinned by: proof of `read`
+-- the segment parses, its checksum apart: its ports are not 0, of the flags it has ACK and at most PSH, and its header
+-- has no option or a timestamp
+pub record IsUsual (bytes : List ℕ) : Type 0 where
+  pub sender : field bytes 0 16 ≢ 0
+  pub receiver : field bytes 16 16 ≢ 0
+  pub flags : (field bytes 104 8 ≡ 0x10) ⊎ (field bytes 104 8 ≡ 0x18)
+  pub list : (header_len bytes ≡ 20) ⊎ HasPaddedStamp bytes ⊎ HasStamp bytes
+
 -- Pinned by: proof of `rebuild_frame`; `judge`
 -- the segment with two zeros after the timestamp instead of the bytes of no operation before it
 abbrev pub with_stamp_first : List ℕ → List ℕ → List ℕ

@@ -3,7 +3,7 @@
 ghost use Rattle.std.specs.Prelude.{◌≡◌, ◌≤◌, ◌↔◌, ◌⊎◌, IsTrue, Some, length};
 ghost use Rattle.ip_wire.specs.IpAddress.{version_of};
 ghost use Rattle.ip_wire.specs.Tcp.{header_len};
-ghost use Rattle.c_structs.specs.TcpKept.{HasPaddedStamp, HasStamp, IsAck, IsPlain, IsSound, with_stamp_first};
+ghost use Rattle.c_structs.specs.TcpKept.{HasPaddedStamp, HasStamp, IsAck, IsPlain, IsSound, IsUsual, with_stamp_first};
 ghost use Rattle.c_structs.specs.Written.{Fills};
 
 use byteorder::{ByteOrder, NetworkEndian};
@@ -36,6 +36,33 @@ pub fn is_stamped(bytes: &[u8]) -> bool
     ensures { IsTrue result → IsPlain bytes.now × HasPaddedStamp bytes.now }
 {
     is_plain(bytes) && has_padded_stamp(bytes)
+}
+
+/// Whether a segment parses, its checksum apart, without a walk over its options: its ports are not 0, of the
+/// flags it has ACK and at most PSH, and its header has no option or a timestamp.
+#[inline(always)]
+pub fn is_usual(bytes: &[u8]) -> bool
+    requires { 20 ≤ length bytes.now }
+    ensures { IsTrue result → IsUsual bytes.now }
+{
+    let packet = TcpPacket::new_unchecked(bytes);
+    matches!(bytes[13], 0x10 | 0x18)
+        && has_usual_list(bytes)
+        && packet.src_port() != 0
+        && packet.dst_port() != 0
+}
+
+// Whether a header has no reserved bit, and no option or a timestamp.
+#[inline(always)]
+fn has_usual_list(bytes: &[u8]) -> bool
+    requires { 20 ≤ length bytes.now }
+    ensures { IsTrue result → (header_len bytes.now ≡ 20) ⊎ HasPaddedStamp bytes.now ⊎ HasStamp bytes.now }
+{
+    match bytes[12] {
+        0x50 => true,
+        0x80 => has_padded_stamp(bytes) || has_stamp(bytes),
+        _ => false,
+    }
 }
 
 /// Whether a segment has a header, ports other than 0, and a valid checksum.

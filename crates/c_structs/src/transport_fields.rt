@@ -9,6 +9,7 @@ ghost use Rattle.c_structs.specs.FrameFields.{rejected_transport, udp_fault, wit
 
 use crate::codes::{Reason, TransportKind, Verdict};
 use crate::faults::{tcp_fault, udp_fault};
+use crate::tcp_kept;
 use crate::types::FrameFields;
 use crate::verdicts::{tcp_verdict, udp_verdict};
 use ip_wire::{
@@ -123,6 +124,9 @@ impl FrameFields {
         }
         let packet = TcpPacket::new_unchecked(bytes);
         self.store_tcp_header(src_addr, dst_addr, &packet);
+        if tcp_kept::is_usual(bytes) {
+            return self.step_after(usize::from(packet.header_len()), packet.payload().len());
+        }
         let caps = ChecksumCapabilities::ignored();
         match TcpRepr::parse(&packet, src_addr, dst_addr, &caps) {
             Ok(_) => self.step_after(usize::from(packet.header_len()), packet.payload().len()),
