@@ -330,16 +330,16 @@ impl FrameFields {
         requires header { 40 ≤ length (ipv6.packet_bytes packet.now) }
         ensures { self.new ≡ with_ipv6_fields self.old (ipv6.packet_bytes packet.now) header.now payload_len }
     {
-        let traffic_class = packet.traffic_class();
+        let first = NetworkEndian::read_u32(&packet.as_bytes()[..4]);
         self.network = NetworkKind::Ipv6.code();
         self.network_offset = self.payload_offset;
         self.src = Endpoint::without_port(IpAddress::Ipv6(header.src_addr));
         self.dst = Endpoint::without_port(IpAddress::Ipv6(header.dst_addr));
-        self.ip.flow_label = packet.flow_label();
+        self.ip.flow_label = first % 1048576;
         self.ip.protocol = packet.as_bytes()[6];
         self.ip.hop_limit = header.hop_limit;
-        self.ip.dscp = traffic_class / 4;
-        self.ip.ecn = traffic_class % 4;
+        self.ip.dscp = (first / 4194304 % 64) as u8;
+        self.ip.ecn = (first / 1048576 % 4) as u8;
         self.step_after(IPV6_HEADER_LEN, payload_len);
     }
 

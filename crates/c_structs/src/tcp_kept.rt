@@ -46,8 +46,8 @@ pub fn is_usual(bytes: &[u8]) -> bool
     ensures { IsTrue result → IsUsual bytes.now }
 {
     let packet = TcpPacket::new_unchecked(bytes);
-    matches!(bytes[13], 0x10 | 0x18)
-        && has_usual_list(bytes)
+    has_usual_list(bytes)
+        && matches!(bytes[13], 0x10 | 0x18)
         && packet.src_port() != 0
         && packet.dst_port() != 0
 }
