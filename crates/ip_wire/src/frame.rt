@@ -128,10 +128,6 @@ impl fmt::Display for Frame<'_> {
 
     fn fmt<W: fmt::Write>(&self, f: &mut fmt::Formatter<W>) -> fmt::Result {
         let (header, carried) = (self.header, &self.carried);
-        let (src, dst, ethertype) = (header.src_addr, header.dst_addr, header.ethertype);
-        write!(
-            f,
-            "EthernetII src={src} dst={dst} type={ethertype}{carried}"
-        )
+        write!(f, "{header}{carried}")
     }
 }

@@ -10,7 +10,7 @@ ghost use Rattle.wire_addr.specs.Prefix.{IsMasked, IsNetmask, number_of};
 ghost use Rattle.wire_addr.specs.Printed.{ipv6_text};
 
 use crate::prefix::mask_128;
-use crate::print::{push_dotted, push_groups};
+use crate::print::push_groups;
 use crate::{HardwareAddress, Ipv4Address, Ipv6Cidr, Ipv6MulticastScope};
 use arrayvec::ArrayString;
 use std::fmt;
@@ -268,14 +268,15 @@ impl Ipv6Address {
         text
     }
 
-    /// Appends the printed text. There must be room.
-    fn push_to<const CAP: usize>(&self, text: &mut ArrayString<CAP>)
+    /// Appends the printed text. There must be room for 39 bytes.
+    pub fn push_to<const CAP: usize>(&self, text: &mut ArrayString<CAP>)
         requires { array_string_len text.old + 39 ≤ CAP }
-        ensures { text.new.bytes ≡ text.old.bytes ++ ipv6_text self.now }
+        ensures bytes { text.new.bytes ≡ text.old.bytes ++ ipv6_text self.now }
+        ensures len { array_string_len text.new ≤ array_string_len text.old + 39 }
     {
         if let Some(ipv4) = self.to_ipv4_mapped() {
             text.push_str("::ffff:");
-            return push_dotted(text, ipv4.octets());
+            return ipv4.push_to(text);
         }
         let groups = self.segments();
         let (start, len) = longest_zero_run(&groups);

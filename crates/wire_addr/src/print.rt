@@ -1,9 +1,9 @@
 //! The parts of printed addresses, appended to a string of fixed capacity.
 
-ghost use Rattle.std.specs.Prelude.{◌≡◌, ◌+◌, ◌*◌, ◌/◌, ◌%◌, ◌≤◌, [], ◌∷◌, ◌++◌, decimal, drop, length, take};
+ghost use Rattle.std.specs.Prelude.{◌≡◌, ◌+◌, ◌-◌, ◌*◌, ◌/◌, ◌%◌, ◌≤◌, [], ◌∷◌, ◌++◌, decimal, drop, length, take};
 ghost use Rattle.std.specs.Str.{IsAscii};
 ghost use Rattle.arrayvec.specs.ArrayString.{array_string_len};
-ghost use Rattle.wire_addr.specs.Printed.{WritesAt, colon_hex, dotted, hex};
+ghost use Rattle.wire_addr.specs.Printed.{WritesAt, colon_hex, dotted, hex, hex_byte};
 
 use crate::tables::{decimal_dots, hex_pair};
 use arrayvec::ArrayString;
@@ -121,13 +121,25 @@ fn push_decimal_dot<const CAP: usize>(text: &mut ArrayString<CAP>, n: u8)
 /// Appends four decimal numbers joined by `.`.
 pub(crate) fn push_dotted<const CAP: usize>(text: &mut ArrayString<CAP>, octets: [u8; 4])
     requires { array_string_len text.old + 15 ≤ CAP }
-    ensures { text.new.bytes ≡ text.old.bytes ++ dotted octets }
+    ensures bytes { text.new.bytes ≡ text.old.bytes ++ dotted octets }
+    ensures len { array_string_len text.new ≤ array_string_len text.old + 15 }
 {
     let [a, b, c, d] = octets;
     push_decimal_dot(text, a);
     push_decimal_dot(text, b);
     push_decimal_dot(text, c);
     push_decimal(text, d);
+}
+
+/// Appends a byte in two lower-case hex digits.
+#[inline(always)]
+pub fn push_hex_byte<const CAP: usize>(text: &mut ArrayString<CAP>, octet: u8)
+    requires { array_string_len text.old + 2 ≤ CAP }
+    ensures bytes { text.new.bytes ≡ text.old.bytes ++ hex_byte octet }
+    ensures len { array_string_len text.new ≡ array_string_len text.old + 2 }
+{
+    let (high, low) = hex_pair(octet);
+    push_ascii(text, &[high, low]);
 }
 
 /// Appends a group in hex with no leading zeros.
@@ -152,7 +164,7 @@ fn push_hex<const CAP: usize>(text: &mut ArrayString<CAP>, group: u16)
 pub(crate) fn push_groups<const CAP: usize>(text: &mut ArrayString<CAP>, groups: &[u16])
     requires { array_string_len text.old + 5 * length groups.now ≤ CAP + 1 }
     ensures bytes { text.new.bytes ≡ text.old.bytes ++ colon_hex groups.now }
-    ensures len { array_string_len text.new ≤ array_string_len text.old + 5 * length groups.now }
+    ensures len { array_string_len text.new ≤ array_string_len text.old + (5 * length groups.now - 1) }
 {
     if let [first, rest @ ..] = groups {
         push_hex(text, *first);

@@ -1,9 +1,12 @@
 //! IP protocol numbers.
 
-ghost use Rattle.std.specs.Prelude.{◌≡◌, Some};
+ghost use Rattle.std.specs.Prelude.{◌≡◌, ◌+◌, ◌≤◌, ◌++◌, Some};
+ghost use Rattle.arrayvec.specs.ArrayString.{array_string_len};
 ghost use Rattle.wire_ends.specs.Protocol.{number_of, protocol_of, protocol_text};
 
+use arrayvec::ArrayString;
 use std::fmt;
+use wire_addr::push_hex_byte;
 
 /// The protocol of an IP packet's payload, by the number that IANA assigned to it.
 #[derive(Debug, Clone, Copy, PartialEq, Eq, PartialOrd, Ord, Hash)]
@@ -45,6 +48,32 @@ impl IpProtocol {
             IpProtocol::Unknown(other) => other,
         }
     }
+
+    /// Appends the printed text: the name, or `0x` and two hex digits. There must be room for 10 bytes.
+    pub fn push_to<const CAP: usize>(self, text: &mut ArrayString<CAP>)
+        requires { array_string_len text.old + 10 ≤ CAP }
+        ensures bytes { text.new.bytes ≡ text.old.bytes ++ protocol_text self }
+        ensures len { array_string_len text.new ≤ array_string_len text.old + 10 }
+    {
+        match self {
+            IpProtocol::HopByHop => text.push_str("Hop-by-Hop"),
+            IpProtocol::Icmp => text.push_str("ICMP"),
+            IpProtocol::Igmp => text.push_str("IGMP"),
+            IpProtocol::Tcp => text.push_str("TCP"),
+            IpProtocol::Udp => text.push_str("UDP"),
+            IpProtocol::Ipv6Route => text.push_str("IPv6-Route"),
+            IpProtocol::Ipv6Frag => text.push_str("IPv6-Frag"),
+            IpProtocol::IpSecEsp => text.push_str("IPsec-ESP"),
+            IpProtocol::IpSecAh => text.push_str("IPsec-AH"),
+            IpProtocol::Icmpv6 => text.push_str("ICMPv6"),
+            IpProtocol::Ipv6NoNxt => text.push_str("IPv6-NoNxt"),
+            IpProtocol::Ipv6Opts => text.push_str("IPv6-Opts"),
+            IpProtocol::Unknown(id) => {
+                text.push_str("0x");
+                push_hex_byte(text, id);
+            }
+        }
+    }
 }
 
 impl From<u8> for IpProtocol {
@@ -82,22 +111,9 @@ impl From<IpProtocol> for u8 {
 impl fmt::Display for IpProtocol {
     ghost output = { λ p. Some (protocol_text p) };
 
-    #[tactic(auto, using(wire_addr::proofs::Prints::padded_hex_byte))]
     fn fmt<W: fmt::Write>(&self, f: &mut fmt::Formatter<W>) -> fmt::Result {
-        match *self {
-            IpProtocol::HopByHop => write!(f, "Hop-by-Hop"),
-            IpProtocol::Icmp => write!(f, "ICMP"),
-            IpProtocol::Igmp => write!(f, "IGMP"),
-            IpProtocol::Tcp => write!(f, "TCP"),
-            IpProtocol::Udp => write!(f, "UDP"),
-            IpProtocol::Ipv6Route => write!(f, "IPv6-Route"),
-            IpProtocol::Ipv6Frag => write!(f, "IPv6-Frag"),
-            IpProtocol::IpSecEsp => write!(f, "IPsec-ESP"),
-            IpProtocol::IpSecAh => write!(f, "IPsec-AH"),
-            IpProtocol::Icmpv6 => write!(f, "ICMPv6"),
-            IpProtocol::Ipv6NoNxt => write!(f, "IPv6-NoNxt"),
-            IpProtocol::Ipv6Opts => write!(f, "IPv6-Opts"),
-            IpProtocol::Unknown(id) => write!(f, "0x{id:02x}"),
-        }
+        let mut text = ArrayString::<10>::new();
+        self.push_to(&mut text);
+        f.write_str(text.as_str())
     }
 }

@@ -1,18 +1,20 @@
 //! Frames of Ethernet II: what they carry, their views and the values of their header.
 
-ghost use Rattle.std.specs.Prelude.{◌≡◌, ◌↔◌, ◌≤◌, ◌+◌, ◌^◌, ◌<◌, ◌++◌, IfOk, IsOk, Ok, OnOk, Some, drop, length, slice_range};
+ghost use Rattle.std.specs.Prelude.{◌≡◌, ◌↔◌, ◌≤◌, ◌+◌, ◌^◌, ◌<◌, ◌++◌, [], IfOk, IsOk, Ok, OnOk, Some, drop, length, slice_range};
 ghost use Rattle.std.specs.Result.{result_ok};
 ghost use Rattle.std.specs.Borrow.{sem};
+ghost use Rattle.arrayvec.specs.ArrayString.{array_string_len};
 ghost use Rattle.wire_field.specs.Field.{field, with_field, with_range};
 ghost use Rattle.wire_field.specs.Borrow.{Checks, Holds, Locates, StaysIfErr};
 ghost use Rattle.wire_ethernet.specs.EthernetBorrow.{BorrowsPayload};
-ghost use Rattle.wire_ethernet.specs.Ethernet.{Becomes, Reads, bytes_of, ethernet_of, frame_bytes, frame_bytes_mut, frame_slice, frame_text, number_of, protocol_of, protocol_text};
+ghost use Rattle.wire_ethernet.specs.Ethernet.{Becomes, Reads, bytes_of, ethernet_of, frame_bytes, frame_bytes_mut, frame_slice, frame_text, header_text, number_of, protocol_of, protocol_text};
 ghost use Rattle.wire_ethernet.specs.declared.ethernet.EthernetRepr.{EthernetRepr};
 
+use arrayvec::ArrayString;
 use byteorder::{ByteOrder, NetworkEndian};
 use net_base::{Error, Result};
 use std::fmt;
-use wire_addr::EthernetAddress;
+use wire_addr::{EthernetAddress, push_hex_byte};
 use wire_field::{Checked, Located, Octets, debug_view, write_six};
 
 /// The length of a frame's header.
@@ -42,6 +44,24 @@ impl EthernetProtocol {
             EthernetProtocol::Arp => 0x0806,
             EthernetProtocol::Ipv6 => 0x86dd,
             EthernetProtocol::Unknown(other) => other,
+        }
+    }
+
+    // Appends the name, or `0x` and four hex digits. There must be room for 6 bytes.
+    fn push_to<const CAP: usize>(self, text: &mut ArrayString<CAP>)
+        requires { array_string_len text.old + 6 ≤ CAP }
+        ensures bytes { text.new.bytes ≡ text.old.bytes ++ protocol_text self }
+        ensures len { array_string_len text.new ≤ array_string_len text.old + 6 }
+    {
+        match self {
+            EthernetProtocol::Ipv4 => text.push_str("IPv4"),
+            EthernetProtocol::Arp => text.push_str("ARP"),
+            EthernetProtocol::Ipv6 => text.push_str("IPv6"),
+            EthernetProtocol::Unknown(id) => {
+                text.push_str("0x");
+                push_hex_byte(text, (id / 256) as u8);
+                push_hex_byte(text, (id % 256) as u8);
+            }
         }
     }
 }
@@ -74,12 +94,9 @@ impl fmt::Display for EthernetProtocol {
     ghost output = { λ p. Some (protocol_text p) };
 
     fn fmt<W: fmt::Write>(&self, f: &mut fmt::Formatter<W>) -> fmt::Result {
-        match *self {
-            EthernetProtocol::Ipv4 => write!(f, "IPv4"),
-            EthernetProtocol::Arp => write!(f, "ARP"),
-            EthernetProtocol::Ipv6 => write!(f, "IPv6"),
-            EthernetProtocol::Unknown(id) => write!(f, "0x{id:04x}"),
-        }
+        let mut text = ArrayString::<6>::new();
+        self.push_to(&mut text);
+        f.write_str(text.as_str())
     }
 }
 
@@ -207,10 +224,7 @@ impl fmt::Display for EthernetFrame<'_> {
 
     fn fmt<W: fmt::Write>(&self, f: &mut fmt::Formatter<W>) -> fmt::Result {
         match EthernetRepr::parse(self) {
-            Ok(header) => {
-                let (src, dst, ethertype) = (header.src_addr, header.dst_addr, header.ethertype);
-                write!(f, "EthernetII src={src} dst={dst} type={ethertype}")
-            }
+            Ok(header) => write!(f, "{header}"),
             Err(error) => write!(f, "EthernetII ({error})"),
         }
     }
@@ -330,5 +344,28 @@ impl EthernetRepr {
         write_six(frame.buffer, &self.dst_addr.0);
         write_six(&mut frame.buffer[6..12], &self.src_addr.0);
         NetworkEndian::write_u16(&mut frame.buffer[12..14], self.ethertype.number());
+    }
+
+    // Writes the printed text into an empty string.
+    fn push_to(&self, text: &mut ArrayString<66>)
+        requires { text.old.bytes ≡ [] }
+        ensures { text.new.bytes ≡ header_text self.now }
+    {
+        text.push_str("EthernetII src=");
+        self.src_addr.push_to(text);
+        text.push_str(" dst=");
+        self.dst_addr.push_to(text);
+        text.push_str(" type=");
+        self.ethertype.push_to(text);
+    }
+}
+
+impl fmt::Display for EthernetRepr {
+    ghost output = { λ v. Some (header_text v) };
+
+    fn fmt<W: fmt::Write>(&self, f: &mut fmt::Formatter<W>) -> fmt::Result {
+        let mut text = ArrayString::new();
+        self.push_to(&mut text);
+        f.write_str(text.as_str())
     }
 }

@@ -1,6 +1,6 @@
 //! The values of an IPv4 header.
 
-ghost use Rattle.std.specs.Prelude.{◌≡◌, ◌↔◌, ◌-◌, ◌≤◌, ◌++◌, Ok, OnOk, Some, drop, length};
+ghost use Rattle.std.specs.Prelude.{◌≡◌, ◌↔◌, ◌-◌, ◌≤◌, ◌++◌, [], Ok, OnOk, Some, drop, length};
 ghost use Rattle.std.specs.Result.{result_ok};
 ghost use Rattle.net_base.specs.Checksum.{computes, verifies};
 ghost use Rattle.wire_checksum.specs.WordSum.{sum_of_bytes};
@@ -9,6 +9,7 @@ ghost use Rattle.wire_ipv4.specs.Ipv4Text.{value_text};
 ghost use Rattle.wire_ipv4.specs.declared.ipv4.repr.Ipv4Repr.{Ipv4Repr};
 
 use super::{IPV4_HEADER_LEN, Ipv4Packet, Ipv4PacketMut};
+use arrayvec::ArrayString;
 use byteorder::{ByteOrder, NetworkEndian};
 use net_base::{ChecksumCapabilities, Error, Result};
 use std::fmt;
@@ -104,14 +105,28 @@ impl Ipv4Repr {
         NetworkEndian::write_u16(&mut header[10..12], checksum);
         header
     }
+
+    // Writes the printed text into an empty string.
+    #[tactic(auto, unfolding(crate::specs::Ipv4Text::value_text))]
+    fn push_to(&self, text: &mut ArrayString<61>)
+        requires { text.old.bytes ≡ [] }
+        ensures { text.new.bytes ≡ value_text self.now }
+    {
+        text.push_str("IPv4 src=");
+        self.src_addr.push_to(text);
+        text.push_str(" dst=");
+        self.dst_addr.push_to(text);
+        text.push_str(" proto=");
+        self.next_header.push_to(text);
+    }
 }
 
 impl fmt::Display for Ipv4Repr {
     ghost output = { λ v. Some (value_text v) };
 
-    #[tactic(auto, unfolding(crate::specs::Ipv4Text::value_text))]
     fn fmt<W: fmt::Write>(&self, f: &mut fmt::Formatter<W>) -> fmt::Result {
-        let (src, dst, protocol) = (self.src_addr, self.dst_addr, self.next_header);
-        write!(f, "IPv4 src={src} dst={dst} proto={protocol}")
+        let mut text = ArrayString::new();
+        self.push_to(&mut text);
+        f.write_str(text.as_str())
     }
 }

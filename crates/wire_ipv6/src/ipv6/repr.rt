@@ -1,12 +1,14 @@
 //! The values of an IPv6 header.
 
-ghost use Rattle.std.specs.Prelude.{◌≡◌, ◌↔◌, ◌≤◌, ◌++◌, Ok, OnOk, Some, drop, length};
+ghost use Rattle.std.specs.Prelude.{◌≡◌, ◌↔◌, ◌≤◌, ◌++◌, [], Ok, OnOk, Some, drop, length};
 ghost use Rattle.std.specs.Result.{result_ok};
 ghost use Rattle.wire_ipv6.specs.Ipv6.{Becomes, HasLengths, Reads, bytes_of, ipv6_of, packet_bytes, packet_bytes_mut};
 ghost use Rattle.wire_ipv6.specs.Ipv6Text.{value_text};
 ghost use Rattle.wire_ipv6.specs.declared.ipv6.repr.Ipv6Repr.{Ipv6Repr};
 
 use super::{IPV6_HEADER_LEN, Ipv6Packet, Ipv6PacketMut};
+use arrayvec::ArrayString;
+use itoa::Buffer;
 use net_base::{Error, Result};
 use std::fmt;
 use wire_addr::Ipv6Address;
@@ -68,17 +70,30 @@ impl Ipv6Repr {
         packet.set_src_addr(value.src_addr);
         packet.set_dst_addr(value.dst_addr);
     }
+
+    // Writes the printed text into an empty string.
+    #[tactic(auto, unfolding(crate::specs::Ipv6Text::value_text))]
+    fn push_to(&self, text: &mut ArrayString<125>)
+        requires { text.old.bytes ≡ [] }
+        ensures { text.new.bytes ≡ value_text self.now }
+    {
+        text.push_str("IPv6 src=");
+        self.src_addr.push_to(text);
+        text.push_str(" dst=");
+        self.dst_addr.push_to(text);
+        text.push_str(" nxt_hdr=");
+        self.next_header.push_to(text);
+        text.push_str(" hop_limit=");
+        text.push_str(Buffer::new().format(self.hop_limit));
+    }
 }
 
 impl fmt::Display for Ipv6Repr {
     ghost output = { λ v. Some (value_text v) };
 
     fn fmt<W: fmt::Write>(&self, f: &mut fmt::Formatter<W>) -> fmt::Result {
-        let (src, dst) = (self.src_addr, self.dst_addr);
-        let (protocol, hop_limit) = (self.next_header, self.hop_limit);
-        write!(
-            f,
-            "IPv6 src={src} dst={dst} nxt_hdr={protocol} hop_limit={hop_limit}"
-        )
+        let mut text = ArrayString::new();
+        self.push_to(&mut text);
+        f.write_str(text.as_str())
     }
 }

@@ -1,6 +1,6 @@
 //! The values of a UDP header.
 
-ghost use Rattle.std.specs.Prelude.{◌≡◌, ◌↔◌, ◌≤◌, ◌+◌, ◌++◌, Ok, OnOk, Some, drop, length};
+ghost use Rattle.std.specs.Prelude.{◌≡◌, ◌↔◌, ◌≤◌, ◌+◌, ◌++◌, [], Ok, OnOk, Some, drop, length};
 ghost use Rattle.std.specs.Result.{result_ok};
 ghost use Rattle.net_base.specs.Checksum.{computes, verifies};
 ghost use Rattle.wire_ends.specs.IpAddress.{version_of};
@@ -10,6 +10,8 @@ ghost use Rattle.wire_udp.specs.UdpText.{value_text};
 ghost use Rattle.wire_udp.specs.declared.udp.repr.UdpRepr.{UdpRepr};
 
 use super::{UDP_HEADER_LEN, UdpPacket, UdpPacketMut, checksum_for};
+use arrayvec::ArrayString;
+use itoa::Buffer;
 use net_base::{ChecksumCapabilities, Error, Result};
 use std::fmt;
 use wire_checksum::for_emit;
@@ -146,13 +148,25 @@ impl UdpRepr {
         let header = [a, b, c, d, e, f, 0, 0];
         checksum_for(for_emit::packet(src_addr, dst_addr, IpProtocol::Udp, &header, payload))
     }
+
+    // Writes the printed text into an empty string.
+    fn push_to(&self, text: &mut ArrayString<23>)
+        requires { text.old.bytes ≡ [] }
+        ensures { text.new.bytes ≡ value_text self.now }
+    {
+        text.push_str("UDP src=");
+        text.push_str(Buffer::new().format(self.src_port));
+        text.push_str(" dst=");
+        text.push_str(Buffer::new().format(self.dst_port));
+    }
 }
 
 impl fmt::Display for UdpRepr {
     ghost output = { λ v. Some (value_text v) };
 
     fn fmt<W: fmt::Write>(&self, f: &mut fmt::Formatter<W>) -> fmt::Result {
-        let (src, dst) = (self.src_port, self.dst_port);
-        write!(f, "UDP src={src} dst={dst}")
+        let mut text = ArrayString::new();
+        self.push_to(&mut text);
+        f.write_str(text.as_str())
     }
 }

@@ -18,7 +18,10 @@ push_ascii-requires g c =
     let ascii = pairs_ascii _ _ _ _ _ _ _ _ _ _ _ _ c.hex_pair-a.ensures.ascii c.hex_pair-b.ensures.ascii c.hex_pair-c.ensures.ascii c.hex_pair-d.ensures.ascii c.hex_pair-e.ensures.ascii c.hex_pair-f.ensures.ascii in
     (search rules, (ascii, search rules))
 
-pub returns : goal.returns
-returns g c =
+pub returns-clause-bytes : goal.returns-clause-bytes
+returns-clause-bytes g c =
     let pairs = (rw (c.hex_pair-a.ensures.high, c.hex_pair-a.ensures.low, c.hex_pair-b.ensures.high, c.hex_pair-b.ensures.low, c.hex_pair-c.ensures.high, c.hex_pair-c.ensures.low, c.hex_pair-d.ensures.high, c.hex_pair-d.ensures.low, c.hex_pair-e.ensures.high, c.hex_pair-e.ensures.low, c.hex_pair-f.ensures.high, c.hex_pair-f.ensures.low) at c.push_ascii.ensures.bytes) in
     pairs ∙ ap (λ bytes. c.args.text.now.bytes ++ bytes) (sym (ap dashed (six_items c.args.self.now.0 (search rules))))
+
+pub returns-clause-len : goal.returns-clause-len
+returns-clause-len g c = c.push_ascii.ensures.len
