@@ -21,7 +21,6 @@ mod Ipv4Words
 mod Ipv6Put
 mod Ipv6Words
 mod Numbered
-mod OnlyTimestamp
 mod PlacedSums
 mod RejectedApart
 mod Steps

@@ -2,8 +2,8 @@
 
 ghost use Rattle.std.specs.Prelude.{◌≡◌, ◌≢◌, ◌≤◌, ◌++◌, IsTrue, Some, drop, length, true};
 ghost use Rattle.ip_wire.specs.Field.{field};
-ghost use Rattle.ip_wire.specs.Frame.{rebuilt_transport_by, rebuilt_packet, rebuilt_payload, rebuilt_transport};
-ghost use Rattle.ip_wire.specs.Ip.{bytes_of, max_payload_len, next_header_of, with_payload_len};
+ghost use Rattle.ip_wire.specs.Frame.{rebuilt_transport_by, rebuilt_payload, rebuilt_transport};
+ghost use Rattle.ip_wire.specs.Ip.{bytes_of, next_header_of, with_payload_len};
 ghost use Rattle.ip_wire.specs.IpAddress.{version_of};
 ghost use Rattle.ip_wire.specs.Ipv6.{header_of};
 ghost use Rattle.ip_wire.specs.Protocol.{protocol_of};
@@ -78,84 +78,41 @@ fn rebuild_arp(bytes: &[u8], out: &mut [u8]) -> Option<usize>
     }
 }
 
-// Rebuilds an IPv4 packet; copies it if it does not parse with its checksum, or is a fragment.
+// Rebuilds an IPv4 packet; copies it if it does not parse with its checksum, or is a fragment. The payload
+// length is set to that of the rebuilt payload.
 fn rebuild_ipv4(bytes: &[u8], out: &mut [u8]) -> Option<usize>
     ensures { Fills (Some (rebuilt_payload Ipv4 bytes.now)) out.old out.new result }
 {
     let packet = Ipv4Packet::new_unchecked(bytes);
     match Ipv4Repr::parse(&packet, &ChecksumCapabilities::default()) {
         Ok(header) if !packet.is_fragment() => {
-            rebuild_ipv4_packet(header, bytes[IPV4_PROTOCOL], packet.payload(), out)
-        }
-        _ => try_copy(out, bytes),
-    }
-}
-
-// Rebuilds an IPv4 packet with this header and protocol number. The payload length is set to that of the
-// rebuilt payload.
-#[inline(always)]
-fn rebuild_ipv4_packet(
-    header: Ipv4Repr,
-    protocol: u8,
-    payload: &[u8],
-    out: &mut [u8],
-) -> Option<usize>
-    requires len { length payload.now ≤ max_payload_len (repr.Ipv4 header) }
-    requires protocol { header.next_header ≡ protocol_of protocol }
-    ensures { Fills (Some (rebuilt_packet (repr.Ipv4 header) payload.now)) out.old out.new result }
-{
-    if out.len() < IPV4_HEADER_LEN {
-        return None;
-    }
-    let (front, rest) = out.split_at_mut(IPV4_HEADER_LEN);
-    let header = IpRepr::Ipv4(header);
-    match rebuild_transport(&header, protocol, payload, rest) {
-        Some(payload_len) => {
+            let (front, rest) = out.split_at_mut_checked(IPV4_HEADER_LEN)?;
+            let (header, protocol) = (IpRepr::Ipv4(header), bytes[IPV4_PROTOCOL]);
+            let payload_len = rebuild_transport(&header, protocol, packet.payload(), rest)?;
             // A number is written as it is: the name of a protocol would first be looked up in a table.
             let header = header.before(IpProtocol::Unknown(protocol), payload_len);
             header.emit(front, &ChecksumCapabilities::default());
             Some(IPV4_HEADER_LEN + payload_len)
         }
-        None => None,
+        _ => try_copy(out, bytes),
     }
 }
 
-// Rebuilds an IPv6 packet; copies it if it does not parse.
+// Rebuilds an IPv6 packet; copies it if it does not parse. The payload length is set to that of the rebuilt
+// payload.
 fn rebuild_ipv6(bytes: &[u8], out: &mut [u8]) -> Option<usize>
     ensures { Fills (Some (rebuilt_payload Ipv6 bytes.now)) out.old out.new result }
 {
     let packet = Ipv6Packet::new_unchecked(bytes);
     match Ipv6Repr::parse(&packet) {
-        Ok(header) => rebuild_ipv6_packet(header, bytes, packet.payload(), out),
-        Err(_) => try_copy(out, bytes),
-    }
-}
-
-// Rebuilds an IPv6 packet with this header, which the bytes begin with. The payload length is set to that of
-// the rebuilt payload.
-#[inline(always)]
-fn rebuild_ipv6_packet(
-    header: Ipv6Repr,
-    bytes: &[u8],
-    payload: &[u8],
-    out: &mut [u8],
-) -> Option<usize>
-    requires len { length payload.now ≤ max_payload_len (repr.Ipv6 header) }
-    requires whole { 40 ≤ length bytes.now }
-    requires header { header ≡ header_of bytes.now }
-    ensures { Fills (Some (rebuilt_packet (repr.Ipv6 header) payload.now)) out.old out.new result }
-{
-    if out.len() < IPV6_HEADER_LEN {
-        return None;
-    }
-    let (front, rest) = out.split_at_mut(IPV6_HEADER_LEN);
-    let protocol = bytes[IPV6_NEXT_HEADER];
-    match rebuild_transport(&IpRepr::Ipv6(header), protocol, payload, rest) {
-        Some(payload_len) => {
+        Ok(header) => {
+            let (front, rest) = out.split_at_mut_checked(IPV6_HEADER_LEN)?;
+            let (header, protocol) = (IpRepr::Ipv6(header), bytes[IPV6_NEXT_HEADER]);
+            let payload_len = rebuild_transport(&header, protocol, packet.payload(), rest)?;
             put_ipv6(bytes, payload_len, front);
             Some(IPV6_HEADER_LEN + payload_len)
         }
-        None => None,
+        Err(_) => try_copy(out, bytes),
     }
 }
 
