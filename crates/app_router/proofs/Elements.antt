@@ -4,10 +4,10 @@ use Rattle.std.specs.List.Sorted.{IsNonDecreasingBy, IsPermutation}
 use Rattle.std.proofs.Math.ListN.{get_or-map as get_or-map_at}
 use Rattle.std.proofs.lemmas.List.{get_or-map, get_or_default, length-map}
 use Rattle.std.proofs.lemmas.List.Elements.{Contains-get_or}
-use Rattle.std.proofs.lemmas.List.Sorted.{Contains-permutation, IsPermutation-sym}
+use Rattle.std.proofs.lemmas.List.Sorted.{Contains-permutation, IsPermutation-sym, length_permutation}
 use Rattle.app_router.proofs.Finds.{IsNodeOf, node_of-IsNodeOf}
 use Rattle.app_router.proofs.Places.{place_from_rank}
-use Rattle.app_router.specs.Index.{IsBlock, IsFilled, block_at, node_at, node_of, node_with, place, rank, unlinked}
+use Rattle.app_router.specs.Index.{IsBlock, IsFilled, IsIndex, block_at, node_at, node_of, node_with, place, rank, unlinked}
 use Rattle.app_router.specs.declared.index.Node.{Node}
 use Rattle.ip_wire.specs.declared.IpCidr.{IpCidr}
 
@@ -39,12 +39,17 @@ node_block blocks made nodes k filled moved below =
     (i, within, node_from (block_at blocks i) i (node_at nodes k) each.0 (sym found.2 ∙ ap unlinked each.1))
 
 -- each block has a node
+pub node_for : (blocks : List IpCidr) (made nodes : List Node) (i : ℕ) → IsFilled blocks made → IsPermutation (map unlinked made) (map unlinked nodes)
+    → i < length blocks → (k : ℕ) × (k < length nodes) × (unlinked (node_at nodes k) ≡ node_of (block_at blocks i) i)
+node_for blocks made nodes i filled moved below =
+    let found = moved_at made nodes i moved (subst (λ n. i < n) (sym filled.len) below) in
+    (found.0, found.1, found.2 ∙ ap unlinked (filled.each i below).1)
+
 pub block_node : (blocks : List IpCidr) (made nodes : List Node) (i : ℕ) → IsFilled blocks made → IsPermutation (map unlinked made) (map unlinked nodes)
     → i < length blocks → (k : ℕ) × (k < length nodes) × IsNodeOf (block_at blocks i) i (node_at nodes k)
 block_node blocks made nodes i filled moved below =
-    let found = moved_at made nodes i moved (subst (λ n. i < n) (sym filled.len) below) in
-    let each = filled.each i below in
-    (found.0, found.1, node_from (block_at blocks i) i (node_at nodes found.0) each.0 (found.2 ∙ ap unlinked each.1))
+    let found = node_for blocks made nodes i filled moved below in
+    (found.0, found.1, node_from (block_at blocks i) i (node_at nodes found.0) (filled.each i below).0 found.2)
 
 -- in order their places are in order too
 pub placed : (blocks : List IpCidr) (made nodes : List Node) → IsFilled blocks made → IsPermutation (map unlinked made) (map unlinked nodes)
@@ -57,3 +62,8 @@ placed blocks made nodes filled moved sorted i j d le below =
     let up = place_from_rank (node_at nodes i) (node_at nodes j) (omega (arith, a.len_fits)) (omega (arith, b.len_fits)) (sorted i j z le below) in
     subst (λ n. place n ≤ place (get_or nodes j d)) (get_or_default nodes i z d first)
     (subst (λ n. place (node_at nodes i) ≤ place n) (get_or_default nodes j z d below) up)
+
+-- there are as many nodes as blocks
+pub counted : (blocks : List IpCidr) (nodes : List Node) → IsIndex blocks nodes → length blocks ≡ length nodes
+counted blocks nodes index =
+    sym index.filled.len ∙ sym (length-map index.made unlinked) ∙ sym (length_permutation (map unlinked index.made) (map unlinked nodes) index.moved) ∙ length-map nodes unlinked

@@ -33,13 +33,13 @@ agree_from_numbers m n xs ys are_xs are_ys le same =
     (member_test m n (number_of xs) (number_of ys) mask xs ys are_xs are_ys le refl refl refl).0 (eq-eqb _ _ e)
 
 -- bytes agree in their first bits exactly if the prefixes of their numbers do
-agrees : (m n : ℕ) (xs ys : List ℕ) → IsByteArray m xs → IsByteArray m ys → n ≤ 8 * m
+pub agrees : (m n : ℕ) (xs ys : List ℕ) → IsByteArray m xs → IsByteArray m ys → n ≤ 8 * m
     → AgreeFirst n xs ys ↔ (number_of xs / 2 ^ (8 * m - n) ≡ number_of ys / 2 ^ (8 * m - n))
 agrees m n xs ys are_xs are_ys le =
     (numbers_from_agree m n (8 * m - n) xs ys are_xs are_ys (omega (arith, le)), agree_from_numbers m n xs ys are_xs are_ys le)
 
 -- the prefix of an IPv4 address
-raised : (x n : ℕ) → n ≤ 32 → x * 2 ^ 96 / 2 ^ (128 - n) ≡ x / 2 ^ (32 - n)
+pub raised : (x n : ℕ) → n ≤ 32 → x * 2 ^ 96 / 2 ^ (128 - n) ≡ x / 2 ^ (32 - n)
 raised x n le =
     let e : 128 - n ≡ 96 + (32 - n) = omega (arith, le) in
     ap (λ z. x * 2 ^ 96 / 2 ^ z) e ∙ sym (shr-shr (x * 2 ^ 96) 96 (32 - n)) ∙ ap (λ x. x / 2 ^ (32 - n)) (shl-shr x 96)
@@ -69,7 +69,7 @@ number_below (x ∷ octets) fits =
     let power : 2 ^ (8 * suc (length octets)) ≡ w * 2 ^ 8 = ap (λ n. 2 ^ n) e ∙ pow-add 2 (8 * length octets) 8 in
     rw power (mul-add-lt x w (number_of octets) (2 ^ 8) (fits 0) (number_below octets (λ k. fits (suc k))))
 
-number_of-lt : (m : ℕ) (octets : List ℕ) → IsByteArray m octets → number_of octets < 2 ^ (8 * m)
+pub number_of-lt : (m : ℕ) (octets : List ℕ) → IsByteArray m octets → number_of octets < 2 ^ (8 * m)
 number_of-lt m octets are = subst (λ m. number_of octets < 2 ^ (8 * m)) are.0 (number_below octets are.1)
 
 first_bits-lt : (addr : IpAddress) → IsAddress addr → first_bits addr < 2 ^ 128

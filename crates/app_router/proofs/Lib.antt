@@ -7,6 +7,8 @@ pub mod Forwards
 pub mod Links
 pub mod Places
 pub mod Problems
+pub mod Ranges
 pub mod RouteSteps
 pub mod RoutesOnce
 pub mod Splits
+pub mod TableParts

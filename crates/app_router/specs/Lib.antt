@@ -3,3 +3,4 @@ pub mod IcmpProblem
 pub mod Index
 pub mod Route
 pub mod Source
+pub mod Table

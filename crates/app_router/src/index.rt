@@ -7,6 +7,7 @@ ghost use Rattle.app_router.specs.Index.{AreLinked, Encloses, IsBlock, IsChosenA
 ghost use Rattle.app_router.specs.Route.{IsChosen, Leads};
 ghost use Rattle.ip_wire.specs.IpAddress.{IsAddress};
 ghost use Rattle.ip_wire.specs.IpCidr.{IsIn};
+ghost use Rattle.ip_wire.specs.declared.IpAddress.{IpAddress};
 ghost use Rattle.ip_wire.specs.declared.IpCidr.{IpCidr};
 
 mod hints;
@@ -77,6 +78,22 @@ impl Node {
     {
         let (high, low) = (self.high, self.low);
         u128::from(high) << 64 | u128::from(low)
+    }
+
+    // The first 64 bits of the first address of an IPv4 block and of the address after its last, which is 0 after
+    // the last of all. Zeros for another block.
+    pub fn bounds(&self) -> (u64, u64)
+        ensures { self.now.version ≡ 4 → (result.0 ≡ self.now.high) × (result.1 ≡ (self.now.high + 2 ^ (64 - self.now.prefix_len)) % 2 ^ 64) }
+    {
+        if self.version != 4 {
+            return (0, 0);
+        }
+        let high = self.high;
+        let len = match 64u8.saturating_sub(self.prefix_len) {
+            64 => 0,
+            bits => 1 << bits,
+        };
+        (high, high.wrapping_add(len))
     }
 
     // Whether its first address is this one or before it.
@@ -296,8 +313,42 @@ pub fn find(nodes: &[Node], addr: &IpAddress) -> Option<u32>
         → MatchOption result (All (λ block. ¬ IsIn block addr.now) blocks) (IsChosenAt blocks addr.now) }
 {
     let target = Node::target(addr);
-    let start = count_up_to(nodes, &target);
-    match climb(nodes, start, &target) {
+    found(nodes, count_up_to(nodes, &target), &target)
+}
+
+/// The same for addresses in their order: `count` is the number of nodes at or before the address that was searched
+/// last. It only saves time.
+pub fn find_next(nodes: &[Node], count: &mut usize, addr: &IpAddress) -> Option<u32>
+    ensures { (blocks : List IpCidr) → IsIndex blocks nodes.now
+        → MatchOption result (All (λ block. ¬ IsIn block addr.now) blocks) (IsChosenAt blocks addr.now) }
+{
+    let target = Node::target(addr);
+    *count = first_after(nodes, *count, &target);
+    if !splits(nodes, *count, *count, &target) {
+        return find(nodes, addr);
+    }
+    found(nodes, *count, &target)
+}
+
+// The first node from a place on that is after an address, or the end.
+fn first_after(nodes: &[Node], from: usize, target: &Node) -> usize {
+    for i in from..nodes.len() {
+        if !nodes[i].is_up_to(target) {
+            return i;
+        }
+    }
+    nodes.len()
+}
+
+// The route that is found for an address, by the number of nodes at or before it.
+#[inline(always)]
+fn found(nodes: &[Node], start: usize, target: &Node) -> Option<u32>
+    requires { start ≤ length nodes.now }
+    ensures { (blocks : List IpCidr) → (addr : IpAddress) → IsAddress addr → target.now ≡ target_of addr → IsIndex blocks nodes.now
+        → (IsNonDecreasingBy place nodes.now → IsSplit nodes.now start start target.now)
+        → MatchOption result (All (λ block. ¬ IsIn block addr) blocks) (IsChosenAt blocks addr) }
+{
+    match climb(nodes, start, target) {
         0 => None,
         found => Some(nodes[found - 1].route),
     }
@@ -320,6 +371,14 @@ pub fn choose(routes: &[Route], nodes: &[Node], addr: &IpAddress) -> Option<Rout
     ensures { IsIndex (map block_of routes.now) nodes.now
         → MatchOption result (All (λ route. ¬ Leads addr.now route) routes.now) (IsChosen routes.now addr.now) }
 {
-    let place = find(nodes, addr)?;
+    route_at(routes, find(nodes, addr))
+}
+
+/// The route at the place that was found for an address.
+pub fn route_at(routes: &[Route], found: Option<u32>) -> Option<Route>
+    ensures { (addr : IpAddress) → MatchOption found (All (λ block. ¬ IsIn block addr) (map block_of routes.now)) (IsChosenAt (map block_of routes.now) addr)
+        → MatchOption result (All (λ route. ¬ Leads addr route) routes.now) (IsChosen routes.now addr) }
+{
+    let place = found?;
     routes.get(place as usize).copied()
 }

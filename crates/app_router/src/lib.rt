@@ -7,6 +7,7 @@ mod problem;
 pub mod route;
 mod router;
 pub mod source;
+pub mod table;
 
 pub use problem::{Problem, error};
 pub use router::forward;

@@ -3,9 +3,11 @@
 ghost use Rattle.std.specs.Prelude.{◌↔◌, IsTrue, Option, ℕ, map};
 ghost use Rattle.app_router.specs.Index.{IsIndex, block_of};
 ghost use Rattle.app_router.specs.Source.{ChecksSource, IsBack, IsMartian};
+ghost use Rattle.app_router.specs.Table.{IsTable};
 
 use crate::index::{Node, choose};
 use crate::route::Route;
+use crate::table;
 use app_host::{is_no_host, is_this_host};
 use ip_wire::IpAddress;
 
@@ -56,6 +58,24 @@ pub fn check_source_by_index(
         → (back : Option ℕ) × IsBack routes.now src.now back × ChecksSource src.now interface back result }
 {
     let back = match choose(routes, nodes, src) {
+        Some(route) => Some(route.interface),
+        None => None,
+    };
+    check_source(src, interface, back)
+}
+
+/// The same with a table of the routes and its index.
+pub fn check_source_by_table(
+    routes: &[Route],
+    nodes: &[Node],
+    cells: &[u64],
+    src: &IpAddress,
+    interface: u16,
+) -> Option<SourceFault>
+    ensures { IsIndex (map block_of routes.now) nodes.now → IsTable (map block_of routes.now) cells.now
+        → (back : Option ℕ) × IsBack routes.now src.now back × ChecksSource src.now interface back result }
+{
+    let back = match table::choose(routes, nodes, cells, src) {
         Some(route) => Some(route.interface),
         None => None,
     };

@@ -104,14 +104,18 @@ index_route routes nodes addr a b index x y = one_route routes addr a b (x index
 place-led : (blocks : List IpCidr) (addr : IpAddress) (i : ℕ) → All (λ block. ¬ IsIn block addr) blocks → ¬ IsChosenAt blocks addr i
 place-led blocks addr i none a = none i _ a.within a.leads
 
+place-once : (blocks : List IpCidr) (addr : IpAddress) (a b : Option ℕ) → MatchOption a (All (λ block. ¬ IsIn block addr) blocks) (IsChosenAt blocks addr)
+    → MatchOption b (All (λ block. ¬ IsIn block addr) blocks) (IsChosenAt blocks addr) → a ≡ b
+place-once blocks addr (Some i) (Some j) x y = ap Some (one_block blocks addr i j x y)
+place-once blocks addr (Some i) None x y = absurd (place-led blocks addr i y x)
+place-once blocks addr None (Some j) x y = absurd (place-led blocks addr j x y)
+place-once blocks addr None None x y = refl
+
 pub one_place : (nodes : List Node) (addr : IpAddress) (a b : Option ℕ)
     → ((blocks : List IpCidr) → IsIndex blocks nodes → MatchOption a (All (λ block. ¬ IsIn block addr) blocks) (IsChosenAt blocks addr))
     → ((blocks : List IpCidr) → IsIndex blocks nodes → MatchOption b (All (λ block. ¬ IsIn block addr) blocks) (IsChosenAt blocks addr))
     → (blocks : List IpCidr) → IsIndex blocks nodes → a ≡ b
-one_place nodes addr (Some i) (Some j) x y blocks index = ap Some (one_block blocks addr i j (x blocks index) (y blocks index))
-one_place nodes addr (Some i) None x y blocks index = absurd (place-led blocks addr i (y blocks index) (x blocks index))
-one_place nodes addr None (Some j) x y blocks index = absurd (place-led blocks addr j (x blocks index) (y blocks index))
-one_place nodes addr None None x y blocks index = refl
+one_place nodes addr a b x y blocks index = place-once blocks addr a b (x blocks index) (y blocks index)
 
 -- ---- sources
 
@@ -122,13 +126,15 @@ back-once routes addr (Some n) None (route, chosen, is) none = absurd (led route
 back-once routes addr (Some n) (Some m) (r, chosen, is) (s, again, also) =
     ap Some (sym is ∙ ap (λ (o : Route). o.interface) (route-once routes addr r s chosen again) ∙ also)
 
+pub one_back : (routes : List Route) (src : IpAddress) (interface : ℕ) (a b : Option SourceFault)
+    → (back : Option ℕ) × IsBack routes src back × ChecksSource src interface back a → (back : Option ℕ) × IsBack routes src back × ChecksSource src interface back b → a ≡ b
+one_back routes src interface a b (back, to, v) (way, back_to, w) =
+    one_fault src interface way a b (subst (λ o. ChecksSource src interface o a) (back-once routes src back way to back_to) v) w
+
 pub index_fault : (routes : List Route) (nodes : List Node) (src : IpAddress) (interface : ℕ) (a b : Option SourceFault) → IsIndex (map block_of routes) nodes
     → (IsIndex (map block_of routes) nodes → (back : Option ℕ) × IsBack routes src back × ChecksSource src interface back a)
     → (IsIndex (map block_of routes) nodes → (back : Option ℕ) × IsBack routes src back × ChecksSource src interface back b) → a ≡ b
-index_fault routes nodes src interface a b index x y =
-    let (back, to, v) = x index in
-    let (way, back_to, w) = y index in
-    one_fault src interface way a b (subst (λ o. ChecksSource src interface o a) (back-once routes src back way to back_to) v) w
+index_fault routes nodes src interface a b index x y = one_back routes src interface a b (x index) (y index)
 
 -- ---- errors
 

@@ -14,6 +14,7 @@ use app_router::source::{SourceFault, check_source, check_source_by_index, is_ma
 use ip_wire::{EthernetAddress, HeaderFault, IpAddress, IpCidr, IpRepr};
 
 mod routes;
+mod tables;
 
 /// A frame is forwarded in one way, or rejected for one fault.
 #[tactic(auto, using(crate::proofs::RouterOnce::forward_returned, crate::proofs::RouterOnce::forward_frame))]

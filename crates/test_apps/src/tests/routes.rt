@@ -1,9 +1,10 @@
-//! Routes: by the linear choice, by the index, and of the sources. The routes and the answers in `ROWS` are
-//! those of `ip route get` of Linux 6.
+//! Routes: by the linear choice, by the index, by its table, and of the sources. The routes and the answers in
+//! `ROWS` are those of `ip route get` of Linux 6.
 
 use app_router::index::{Node, choose as choose_by_index, find, index};
 use app_router::route::{Route, choose};
-use app_router::source::{SourceFault, check_source, check_source_by_index};
+use app_router::source::{SourceFault, check_source, check_source_by_index, check_source_by_table};
+use app_router::table::{choose as choose_by_table, fill, find as find_by_table, len};
 use ip_wire::{IpAddress, IpCidr};
 
 /// The routes that Linux was given: block, next hop and interface. Of the two for 10.1.0.0/16 the
@@ -86,12 +87,16 @@ fn chooses_as_linux(rt: HostRuntime) {
     let routes = table();
     let mut nodes = [Node::new(&routes[0].block, 0); 13];
     index(&routes, &mut nodes);
+    let mut cells = [0; 70];
+    fill(&nodes, &mut cells);
     for (addr, place) in ROWS {
         let addr = address(addr);
         let chosen = routes.get(place).copied();
         assert!(rt; chosen.is_some());
         assert!(rt; choose(&routes, &addr) == chosen);
         assert!(rt; choose_by_index(&routes, &nodes, &addr) == chosen);
+        assert!(rt; choose_by_table(&routes, &nodes, &cells, &addr) == chosen);
+        assert!(rt; choose_by_table(&routes, &nodes, &[], &addr) == chosen);
     }
 }
 
@@ -108,6 +113,13 @@ fn finds_no_route_where_no_block_has_the_address(rt: HostRuntime) {
     assert!(rt; find(&nodes, &ipv4) == Some(7));
     assert!(rt; find(&nodes, &ipv6).is_none());
     assert!(rt; find(&[], &ipv4).is_none());
+    let mut cells = [0; 50];
+    fill(&nodes, &mut cells);
+    assert!(rt; find_by_table(&nodes, &cells, &ipv4) == Some(7));
+    assert!(rt; find_by_table(&nodes, &cells, &ipv6).is_none());
+    let mut cells = [0; 5];
+    fill(&[], &mut cells);
+    assert!(rt; find_by_table(&[], &cells, &ipv4).is_none());
 }
 
 /// The next number of a generator (xorshift).
@@ -163,10 +175,13 @@ fn finds_what_the_linear_choice_finds(rt: HostRuntime) {
         }
         let mut nodes = [Node::new(&routes[0].block, 0); 64];
         index(&routes, &mut nodes);
+        let mut cells = [0; 325];
+        fill(&nodes, &mut cells);
         for _ in 0..100 {
             let addr = near(next(&mut state));
             let chosen = choose(&routes, &addr);
             assert!(rt; choose_by_index(&routes, &nodes, &addr) == chosen);
+            assert!(rt; choose_by_table(&routes, &nodes, &cells, &addr) == chosen);
             found = found.wrapping_add(u32::from(chosen.is_some()));
         }
     }
@@ -174,7 +189,7 @@ fn finds_what_the_linear_choice_finds(rt: HostRuntime) {
     assert!(rt; found < 2000);
 }
 
-/// Small tables have no hints, larger ones hints of parts, and the largest here hints of divided parts.
+/// A small index has no hints, a larger one hints of parts, and the largest here hints of divided parts.
 #[test]
 fn finds_the_same_in_a_table_of_any_size(rt: HostRuntime) {
     let mut state = 0x2545_f491_4f6c_dd1d;
@@ -188,9 +203,14 @@ fn finds_the_same_in_a_table_of_any_size(rt: HostRuntime) {
         let mut nodes = [Node::new(&IpCidr::new(IpAddress::v4(0, 0, 0, 0), 0), 0); 72];
         let (nodes, _) = nodes.split_at_mut(size);
         index(routes, nodes);
+        let mut cells = [0; 365];
+        let (cells, _) = cells.split_at_mut(len(size));
+        fill(nodes, cells);
         for _ in 0..20 {
             let addr = near(next(&mut state));
-            assert!(rt; choose_by_index(routes, nodes, &addr) == choose(routes, &addr));
+            let chosen = choose(routes, &addr);
+            assert!(rt; choose_by_index(routes, nodes, &addr) == chosen);
+            assert!(rt; choose_by_table(routes, nodes, cells, &addr) == chosen);
         }
     }
 }
@@ -221,7 +241,11 @@ fn accepts_the_sources_that_a_route_leads_back_to(rt: HostRuntime) {
         let routes = table();
         let mut nodes = [Node::new(&routes[0].block, 0); 13];
         index(&routes, &mut nodes);
-        assert!(rt; check_source_by_index(&routes, &nodes, &address(src), interface) == fault);
+        let mut cells = [0; 70];
+        fill(&nodes, &mut cells);
+        let src = address(src);
+        assert!(rt; check_source_by_index(&routes, &nodes, &src, interface) == fault);
+        assert!(rt; check_source_by_table(&routes, &nodes, &cells, &src, interface) == fault);
     }
 }
 

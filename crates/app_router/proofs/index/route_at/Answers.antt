@@ -8,7 +8,7 @@ use Rattle.app_router.specs.Route.{IsChosen, Leads}
 use Rattle.app_router.specs.declared.route.Route.{Route}
 use Rattle.ip_wire.specs.IpCidr.{IsIn}
 use Rattle.ip_wire.specs.declared.IpAddress.{IpAddress}
-use Rattle.app_router.proofs.index.choose.Goals as goal
+use Rattle.app_router.proofs.index.route_at.Goals as goal
 
 -- what `get` gives at the place of the chosen block
 read : (routes : List Route) (addr : IpAddress) (i : ℕ) (got : Option (Bor Route))
@@ -19,20 +19,16 @@ read routes addr i None past chosen = absurd (omega (arith, past, chosen.within,
 read routes addr i (Some x) (within, is) chosen = route_chosen routes addr i x.now chosen (is x.now)
 
 pub returns-in_err-place : goal.returns-in_err-place
-returns-in_err-place c index =
+returns-in_err-place c addr found =
     let routes = c.args.routes.now in
-    let addr = c.args.addr.now in
     let none : All (λ block. ¬ IsIn block addr) (map block_of routes) =
-    subst (λ r. MatchOption r (All (λ block. ¬ IsIn block addr) (map block_of routes)) (IsChosenAt (map block_of routes) addr)) c.in_err-place.was
-    (c.find.ensures (map block_of routes) index) in
+    subst (λ r. MatchOption r (All (λ block. ¬ IsIn block addr) (map block_of routes)) (IsChosenAt (map block_of routes) addr)) c.in_err-place.was found in
     subst (λ r. MatchOption r (All (λ route. ¬ Leads addr route) routes) (IsChosen routes addr)) (sym c.from_residual.ensures) (none_leads routes addr none)
 
 pub returns : goal.returns
-returns c index =
+returns c addr found =
     let routes = c.args.routes.now in
-    let addr = c.args.addr.now in
     let chosen : IsChosenAt (map block_of routes) addr c.in_ok-place.place =
-    subst (λ r. MatchOption r (All (λ block. ¬ IsIn block addr) (map block_of routes)) (IsChosenAt (map block_of routes) addr)) c.in_ok-place.was
-    (c.find.ensures (map block_of routes) index) in
+    subst (λ r. MatchOption r (All (λ block. ¬ IsIn block addr) (map block_of routes)) (IsChosenAt (map block_of routes) addr)) c.in_ok-place.was found in
     subst (λ r. MatchOption r (All (λ route. ¬ Leads addr route) routes) (IsChosen routes addr)) (sym c.copied.ensures)
     (read routes addr c.in_ok-place.place c.get.result c.get.ensures.lookup.3 chosen)

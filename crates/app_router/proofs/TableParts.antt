@@ -1,0 +1,61 @@
+-- A part that lies within a range has its answer.
+use Rattle.std.proofs.Common.{ℕ, ◌≡◌, ◌∙◌, ◌+◌, ◌++◌, ◌-◌, ◌*◌, ◌^◌, ◌<◌, ◌≤◌, List, ap, arith, drop, length, subst, sym, take}
+use Rattle.std.proofs.lemmas.List.{drop-append-le, drop_at, length-drop, take-append-le, take_all, take_at}
+use Rattle.std.proofs.Math.Nat.{le_of_mul-le-mul_right, lt_of_mul-lt-mul_right}
+use Rattle.app_router.specs.Table.{AreEnough, AreParts, AreRanges, IsAnswer, IsTable, IsEntry, IsInPart, IsInRange, IsWithinRange, answer_of, half_at, range_at}
+use Rattle.ip_wire.specs.declared.IpAddress.TheVariants.{Ipv4}
+use Rattle.ip_wire.specs.declared.IpCidr.{IpCidr}
+
+-- the addresses of the part are in the range
+in_range : (ranges : List ℕ) (count p k addr : ℕ) → p < count → IsWithinRange ranges count p k → IsInPart count p addr → IsInRange ranges k addr
+in_range ranges count p k addr below within inside =
+    let pos : 0 < count = omega (arith, below) in
+    let from : p * 2 ^ 32 ≤ addr * count = omega (arith, inside) in
+    let to : addr * count < (p + 1) * 2 ^ 32 = omega (arith, inside) in (
+      le_of_mul-le-mul_right (omega (arith, within.low, from)) pos,
+      lt_of_mul-lt-mul_right count (omega (arith, within.high, to)),
+    )
+
+pub parts : (blocks : List IpCidr) (ranges cells : List ℕ) → AreRanges blocks ranges
+    → ((p : ℕ) → p < 2 * length cells → IsEntry ranges (2 * length cells) p (half_at cells p)) → AreParts blocks cells
+parts blocks ranges cells are entries p below whole bytes is inside =
+    let entry = entries p below whole in
+    let k = entry.0 in
+    let within = entry.1 in
+    let e : half_at cells p - 2 ^ 31 ≡ answer_of (range_at ranges k) = omega (arith, entry.2) in
+    subst (IsAnswer blocks (Ipv4 bytes)) (sym e) (are k within.listed bytes is (in_range ranges (2 * length cells) p k _ below within inside))
+
+-- entries, hints and ranges of these lengths are a table
+pub table : (blocks : List IpCidr) (entries hints ranges : List ℕ) → length blocks < 2 ^ 29 → length entries ≡ 2 * (length blocks + 1)
+    → length hints ≡ length blocks + 1 → length ranges ≡ 2 * (length blocks + 1)
+    → AreParts blocks entries → AreRanges blocks ranges → IsTable blocks (entries ++ (hints ++ ranges))
+table blocks entries hints ranges few entries_len hints_len ranges_len are_parts are_ranges =
+    let u = length blocks + 1 in
+    let cells = entries ++ (hints ++ ranges) in
+    let front : take (2 * u) cells ≡ entries = take_at entries (hints ++ ranges) (2 * u) entries_len in
+    let back : take (2 * u) (drop u (drop (2 * u) cells)) ≡ ranges =
+    ap (λ (l : List ℕ). take (2 * u) (drop u l)) (drop_at entries (hints ++ ranges) (2 * u) entries_len)
+    ∙ ap (take (2 * u)) (drop_at hints ranges u hints_len) ∙ take_all (2 * u) ranges (omega (arith, ranges_len)) in
+    record {
+      few = λ _. subst (λ (l : List ℕ). 2 * length l ≤ 2 ^ 32) (sym front) (omega (arith, entries_len, few));
+      parts = λ _. subst (AreParts blocks) (sym front) are_parts;
+      ranges = λ _. subst (AreRanges blocks) (sym back) are_ranges;
+    }
+
+-- a table is one in a longer list of cells
+pub longer : (blocks : List IpCidr) (cells following : List ℕ) → length cells ≡ 5 * (length blocks + 1) → IsTable blocks cells → IsTable blocks (cells ++ following)
+longer blocks cells following len is =
+    let u = length blocks + 1 in
+    let rest = drop (2 * u) cells in
+    let enough : AreEnough blocks cells = omega (arith, len) in
+    let rest_len : length rest ≡ 3 * u = length-drop (2 * u) cells ∙ omega (arith, len) in
+    let front : take (2 * u) (cells ++ following) ≡ take (2 * u) cells = take-append-le (2 * u) cells following (omega (arith, len)) in
+    let back : take (2 * u) (drop u (drop (2 * u) (cells ++ following))) ≡ take (2 * u) (drop u rest) =
+    ap (λ (l : List ℕ). take (2 * u) (drop u l)) (drop-append-le (2 * u) cells following (omega (arith, len)))
+    ∙ ap (take (2 * u)) (drop-append-le u rest following (omega (arith, rest_len)))
+    ∙ take-append-le (2 * u) (drop u rest) following (omega (arith, rest_len, length-drop u rest)) in
+    record {
+      few = λ _. subst (λ (l : List ℕ). 2 * length l ≤ 2 ^ 32) (sym front) (is.few enough);
+      parts = λ _. subst (AreParts blocks) (sym front) (is.parts enough);
+      ranges = λ _. subst (AreRanges blocks) (sym back) (is.ranges enough);
+    }

@@ -1,0 +1,155 @@
+//! A table beside an index of routes. It tells the routes of most IPv4 addresses by one load.
+//!
+//! The addresses are divided into ranges: one begins at the first address of each block, and one after its last, so the
+//! addresses of a range have one route. They are also divided into equal parts. The entry of a part that lies within a
+//! range is its answer; that of another part is a hint, the place of a range where a search begins (`parts`). A hint
+//! only saves time: the range that is found is checked, and if it is a wrong one, the index is searched.
+//!
+//! Two fifths of the cells are the entries of the parts, two in each; one fifth are the hints of parts that are divided
+//! again; two fifths are the ranges, sorted.
+
+ghost use Rattle.std.specs.Prelude.{◌≡◌, ◌+◌, ◌*◌, ◌/◌, ◌%◌, ◌^◌, ◌≤◌, ◌<◌, All, IfSome, List, MatchOption, length, map, ℕ};
+ghost use Rattle.app_router.specs.Index.{IsChosenAt, IsIndex, block_of, node_at};
+ghost use Rattle.app_router.specs.Route.{IsChosen, Leads};
+ghost use Rattle.app_router.specs.Table.{AreRanges, Answers, IsAnswer, IsBounded, IsInRange, IsTable, answer_of, half_at, range_at, start_of};
+ghost use Rattle.ip_wire.specs.IpCidr.{IsIn};
+ghost use Rattle.ip_wire.specs.declared.IpCidr.{IpCidr};
+
+mod parts;
+
+use self::parts::{WHOLE, enter, half_at, search};
+use crate::index::{self, Node, route_at};
+use crate::route::Route;
+use ip_wire::{IpAddress, Ipv4Address};
+
+/// A longer list of routes has no table.
+pub const MAX_ROUTES: usize = (1 << 26) - 1;
+
+/// The number of cells of the table of so many routes.
+pub const fn len(count: usize) -> usize
+    requires { count < 2 ^ 26 }
+    ensures { result ≡ 5 * (count + 1) }
+{
+    5 * (count + 1)
+}
+
+/// Makes the table of an index.
+pub fn fill(nodes: &[Node], cells: &mut [u64])
+    requires few { length nodes.now < 2 ^ 26 }
+    requires len { length cells.old ≡ 5 * (length nodes.now + 1) }
+    ensures len { length cells.new ≡ length cells.old }
+    ensures table { (blocks : List IpCidr) → IsIndex blocks nodes.now → IsTable blocks cells.new }
+{
+    let unit = nodes.len() + 1;
+    let (parts, rest) = cells.split_at_mut(2 * unit);
+    let (hints, ranges) = rest.split_at_mut(unit);
+    divide(nodes, ranges);
+    enter(ranges, parts, hints);
+}
+
+// Writes the ranges of an index.
+fn divide(nodes: &[Node], ranges: &mut [u64])
+    requires { length ranges.old ≡ 2 * (length nodes.now + 1) }
+    ensures len { length ranges.new ≡ length ranges.old }
+    ensures ranges { (blocks : List IpCidr) → IsIndex blocks nodes.now → AreRanges blocks ranges.new }
+{
+    bound(nodes, ranges);
+    ranges.sort_unstable();
+    answer_each(nodes, ranges);
+}
+
+// Writes the first address of each range, in the first 32 bits. The answers are any numbers.
+fn bound(nodes: &[Node], ranges: &mut [u64])
+    requires { length ranges.old ≡ 2 * (length nodes.now + 1) }
+    ensures len { length ranges.new ≡ length ranges.old }
+    ensures bounded { (k : ℕ) → k < length nodes.now → IsBounded ranges.new (node_at nodes.now k) }
+{
+    ranges[0] = 0;
+    ranges[1] = 0;
+    for (i, node) in nodes.iter().enumerate() {
+        let (first, following) = node.bounds();
+        ranges[2 * i + 2] = first;
+        ranges[2 * i + 3] = following;
+    }
+}
+
+// Writes the answers of ranges.
+fn answer_each(nodes: &[Node], ranges: &mut [u64])
+    ensures len { length ranges.new ≡ length ranges.old }
+    ensures starts { (k : ℕ) → start_of (range_at ranges.new k) ≡ start_of (range_at ranges.old k) }
+    ensures answers { (blocks : List IpCidr) → IsIndex blocks nodes.now → (k : ℕ) → k < length ranges.new
+        → Answers blocks (λ addr. addr ≡ start_of (range_at ranges.new k)) (answer_of (range_at ranges.new k)) }
+{
+    let mut count = 0;
+    for i in 0..ranges.len() {
+        let start = (ranges[i] >> 32) as u32;
+        let answer = answer_at(nodes, &mut count, start);
+        ranges[i] = u64::from(start) << 32 | u64::from(answer);
+    }
+}
+
+// The answer for an IPv4 address, by the index. `count` is that of `find_next`.
+fn answer_at(nodes: &[Node], count: &mut usize, addr: u32) -> u32
+    ensures { (blocks : List IpCidr) → IsIndex blocks nodes.now → Answers blocks (λ number. number ≡ addr) result }
+{
+    match index::find_next(nodes, count, &IpAddress::Ipv4(Ipv4Address::from_bits(addr))) {
+        Some(route) => route.wrapping_add(1),
+        None => 0,
+    }
+}
+
+/// The place of the route with the longest prefix whose block contains the address, and of several the first, by a
+/// table and its index. `None` if no block contains it. With fewer cells than the table has, the index is searched.
+pub fn find(nodes: &[Node], cells: &[u64], addr: &IpAddress) -> Option<u32>
+    ensures { (blocks : List IpCidr) → IsIndex blocks nodes.now → IsTable blocks cells.now
+        → MatchOption result (All (λ block. ¬ IsIn block addr.now) blocks) (IsChosenAt blocks addr.now) }
+{
+    if let IpAddress::Ipv4(ipv4) = addr {
+        if let Some(answer) = answer_in(cells, nodes.len(), ipv4.to_bits()) {
+            return answer.checked_sub(1);
+        }
+    }
+    index::find(nodes, addr)
+}
+
+// The answer for an IPv4 address, if the table has it.
+fn answer_in(cells: &[u64], count: usize, addr: u32) -> Option<u32>
+    ensures { (blocks : List IpCidr) → length blocks ≡ count → IsTable blocks cells.now → IfSome result (Answers blocks (λ number. number ≡ addr)) }
+{
+    if cells.len() / 5 <= count {
+        return None;
+    }
+    let unit = count + 1;
+    let (parts, rest) = cells.split_at(2 * unit);
+    let (hints, rest) = rest.split_at(unit);
+    let (ranges, _) = rest.split_at(2 * unit);
+    // the part, and in the last 32 bits the position within it
+    let position = u64::from(addr).wrapping_mul(4 * unit as u64);
+    let entry = half_at(parts, (position >> 32) as usize)?;
+    if entry >= WHOLE {
+        return Some(entry - WHOLE);
+    }
+    range_answer(ranges, search(ranges, hints, entry, position, addr), addr)
+}
+
+// The answer of a range, if the address is in it.
+fn range_answer(ranges: &[u64], place: usize, addr: u32) -> Option<u32>
+    ensures { IfSome result (λ answer. (place < length ranges.now) × IsInRange ranges.now place addr × (answer ≡ answer_of (range_at ranges.now place))) }
+{
+    let range = *ranges.get(place)?;
+    if range >> 32 > u64::from(addr) {
+        return None;
+    }
+    match ranges.get(place + 1) {
+        Some(next) if *next >> 32 <= u64::from(addr) => None,
+        _ => Some((range % (1 << 32)) as u32),
+    }
+}
+
+/// The same route as `choose` of `route`, by a table of the routes and its index.
+pub fn choose(routes: &[Route], nodes: &[Node], cells: &[u64], addr: &IpAddress) -> Option<Route>
+    ensures { IsIndex (map block_of routes.now) nodes.now → IsTable (map block_of routes.now) cells.now
+        → MatchOption result (All (λ route. ¬ Leads addr.now route) routes.now) (IsChosen routes.now addr.now) }
+{
+    route_at(routes, find(nodes, cells, addr))
+}
