@@ -11,8 +11,8 @@
  * - A call that writes to `out` returns the length of its result, which begins at `out[0]`, or a failure, which is
  *   negative. After a failure `out` is unchanged.
  * - A length above LK_MAX_LEN is never used: a payload of that length is too long, an output has no room, and any other
- *   input counts as empty. The counts of routes, nodes and mappings are such lengths too. Where an empty input is no
- *   failure (lk_answer, lk_emit_icmp_error, lk_index_routes), one of that length is a failure.
+ *   input counts as empty. The counts of routes, nodes, cells and mappings are such lengths too. Where an empty input is
+ *   no failure (lk_answer, lk_emit_icmp_error, lk_index_routes, lk_make_route_table), one of that length is a failure.
  * - lk_is_.., lk_contains and lk_cpu_supported return 1 for yes and 0 for no.
  * - Fields that an initializer leaves out are 0. A 0 in `version`, in a field `has_..` or in a count means
  *   that there is no such value. A hop limit of 0 is a failure, and so is a port of 0 where receivers reject
@@ -963,6 +963,22 @@ ptrdiff_t lk_index_routes(const struct lk_route *routes, size_t count, struct lk
  * or -1 if none contains it. `count` is the number of routes. An address without a version has no route. */
 ptrdiff_t lk_choose_route(const struct lk_route_node *nodes, size_t count, const struct lk_addr *addr);
 
+/* The number of cells of the table of so many routes. */
+#define LK_ROUTE_TABLE_LEN(count) (5 * ((size_t)(count) + 1))
+
+/* Writes the table of an index of `count` routes, and returns the number of its cells, LK_ROUTE_TABLE_LEN(count). Cells
+ * after the table are unchanged. The table is valid as long as the index is. Fails with LK_NO_ROOM if there are fewer
+ * cells, 2^26 routes or more, or if a count is above LK_MAX_LEN; then all cells are unchanged.
+ *
+ * Make a table if there are many IPv4 routes: lk_choose_route_by_table finds the route of most IPv4 addresses with one
+ * load. A table has 40 bytes for each route, and the index 32. For IPv6 addresses the index is searched. */
+ptrdiff_t lk_make_route_table(const struct lk_route_node *nodes, size_t count, uint64_t *cells, size_t cell_count);
+
+/* Returns the same as lk_choose_route(nodes, count, addr). The first cells are the table of the index
+ * (lk_make_route_table). If there are fewer than LK_ROUTE_TABLE_LEN(count), the index is searched. */
+ptrdiff_t lk_choose_route_by_table(const struct lk_route_node *nodes, size_t count, const uint64_t *cells,
+                                   size_t cell_count, const struct lk_addr *addr);
+
 /* Whether a router may accept a packet from `src` that came in by `interface`. Returns LK_NOT_REJECTED, or one of
  * these:
  *
@@ -973,6 +989,13 @@ ptrdiff_t lk_choose_route(const struct lk_route_node *nodes, size_t count, const
  *   2.2). */
 int lk_check_source(const struct lk_route *routes, size_t route_count, const struct lk_route_node *nodes, size_t count,
                     const struct lk_addr *src, uint16_t interface);
+
+/* Returns the same as lk_check_source(routes, route_count, nodes, count, src, interface). The first cells are
+ * the table of the index (lk_make_route_table). If there are fewer than LK_ROUTE_TABLE_LEN(count), the index is
+ * searched. */
+int lk_check_source_by_table(const struct lk_route *routes, size_t route_count, const struct lk_route_node *nodes,
+                             size_t count, const uint64_t *cells, size_t cell_count, const struct lk_addr *src,
+                             uint16_t interface);
 
 /* ---- NAT ---- */
 

@@ -2,5 +2,6 @@ mod FrameOptions
 mod NatsOnce
 mod Once
 mod RepliesOnce
+mod RouteTablesOnce
 mod RoutesOnce
 mod RoutingOnce

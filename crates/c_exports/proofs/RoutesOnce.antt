@@ -68,7 +68,7 @@ all-nodes : (routes : List Route) (why : Option Failure) (old new : List Node) (
 all-nodes routes None old new n v long = subst (IsIndexOf routes) (take_all (length routes) new (omega (arith, long))) v.index
 all-nodes routes (Some why) old new n (is, stays) long = absurd (cc)
 
-in-bounds : {A : Type 0} (list : List A) → length list ≤ max_len → in_bounds list ≡ list
+pub in-bounds : {A : Type 0} (list : List A) → length list ≤ max_len → in_bounds list ≡ list
 unfolding in_bounds
 in-bounds list fits = search rules
 

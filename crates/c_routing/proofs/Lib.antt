@@ -4,6 +4,7 @@ mod Forwards
 mod NatCalls
 mod RouteChoice
 mod RouteLists
+mod RouteTables
 mod Tables
 mod Translations
 mod Within

@@ -1,5 +1,5 @@
 -- The route that is chosen by the index of the blocks.
-use Rattle.std.proofs.Common.{ℕ, ◌≡◌, ◌<◌, ◌≤◌, All, IsSomeAnd, List, MatchOption, Option, None, Some, arith, length, map, slice_index_or, subst, subst₂, sym}
+use Rattle.std.proofs.Common.{ℕ, ℤ, pos, negsuc, ◌≡◌, ◌<◌, ◌≤◌, All, IsSomeAnd, List, MatchOption, Option, None, Some, arith, inl, inr, length, map, slice_index_or, subst, subst₂, sym}
 use Rattle.app_router.specs.Index as index
 use Rattle.app_router.specs.Index.{IsChosenAt}
 use Rattle.ip_wire.specs.IpCidr.{IsIn, block_prefix_len}
@@ -8,7 +8,7 @@ use Rattle.ip_wire.specs.declared.IpCidr.{IpCidr}
 use Rattle.c_structs.specs.Addresses.{ip_of}
 use Rattle.c_structs.specs.declared.types.Addr.{Addr}
 use Rattle.c_routing.proofs.RouteLists.{listed-at, prefix-with, same-length}
-use Rattle.c_routing.specs.Routes.{IsChosen, Leads, destinations, route_at}
+use Rattle.c_routing.specs.Routes.{Chooses, IsChosen, Leads, destinations, route_at}
 use Rattle.c_routing.specs.declared.routes.Route.{Route}
 
 leads-in : (route : Route) (block : IpCidr) (addr : Addr) (ip : IpAddress) → destinations route ≡ Some block → ip_of addr ≡ Some ip → Leads addr route → IsIn block ip
@@ -57,3 +57,9 @@ pub found-route : (routes : List Route) (blocks : List IpCidr) (addr : Addr) (ip
 found-route routes blocks addr ip None listed at none = none-leads routes blocks addr ip listed at none
 found-route routes blocks addr ip (Some i) listed at it =
     chosen-at routes blocks addr ip i listed at (subst (λ n. i < n) (sym (same-length routes blocks listed)) it.within) it
+
+-- the number of what is found is returned
+pub numbered : (routes : List Route) (addr : Addr) (found : Option ℕ) (answer : ℤ) → MatchOption found (All (λ route. ¬ Leads addr route) routes) (IsChosen routes addr)
+    → MatchOption found (answer ≡ negsuc 0) (λ i. answer ≡ pos i) → Chooses routes addr answer
+numbered routes addr None answer none is = inr (is, none)
+numbered routes addr (Some i) answer chosen is = inl (i, is, chosen)

@@ -1,7 +1,8 @@
 -- Routes as the structs of C, and what the calls with them return and write.
-use Rattle.std.specs.Prelude.{ℕ, ℤ, pos, negsuc, ◌≡◌, ◌<◌, ◌≤◌, ◌⊎◌, ◌^◌, ◌&&◌, All, is_none, nat_le, nat_lt, if◌then◌else◌, List, drop, length, map, slice_index_or, take, IsSomeAnd, MatchOption, Option, None, Some}
+use Rattle.std.specs.Prelude.{ℕ, ℤ, pos, negsuc, ◌≡◌, ◌+◌, ◌*◌, ◌<◌, ◌≤◌, ◌⊎◌, ◌^◌, ◌&&◌, All, is_none, nat_le, nat_lt, if◌then◌else◌, List, drop, length, map, slice_index_or, take, IsSomeAnd, MatchOption, Option, None, Some}
 use Rattle.std.specs.List.{list_any}
 use Rattle.app_router.specs.Index.{IsIndex}
+use Rattle.app_router.specs.Table.{IsTable}
 use Rattle.app_router.specs.declared.index.Node.{Node}
 use Rattle.ip_wire.specs.IpCidr.{IsIn}
 use Rattle.ip_wire.specs.declared.IpCidr.{IpCidr}
@@ -70,6 +71,40 @@ pub record WritesIndex (routes : List Route) (old new : List Node) (answer : ℤ
 abbrev pub Indexes : List Route → List Node → List Node → ℤ → Type 0
 Indexes routes old new answer =
     MatchOption (index_failure routes (length old)) (WritesIndex routes old new answer) (λ why. (answer ≡ failure_code why) × (new ≡ old))
+
+-- ---- the table
+
+-- Pinned by: proof of `choose_by_table`
+-- every route has a block, these nodes are the index of the blocks, and the first of these cells are the table of the blocks
+pub record IsTableOf (routes : List Route) (nodes : List Node) (cells : List ℕ) : Type 0 where
+  pub blocks : List IpCidr
+  pub listed : map destinations routes ≡ map Some blocks
+  pub index : IsIndex blocks nodes
+  pub table : IsTable blocks cells
+
+-- Pinned by: `judge`
+-- the number of cells of the table of an index
+abbrev pub table_len : List Node → ℕ
+table_len nodes = 5 * (length nodes + 1)
+
+-- Pinned by: `judge`
+-- why this index gets no table in `room` cells
+abbrev pub table_failure : List Node → ℕ → Option Failure
+table_failure nodes room =
+    if nat_lt (length nodes) (2 ^ 26) && nat_le (table_len nodes) room && nat_le room max_len then None else Some failure.NoRoom
+
+-- Pinned by: `worked/route`
+-- the table is written to the first cells, and their number is returned; the other cells are unchanged
+pub record WritesTable (nodes : List Node) (old new : List ℕ) (answer : ℤ) : Type 0 where
+  pub count : answer ≡ pos (table_len nodes)
+  pub table : (routes : List Route) → IsIndexOf routes nodes → IsTableOf routes nodes new
+  pub following : drop (table_len nodes) new ≡ drop (table_len nodes) old
+
+-- Pinned by: `worked/route`
+-- the table is written, or a failure is returned and the cells are unchanged
+abbrev pub MakesTable : List Node → List ℕ → List ℕ → ℤ → Type 0
+MakesTable nodes old new answer =
+    MatchOption (table_failure nodes (length old)) (WritesTable nodes old new answer) (λ why. (answer ≡ failure_code why) × (new ≡ old))
 
 -- ---- look-ups
 

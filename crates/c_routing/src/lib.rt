@@ -16,6 +16,6 @@ pub use edits::{fill_checksum, set_addr, set_bytes, set_dscp, set_hop_limit, set
 pub use forwarding::forward_frame;
 pub use nat::{translate_in, translate_out};
 pub use rejections::Rejection;
-pub use routes::{Route, choose_route, index_routes};
-pub use sources::check_addr;
+pub use routes::{Route, choose_by_table, choose_route, index_routes, make_table};
+pub use sources::{check_addr, check_addr_by_table};
 pub use translation::translate_frame;

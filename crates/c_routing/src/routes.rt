@@ -1,16 +1,17 @@
-//! Routes: their index, and the choice of a route.
+//! Routes: their index, the table beside it, and the choice of a route.
 
-ghost use Rattle.std.specs.Prelude.{◌≡◌, ◌<◌, ◌^◌, ◌&&◌, All, List, MatchOption, Some, is_none, length, map, nat_le, nat_lt};
+ghost use Rattle.std.specs.Prelude.{◌≡◌, ◌<◌, ◌^◌, ◌&&◌, All, List, MatchOption, Some, is_none, length, map, nat_le, nat_lt, negsuc, pos};
 ghost use Rattle.std.specs.List.{list_any};
 ghost use Rattle.c_structs.specs.Addresses.{ip_of};
 ghost use Rattle.c_structs.specs.Written.{max_len};
 ghost use Rattle.c_routing.specs.Lengths.{in_bounds};
-ghost use Rattle.c_routing.specs.Routes.{Chooses, Indexes, IsChosen, IsIndexOf, Leads, destinations, index_failure};
+ghost use Rattle.c_routing.specs.Routes.{Chooses, Indexes, IsChosen, IsIndexOf, IsTableOf, Leads, MakesTable, destinations, index_failure, table_failure};
 ghost use Rattle.app_router.specs.Index.{IsIndex};
 ghost use Rattle.ip_wire.specs.declared.IpCidr.{IpCidr};
 
 use crate::lengths::in_bounds;
 use app_router::index::{Node, arrange, find};
+use app_router::table;
 use c_structs::{Addr, Block, Failure, MAX_LEN};
 
 /// `struct lk_route`: a route.
@@ -85,11 +86,49 @@ fn index(routes: &[Route], nodes: &mut [Node])
     arrange(nodes);
 }
 
+/// Writes the table of an index, and returns the number of its cells. Fails with `NoRoom`; then the cells are unchanged.
+pub fn make_table(nodes: &[Node], cells: &mut [u64]) -> isize
+    ensures { MakesTable nodes.now cells.old cells.new result }
+{
+    if let Some(failure) = table_failure(nodes, cells.len()) {
+        return failure.code();
+    }
+    let len = table::len(nodes.len());
+    table::fill(nodes, &mut cells[..len]);
+    len as isize
+}
+
+// Why this index gets no table in so many cells.
+fn table_failure(nodes: &[Node], room: usize) -> Option<Failure>
+    ensures { result ≡ table_failure nodes.now room }
+{
+    let count = nodes.len();
+    if count <= table::MAX_ROUTES && table::len(count) <= room && room <= MAX_LEN {
+        None
+    } else {
+        Some(Failure::NoRoom)
+    }
+}
+
 /// The place of the route with the longest prefix that contains an address, of several the first; -1 if there is none.
 pub fn choose_route(nodes: &[Node], addr: &Addr) -> isize
     ensures { (routes : List Route) → IsIndexOf routes (in_bounds nodes.now) → Chooses routes addr.now result }
 {
-    match choose(in_bounds(nodes), addr) {
+    number(choose(in_bounds(nodes), addr))
+}
+
+/// The same place, by a table and its index.
+pub fn choose_by_table(nodes: &[Node], cells: &[u64], addr: &Addr) -> isize
+    ensures { (routes : List Route) → IsTableOf routes (in_bounds nodes.now) (in_bounds cells.now) → Chooses routes addr.now result }
+{
+    number(choose_in(in_bounds(nodes), in_bounds(cells), addr))
+}
+
+// A place, or -1.
+fn number(place: Option<u32>) -> isize
+    ensures { MatchOption place (result ≡ negsuc 0) (λ i. result ≡ pos i) }
+{
+    match place {
         Some(place) => place as isize,
         None => -1,
     }
@@ -102,4 +141,13 @@ pub fn choose(nodes: &[Node], addr: &Addr) -> Option<u32>
 {
     let addr = addr.ip()?;
     find(nodes, &addr)
+}
+
+/// The same place by a table, if there is a route.
+pub fn choose_in(nodes: &[Node], cells: &[u64], addr: &Addr) -> Option<u32>
+    ensures { (routes : List Route) → IsTableOf routes nodes.now cells.now
+        → MatchOption result (All (λ route. ¬ Leads addr.now route) routes) (IsChosen routes addr.now) }
+{
+    let addr = addr.ip()?;
+    table::find(nodes, cells, &addr)
 }

@@ -1,14 +1,15 @@
 //! The sources that a router accepts.
 
-ghost use Rattle.std.specs.Prelude.{◌≡◌, pos};
+ghost use Rattle.std.specs.Prelude.{◌≡◌, All, MatchOption, pos};
 ghost use Rattle.c_routing.specs.Lengths.{in_bounds};
 ghost use Rattle.c_routing.specs.Rejections.{source_code};
-ghost use Rattle.c_routing.specs.Routes.{IsIndexOf};
+ghost use Rattle.c_routing.specs.Routes.{IsChosen, IsIndexOf, IsTableOf, Leads};
 ghost use Rattle.c_routing.specs.Sources.{ChecksAddr, IsBack};
+ghost use Rattle.c_structs.specs.declared.types.Addr.{Addr};
 
 use crate::lengths::in_bounds;
 use crate::rejections::Rejection;
-use crate::routes::{Route, choose};
+use crate::routes::{Route, choose, choose_in};
 use app_router::index::Node;
 use app_router::source::{SourceFault, check_source};
 use c_structs::Addr;
@@ -20,18 +21,37 @@ pub fn check_addr(routes: &[Route], nodes: &[Node], src: &Addr, interface: u16) 
 {
     match src.ip() {
         Some(addr) => {
-            let back = back(in_bounds(routes), in_bounds(nodes), src);
+            let back = back(in_bounds(routes), choose(in_bounds(nodes), src));
             code(check_source(&addr, interface, back))
         }
         None => Rejection::Martian.code(),
     }
 }
 
-// The interface of the route back to an address.
-fn back(routes: &[Route], nodes: &[Node], addr: &Addr) -> Option<u16>
-    ensures { IsIndexOf routes.now nodes.now → IsBack routes.now addr.now result }
+/// The same number, by a table of the routes and its index.
+pub fn check_addr_by_table(
+    routes: &[Route],
+    nodes: &[Node],
+    cells: &[u64],
+    src: &Addr,
+    interface: u16,
+) -> i32
+    ensures { IsTableOf (in_bounds routes.now) (in_bounds nodes.now) (in_bounds cells.now) → ChecksAddr (in_bounds routes.now) src.now interface result }
 {
-    let place = choose(nodes, addr)?;
+    match src.ip() {
+        Some(addr) => {
+            let place = choose_in(in_bounds(nodes), in_bounds(cells), src);
+            code(check_source(&addr, interface, back(in_bounds(routes), place)))
+        }
+        None => Rejection::Martian.code(),
+    }
+}
+
+// The interface of the route at a place.
+fn back(routes: &[Route], place: Option<u32>) -> Option<u16>
+    ensures { (addr : Addr) → MatchOption place (All (λ route. ¬ Leads addr route) routes.now) (IsChosen routes.now addr) → IsBack routes.now addr result }
+{
+    let place = place?;
     match routes.get(place as usize) {
         Some(route) => Some(route.interface),
         None => None,

@@ -1,0 +1,89 @@
+-- One table is made of an index, and by it the same route is chosen.
+use Rattle.std.proofs.Common.{ℕ, ℤ, pos, negsuc, ◌≡◌, ◌+◌, ◌*◌, ◌<◌, ◌≤◌, ◌∙◌, ◌&&◌, ◌^◌, Bool, true, false, List, MatchOption, Option, None, Some, ap, arith, drop, if◌then◌else◌, length, nat_le, nat_lt, rules, subst, subst₂, sym}
+use Rattle.app_router.proofs.Elements.{counted}
+use Rattle.app_router.specs.Table.{IsTable}
+use Rattle.app_router.specs.declared.index.Node.{Node}
+use Rattle.ip_wire.specs.declared.IpCidr.{IpCidr}
+use Rattle.c_exports.proofs.RoutesOnce.{in-bounds}
+use Rattle.c_routing.specs.Lengths.{in_bounds}
+use Rattle.c_routing.specs.Routes.{IsIndexOf, IsTableOf, MakesTable, WritesTable, table_failure, table_len}
+use Rattle.c_routing.specs.declared.routes.Route.{Route}
+use Rattle.c_structs.specs.Written.{failure_code, max_len}
+use Rattle.c_structs.specs.declared.failures.Failure.{Failure}
+use Rattle.c_structs.specs.declared.failures.Failure.TheVariants as failure
+
+-- ---- the table
+
+-- The same is returned, and nothing is written after the table. After a failure all cells are the same.
+pub record IsSame (nodes : List Node) (new other : List ℕ) (a b : ℤ) : Type 0 where
+  pub returned : a ≡ b
+  pub following : drop (table_len nodes) new ≡ drop (table_len nodes) other
+  pub failed : (n : ℕ) → a ≡ negsuc n → new ≡ other
+
+table-once : (nodes : List Node) (why : Option Failure) (old new other : List ℕ) (a b : ℤ)
+    → MatchOption why (WritesTable nodes old new a) (λ w. (a ≡ failure_code w) × (new ≡ old))
+    → MatchOption why (WritesTable nodes old other b) (λ w. (b ≡ failure_code w) × (other ≡ old)) → IsSame nodes new other a b
+table-once nodes None old new other a b v w = record {
+  returned = v.count ∙ sym w.count;
+  following = v.following ∙ sym w.following;
+  failed = λ n is. let apart : pos (table_len nodes) ≡ negsuc n = sym v.count ∙ is in absurd (cc);
+}
+table-once nodes (Some why) old new other a b (is, stays) (also, same) = record {
+  returned = is ∙ sym also;
+  following = ap (drop (table_len nodes)) (stays ∙ sym same);
+  failed = λ n _. stays ∙ sym same;
+}
+
+pub makes_once : (nodes : List Node) (old new other : List ℕ) (a b : ℤ) → MakesTable nodes old new a → MakesTable nodes old other b → IsSame nodes new other a b
+makes_once nodes old new other a b v w = table-once nodes (table_failure nodes (length old)) old new other a b v w
+
+-- ---- its room
+
+-- whether an index has a table in so many cells
+abbrev has_table : ℕ → ℕ → Bool
+has_table count room = nat_lt count (2 ^ 26) && nat_le (5 * (count + 1)) room && nat_le room max_len
+
+many : (count room : ℕ) → 67108863 < count → has_table count room ≡ false
+many count room more = grind arith
+
+fitting : (count room : ℕ) → count < 67108864 → 5 * (count + 1) ≤ room → room ≤ max_len → has_table count room ≡ true
+fitting count room fewer fits short = grind arith
+
+abbrev failure_if : Bool → Option Failure
+failure_if fits = if fits then None else Some failure.NoRoom
+
+pub too_many_nodes : (nodes : List Node) (old new : List ℕ) (answer : ℤ) → 67108863 < length nodes → MakesTable nodes old new answer → answer ≡ negsuc 12094627905535
+too_many_nodes nodes old new answer more v =
+    let why : table_failure nodes (length old) ≡ Some failure.NoRoom = ap failure_if (many (length nodes) (length old) more) in
+    (subst (λ o. MatchOption o (WritesTable nodes old new answer) (λ w. (answer ≡ failure_code w) × (new ≡ old))) why v).0
+
+-- the cells of such an index are the table of its routes
+pub made : (routes : List Route) (nodes : List Node) (old new : List ℕ) (answer : ℤ) → IsIndexOf routes nodes → length nodes < 67108864
+    → table_len nodes ≤ length old → length old ≤ max_len → length new ≡ length old → MakesTable nodes old new answer → IsTableOf routes (in_bounds nodes) (in_bounds new)
+made routes nodes old new answer index fewer room short same v =
+    let why : table_failure nodes (length old) ≡ None = ap failure_if (fitting (length nodes) (length old) fewer room short) in
+    let written : WritesTable nodes old new answer =
+    subst (λ o. MatchOption o (WritesTable nodes old new answer) (λ w. (answer ≡ failure_code w) × (new ≡ old))) why v in
+    subst₂ (IsTableOf routes) (sym (in-bounds nodes (omega (arith, fewer)))) (sym (in-bounds new (omega (arith, short, same)))) (written.table routes index)
+
+pub short_index : (routes : List Route) (nodes : List Node) → length nodes < 67108864 → IsIndexOf routes nodes → IsIndexOf routes (in_bounds nodes)
+short_index routes nodes fewer index = subst (IsIndexOf routes) (sym (in-bounds nodes (omega (arith, fewer)))) index
+
+-- ---- fewer cells
+
+not-enough : (blocks : List IpCidr) (cells : List ℕ) → length cells < 5 * (length blocks + 1) → IsTable blocks cells
+not-enough blocks cells fewer = record {
+  few = λ enough. absurd (omega (arith, fewer, enough));
+  parts = λ enough. absurd (omega (arith, fewer, enough));
+  ranges = λ enough. absurd (omega (arith, fewer, enough));
+}
+
+no-more : (cells : List ℕ) → length (in_bounds cells) ≤ length cells
+unfolding in_bounds
+no-more cells = search rules
+
+pub too_few_cells : (routes : List Route) (nodes : List Node) (cells : List ℕ) → length cells < table_len nodes → IsIndexOf routes nodes
+    → IsTableOf routes nodes (in_bounds cells)
+too_few_cells routes nodes cells fewer index =
+    let less : length (in_bounds cells) < 5 * (length index.blocks + 1) = omega (arith, fewer, no-more cells, counted index.blocks nodes index.index) in
+    record { blocks = index.blocks; listed = index.listed; index = index.index; table = not-enough index.blocks (in_bounds cells) less }
