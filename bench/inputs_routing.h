@@ -5,7 +5,15 @@
 enum { MOST_ROUTES = 1000000, DESTINATIONS = 1 << 16 };
 static struct lk_route routes[MOST_ROUTES];
 static struct lk_route_node nodes[MOST_ROUTES];
+static uint64_t cells[LK_ROUTE_TABLE_LEN(MOST_ROUTES)];
 static struct lk_addr destinations[DESTINATIONS];
+
+/* The index of so many routes, and its table. */
+static void index_routes(size_t count)
+{
+    lk_index_routes(routes, count, nodes, count);
+    lk_make_route_table(nodes, count, cells, LK_ROUTE_TABLE_LEN(count));
+}
 
 static uint8_t random_octet(uint32_t *random)
 {
@@ -45,7 +53,7 @@ static void prepare_routes(const struct row *row)
         if (i % 2)
             destinations[i] = routes[random % row->size].block.addr;
     }
-    lk_index_routes(routes, row->size, nodes, row->size);
+    index_routes(row->size);
 }
 
 /* In the order of an index. */
@@ -68,7 +76,7 @@ static void prepare_few_routes(const struct row *row)
         if (i % 2)
             destinations[i] = routes[1 + random % (row->size - 1)].block.addr;
     }
-    lk_index_routes(routes, row->size, nodes, row->size);
+    index_routes(row->size);
 }
 
 /* The same with IPv6: the last half of the routes are a default route and prefixes of 2001:db8::/32. */
@@ -84,7 +92,7 @@ static void prepare_dual_stack(const struct row *row)
         destinations[i] = random_ipv6(&random);
         destinations[i + 1] = routes[half + 1 + random % (half - 1)].block.addr;
     }
-    lk_index_routes(routes, row->size, nodes, row->size);
+    index_routes(row->size);
 }
 
 /* A default route, and many routes in one block, 2001:db8::/32. Four of five destinations are outside of this block, and
@@ -102,7 +110,51 @@ static void prepare_own_block(const struct row *row)
         else
             destinations[i].octets[2 + i % 2] ^= 0x20;
     }
-    lk_index_routes(routes, row->size, nodes, row->size);
+    index_routes(row->size);
+}
+
+/* An IPv4 address by its number. */
+static struct lk_addr ipv4_at(uint32_t number)
+{
+    return (struct lk_addr){{(uint8_t)(number >> 24), (uint8_t)(number >> 16), (uint8_t)(number >> 8), (uint8_t)number}, 4};
+}
+
+/* A default route, and blocks of 256 addresses with equal distances. The destinations are in the blocks. */
+static void prepare_blocks(const struct row *row, uint32_t first, uint32_t step)
+{
+    uint32_t random = 1;
+    routes[0] = (struct lk_route){.block = {.addr = {.version = 4}}};
+    for (size_t i = 1; i < row->size; i++)
+        routes[i] = (struct lk_route){.block = {ipv4_at(first + (uint32_t)i * step), 24}};
+    for (size_t i = 0; i < DESTINATIONS; i++) {
+        uint8_t last = random_octet(&random);
+        destinations[i] = routes[1 + random % (row->size - 1)].block.addr;
+        destinations[i].octets[3] = last;
+    }
+    index_routes(row->size);
+}
+
+/* A part of the table has at most one block. */
+static void prepare_distant_blocks(const struct row *row)
+{
+    prepare_blocks(row, 0, (uint32_t)(UINT32_MAX / row->size & ~255u));
+}
+
+/* The blocks are in one or two parts of the table. */
+static void prepare_close_blocks(const struct row *row)
+{
+    prepare_blocks(row, 10u << 24, 1024);
+}
+
+/* The same, with destinations in parts that have no block. */
+static void prepare_no_block(const struct row *row)
+{
+    uint32_t random = 1;
+    prepare_close_blocks(row);
+    for (size_t i = 0; i < DESTINATIONS; i++) {
+        destinations[i] = random_ipv4(&random);
+        destinations[i].octets[0] |= 128;
+    }
 }
 
 /* Flows through a NAT, and for each a frame, which `frames` has. Every other inside port is an outside port too. */

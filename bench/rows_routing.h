@@ -87,6 +87,11 @@ REPEAT(call_choose_route, choose_route, nodes, row->size, NEXT_DESTINATION)
 REPEAT(call_check_source, check_source, routes, row->size, nodes, row->size, NEXT_DESTINATION, 1)
 REPEAT(call_index_routes, index_routes, routes, row->size, nodes, row->size)
 
+#define TABLE cells, LK_ROUTE_TABLE_LEN(row->size)
+REPEAT(call_make_table, make_route_table, nodes, row->size, TABLE)
+REPEAT(call_choose_by_table, choose_route_by_table, nodes, row->size, TABLE, NEXT_DESTINATION)
+REPEAT(call_check_by_table, check_source_by_table, routes, row->size, nodes, row->size, TABLE, NEXT_DESTINATION, 1)
+
 /* Copies of the frames by turns. */
 static uint8_t *next_copy(size_t *len)
 {
@@ -154,6 +159,25 @@ static const struct call index_rows[] = {
 };
 static const size_t index_counts[] = {12, 200}, many_routes[] = {1000, 100000};
 
+/* The same by a table, and look-ups of each kind. */
+static const struct call table_rows[] = {{"make a table of routes", prepare_routes, call_make_table}};
+static const struct call by_table_rows[] = {{"choose by a table", prepare_routes, call_choose_by_table}};
+static const struct call few_by_table_rows[] = {
+    {"choose by a table, small table", prepare_few_routes, call_choose_by_table},
+    {"check a source by a table, small", prepare_few_routes, call_check_by_table},
+};
+static const struct call dual_by_table_rows[] = {
+    {"choose by a table, dual stack", prepare_dual_stack, call_choose_by_table},
+    {"check a source by a table, dual", prepare_dual_stack, call_check_by_table},
+};
+static const struct call kind_rows[] = {
+    {"choose by a table, whole part", prepare_no_block, call_choose_by_table},
+    {"choose by a table, range", prepare_distant_blocks, call_choose_by_table},
+    {"choose by a table, divided part", prepare_close_blocks, call_choose_by_table},
+    {"choose by a table, IPv6", prepare_own_block, call_choose_by_table},
+};
+static const size_t kind_counts[] = {1000};
+
 static const struct call nat_rows[] = {
     {"NAT out UDP", prepare_udp_out, call_nat_out},
     {"NAT out TCP", prepare_tcp_out, call_nat_out},
@@ -208,6 +232,11 @@ static const struct block routing_blocks[] = {
     BLOCK(dual_rows, dual_counts, IN_OURS, 128),     BLOCK(choose_rows, choose_counts, IN_OURS, 256),
     BLOCK(choose_rows, most_routes, IN_OURS, 0),     BLOCK(beside_rows, beside_counts, IN_OURS, 128),
     BLOCK(index_rows, index_counts, IN_OURS, 1),     BLOCK(index_rows, many_routes, IN_OURS, 0),
+    BLOCK(table_rows, index_counts, IN_OURS, 1),     BLOCK(table_rows, many_routes, IN_OURS, 0),
+    BLOCK(by_table_rows, choose_counts, IN_OURS, 256),
+    BLOCK(by_table_rows, most_routes, IN_OURS, 0),   BLOCK(kind_rows, kind_counts, IN_OURS, 128),
+    BLOCK(few_by_table_rows, few_counts, IN_OURS, 128),
+    BLOCK(dual_by_table_rows, dual_counts, IN_OURS, 128),
     BLOCK(nat_rows, nat_sizes, IN_OURS, 64),         BLOCK(host_rows, host_sizes, IN_OURS, 1),
     BLOCK(message_rows, message_sizes, IN_OURS, 1),  BLOCK(ndisc_rows, host_sizes, IN_FLOOR, 1),
     BLOCK(edit_rows, nat_sizes, IN_OURS, 1),

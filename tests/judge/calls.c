@@ -367,6 +367,54 @@ int both_check_source(const struct lk_route *routes, size_t route_count, const s
     return came;
 }
 
+/* Nodes and cells of a list that is too long are not accessed. Cells after the table stay as they are. */
+ptrdiff_t both_make_route_table(const struct lk_route_node *nodes, size_t count, uint64_t *cells, size_t cell_count)
+{
+    size_t used = count < MODEL_NO_TABLE ? count : 0, kept = 0;
+    size_t len = count < MODEL_NO_TABLE ? used_len(cell_count) : 0;
+    uint64_t *came;
+    ptrdiff_t result;
+    CALL(lk_make_route_table);
+    came = room(cells, len * sizeof *cells);
+    result = lk_make_route_table(given("nodes", nodes, used * sizeof *nodes), NUMBER(count), came, NUMBER(cell_count));
+    end_call(model_make_route_table(count, cell_count), result);
+    if (result > 0)
+        kept = (size_t)result;
+    if (len > kept)
+        same_bytes("cells that no table takes", cells + kept, came + kept, (len - kept) * sizeof *cells);
+    if (kept != 0)
+        memcpy(cells, came, kept * sizeof *cells);
+    return result;
+}
+
+#define INDEX given("nodes", nodes, used_len(count) * sizeof *nodes), NUMBER(count)
+#define CELLS given("cells", cells, used_len(cell_count) * sizeof *cells), NUMBER(cell_count)
+
+ptrdiff_t both_choose_route_by_table(const struct lk_route_node *nodes, size_t count, const uint64_t *cells,
+                                     size_t cell_count, const struct lk_addr *addr)
+{
+    size_t used = used_len(count);
+    ptrdiff_t came;
+    CALL(lk_choose_route_by_table);
+    given("routes", indexed, used * sizeof *indexed);
+    came = lk_choose_route_by_table(INDEX, CELLS, GIVE(addr));
+    end_call(model_choose_route(indexed, used, addr), came);
+    return came;
+}
+
+int both_check_source_by_table(const struct lk_route *routes, size_t route_count, const struct lk_route_node *nodes,
+                               size_t count, const uint64_t *cells, size_t cell_count, const struct lk_addr *src,
+                               uint16_t interface)
+{
+    size_t routes_len = used_len(route_count) * sizeof *routes;
+    int came;
+    CALL(lk_check_source_by_table);
+    came = lk_check_source_by_table(given("routes", routes, routes_len), NUMBER(route_count), INDEX, CELLS, GIVE(src),
+                                    NUMBER(interface));
+    end_call(model_check_source(indexed, used_len(count), src, interface), came);
+    return came;
+}
+
 /* ---- NAT with a table: the model has its own ---- */
 
 static struct model_table table;

@@ -100,27 +100,81 @@ static void any_routes(size_t count)
     }
 }
 
-static void look_up(const struct lk_route_node *nodes, size_t count, const struct lk_addr *addr)
+/* The table of the index that was made last, and cells after it. */
+enum { FOLLOWING = 12 };
+static uint64_t cells[LK_ROUTE_TABLE_LEN(ROUTES) + FOLLOWING];
+
+/* Returns whether there is a table now. */
+static int make_table(const struct lk_route_node *nodes, size_t count)
+{
+    size_t len = LK_ROUTE_TABLE_LEN(count), cell_count = one_in(8) ? below(len) : len + below(FOLLOWING);
+    fill(cells, sizeof cells);
+    if (one_in(32))
+        both_make_route_table(nodes, count, cells, len - 1);
+    if (one_in(64))
+        both_make_route_table(nodes, MODEL_NO_TABLE + below(3), cells, (size_t)1 << (29 + below(12)));
+    if (one_in(64))
+        both_make_route_table(nodes, unused_len(), cells, cell_count);
+    if (one_in(64))
+        cell_count = unused_len();
+    return both_make_route_table(nodes, count, cells, cell_count) >= 0;
+}
+
+/* By the index, and by its table. */
+static void look_up(const struct lk_route_node *nodes, size_t count, size_t cell_count, const struct lk_addr *addr)
 {
     ptrdiff_t route = both_choose_route(nodes, count, addr);
     uint16_t interface = route >= 0 && one_in(2) ? routes[route].interface : (uint16_t)below(4);
     both_check_source(routes, count, nodes, count, addr, interface);
+    both_choose_route_by_table(nodes, count, cells, cell_count, addr);
+    both_check_source_by_table(routes, count, nodes, count, cells, cell_count, addr, interface);
 }
 
-/* Any nodes: what comes is open, but nothing outside may be accessed. */
-static void look_up_anything(size_t count)
+/* An index of so many routes, and its table. Cells may follow it, or too few are given. At times a list is too long: it
+ * counts as empty. */
+static void look_up_any(const struct lk_route_node *nodes, size_t count, int has_table)
 {
-    static struct lk_route_node anything[ROUTES];
-    struct lk_addr any_one = any_addr(any_version());
-    const struct lk_route *placed;
-    const struct lk_route_node *nodes;
-    const struct lk_addr *addr;
+    struct lk_addr addr = any_addr(any_version());
+    size_t len = LK_ROUTE_TABLE_LEN(count), cell_count = has_table ? len + below(FOLLOWING) : below(len);
+    if (count > 0)
+        addr = any_addr_near(&routes[below(count)].block);
+    if (one_in(16))
+        cell_count = one_in(4) ? unused_len() : below(len);
+    if (one_in(64))
+        look_up(nodes, unused_len(), below(LK_ROUTE_TABLE_LEN(0)), &addr);
+    else
+        look_up(nodes, count, cell_count, &addr);
+}
+
+static struct lk_route_node anything[ROUTES];
+
+static void fill_nodes(size_t count)
+{
     fill(anything, count * sizeof *anything);
     for (size_t i = 0; i < count; i++) {
         anything[i].version = one_in(4) ? anything[i].version : one_in(2) ? 4 : 6;
         anything[i].above = one_in(4) ? anything[i].above : (uint32_t)below(count + 2);
         anything[i].route = one_in(4) ? anything[i].route : (uint32_t)below(count + 2);
     }
+}
+
+/* Changes so many cells. The numbers are often small, or large with a small last half, as those of tables. */
+static void change_cells(size_t cell_count)
+{
+    for (size_t i = below(4); i < cell_count; i += 1 + below(8)) {
+        uint64_t half = one_in(4) ? any() : below(2 * ROUTES + 4);
+        cells[i] = one_in(4) ? any() : (one_in(2) ? any() : below(2 * ROUTES + 4)) << 32 | (half & UINT32_MAX);
+    }
+}
+
+/* Any nodes: what comes is open, but nothing outside may be accessed. */
+static void look_up_anything(size_t count)
+{
+    struct lk_addr any_one = any_addr(any_version());
+    const struct lk_route *placed;
+    const struct lk_route_node *nodes;
+    const struct lk_addr *addr;
+    fill_nodes(count);
     CALL(lk_choose_route);
     nodes = given("nodes", anything, count * sizeof *nodes);
     addr = given("addr", &any_one, sizeof *addr);
@@ -132,10 +186,50 @@ static void look_up_anything(size_t count)
     end_call(1, lk_check_source(placed, count, nodes, count, addr, 0) >= 0);
 }
 
+/* A table of any nodes. */
+static void make_any_table(size_t count)
+{
+    size_t len = LK_ROUTE_TABLE_LEN(count);
+    const struct lk_route_node *nodes;
+    uint64_t *any_cells;
+    CALL(lk_make_route_table);
+    nodes = given("nodes", anything, count * sizeof *nodes);
+    any_cells = room(cells, len * sizeof *cells);
+    end_call((ptrdiff_t)len, lk_make_route_table(nodes, count, any_cells, len));
+    memcpy(cells, any_cells, len * sizeof *cells);
+}
+
+/* The same for cells, beside the nodes of an index or any nodes. */
+static void look_up_any_cells(const struct lk_route_node *of_index, size_t count)
+{
+    size_t cell_count = one_in(2) ? LK_ROUTE_TABLE_LEN(count) : below(LK_ROUTE_TABLE_LEN(ROUTES));
+    struct lk_addr any_one = any_addr(one_in(8) ? any_version() : 4);
+    const struct lk_route *placed;
+    const struct lk_route_node *nodes, *chosen = one_in(2) ? of_index : anything;
+    const uint64_t *any_cells;
+    const struct lk_addr *addr;
+    if (!one_in(4))
+        change_cells(cell_count);
+    if (one_in(2))
+        fill(any_one.octets, 4);
+    CALL(lk_choose_route_by_table);
+    nodes = given("nodes", chosen, count * sizeof *nodes);
+    any_cells = given("cells", cells, cell_count * sizeof *cells);
+    addr = given("addr", &any_one, sizeof *addr);
+    end_call(1, lk_choose_route_by_table(nodes, count, any_cells, cell_count, addr) >= -1);
+    CALL(lk_check_source_by_table);
+    placed = given("routes", routes, count * sizeof *routes);
+    nodes = given("nodes", chosen, count * sizeof *nodes);
+    any_cells = given("cells", cells, cell_count * sizeof *cells);
+    addr = given("addr", &any_one, sizeof *addr);
+    end_call(1, lk_check_source_by_table(placed, count, nodes, count, any_cells, cell_count, addr, 0) >= 0);
+}
+
 void choose_route(void)
 {
     static struct lk_route_node nodes[ROUTES + 2];
     size_t count = below(one_in(4) ? ROUTES + 1 : 6), node_count = one_in(8) ? below(ROUTES + 2) : count + below(2);
+    int has_table;
     any_routes(count);
     if (one_in(64))
         node_count = unused_len();
@@ -146,11 +240,11 @@ void choose_route(void)
         both_index_routes(routes, 0, nodes, unused_len());
     if (both_index_routes(routes, count, nodes, node_count) < 0)
         return;
-    for (int i = 0; i < 4; i++) {
-        struct lk_addr addr = any_addr(any_version());
-        if (count > 0)
-            addr = any_addr_near(&routes[below(count)].block);
-        look_up(nodes, one_in(64) ? unused_len() : count, &addr);
-    }
+    has_table = make_table(nodes, count);
+    for (int i = 0; i < 4; i++)
+        look_up_any(nodes, count, has_table);
     look_up_anything(count);
+    if (one_in(4))
+        make_any_table(count);
+    look_up_any_cells(nodes, count);
 }

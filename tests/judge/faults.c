@@ -43,6 +43,10 @@ __attribute__((constructor)) static void choose(void)
         "ECN cleared with the DSCP", "a checksum left to the device updated as a computed one",
         "the checksum in a first fragment not updated", "the protocol replaced as other bytes",
         "no checksum filled in where UDP has none", "the options of a rejected TCP header",
+        "a table without the ranges of one route", "a cell written past the end of a table",
+        "a table in one cell too few", "a range that begins at its second address", "the last range of a table forgotten",
+        "a cell read past the end of a table", "no route by a table for IPv6", "no route by a table in too few cells",
+        "a martian source accepted by a table",
     };
     const char *number = getenv("FAULT");
     fault = number ? (enum fault)atoi(number) : NO_FAULT;

@@ -12,6 +12,13 @@ ptrdiff_t __real_lk_index_routes(const struct lk_route *routes, size_t count, st
                                  size_t node_count);
 int __real_lk_check_source(const struct lk_route *routes, size_t route_count, const struct lk_route_node *nodes,
                            size_t count, const struct lk_addr *src, uint16_t interface);
+ptrdiff_t __real_lk_make_route_table(const struct lk_route_node *nodes, size_t count, uint64_t *cells,
+                                     size_t cell_count);
+ptrdiff_t __real_lk_choose_route_by_table(const struct lk_route_node *nodes, size_t count, const uint64_t *cells,
+                                          size_t cell_count, const struct lk_addr *addr);
+int __real_lk_check_source_by_table(const struct lk_route *routes, size_t route_count,
+                                    const struct lk_route_node *nodes, size_t count, const uint64_t *cells,
+                                    size_t cell_count, const struct lk_addr *src, uint16_t interface);
 int __real_lk_translate_out(const struct lk_nat *nat, struct lk_mapping *mappings, size_t count, uint64_t now,
                             uint8_t *frame, size_t len);
 int __real_lk_translate_in(const struct lk_nat *nat, struct lk_mapping *mappings, size_t count, uint64_t now,
@@ -79,6 +86,70 @@ int __wrap_lk_check_source(const struct lk_route *routes, size_t route_count, co
     int result = __real_lk_check_source(routes, route_count, nodes, count, src, interface);
     return fault == RESERVED_SOURCE_ACCEPTED && src->version == 4 && src->octets[0] >= 240 ? LK_NOT_REJECTED : result;
 }
+
+/* ---- tables of routes ---- */
+
+/* The first node stands twice, and the second one nowhere. */
+static ptrdiff_t make_without_second(const struct lk_route_node *nodes, size_t count, uint64_t *cells, size_t cell_count)
+{
+    static struct lk_route_node others[64];
+    memcpy(others, nodes, count * sizeof *nodes);
+    others[1] = others[0];
+    return __real_lk_make_route_table(others, count, cells, cell_count);
+}
+
+ptrdiff_t __wrap_lk_make_route_table(const struct lk_route_node *nodes, size_t count, uint64_t *cells,
+                                     size_t cell_count)
+{
+    ptrdiff_t result;
+    if (fault == NODE_LEFT_OUT_OF_TABLE && count > 1 && count <= 64)
+        return make_without_second(nodes, count, cells, cell_count);
+    if (fault == TABLE_WITHOUT_ROOM && count < 64 && cell_count == LK_ROUTE_TABLE_LEN(count) - 1)
+        cell_count++;
+    result = __real_lk_make_route_table(nodes, count, cells, cell_count);
+    if (fault == CELL_WRITTEN_PAST_THE_TABLE && result > 0 && (size_t)result < cell_count)
+        cells[result]++;
+    return result;
+}
+
+/* The address before this one. */
+static struct lk_addr before(const struct lk_addr *addr)
+{
+    struct lk_addr other = *addr;
+    for (size_t i = 4; i > 0 && other.octets[i - 1]-- == 0;)
+        i--;
+    return other;
+}
+
+ptrdiff_t __wrap_lk_choose_route_by_table(const struct lk_route_node *nodes, size_t count, const uint64_t *cells,
+                                          size_t cell_count, const struct lk_addr *addr)
+{
+    struct lk_addr other = *addr;
+    ptrdiff_t result;
+    if (fault == RANGE_FROM_THE_SECOND_ADDRESS && addr->version == 4)
+        other = before(addr);
+    if (fault == TABLE_WITHOUT_IPV6 && addr->version == 6 && cell_count > 0)
+        return -1;
+    if (fault == NO_ROUTE_BY_TOO_FEW_CELLS && count <= LK_MAX_LEN && cell_count < LK_ROUTE_TABLE_LEN(count))
+        return -1;
+    result = __real_lk_choose_route_by_table(nodes, count, cells, cell_count, &other);
+    if (fault == CELL_READ_PAST_THE_TABLE && cell_count > 0 && cell_count <= LK_MAX_LEN)
+        result |= (ptrdiff_t)(*(const volatile uint64_t *)&cells[cell_count] & 0);
+    if (fault == LAST_RANGE_FORGOTTEN && addr->version == 4 && memcmp(addr->octets, "\xff\xff\xff\xff", 4) == 0)
+        return -1;
+    return result;
+}
+
+int __wrap_lk_check_source_by_table(const struct lk_route *routes, size_t route_count,
+                                    const struct lk_route_node *nodes, size_t count, const uint64_t *cells,
+                                    size_t cell_count, const struct lk_addr *src, uint16_t interface)
+{
+    int result =
+        __real_lk_check_source_by_table(routes, route_count, nodes, count, cells, cell_count, src, interface);
+    return fault == MARTIAN_BY_TABLE_ACCEPTED && result == LK_MARTIAN && cell_count > 0 ? LK_NOT_REJECTED : result;
+}
+
+/* ---- NAT with a table ---- */
 
 int __wrap_lk_translate_out(const struct lk_nat *nat, struct lk_mapping *mappings, size_t count, uint64_t now,
                             uint8_t *frame, size_t len)

@@ -73,7 +73,8 @@ BOTH(update_checksum); BOTH(update_udp_checksum); BOTH(update_checksum_addr); BO
 BOTH(update_checksum_bytes); BOTH(update_udp_checksum_bytes);
 BOTH(add_seq); BOTH(subtract_seq); BOTH(compare_seq); BOTH(failure_name); BOTH(reason_name);
 BOTH(rejection_name); BOTH(forward); BOTH(translate); BOTH(clamp_mss); BOTH(index_routes); BOTH(choose_route);
-BOTH(check_source); BOTH(translate_out); BOTH(translate_in); BOTH(set_hop_limit); BOTH(set_dscp); BOTH(set_addr);
+BOTH(check_source); BOTH(make_route_table); BOTH(choose_route_by_table); BOTH(check_source_by_table);
+BOTH(translate_out); BOTH(translate_in); BOTH(set_hop_limit); BOTH(set_dscp); BOTH(set_addr);
 BOTH(set_port); BOTH(set_bytes); BOTH(fill_checksum); BOTH(protocol_name); BOTH(ethertype_name);
 BOTH(tcp_flag_name);
 

@@ -184,10 +184,14 @@ int model_forward(uint8_t *octets, size_t len, const uint8_t *src, const uint8_t
 int model_translate(uint8_t *octets, size_t len, int side, const struct lk_endpoint *end);
 int model_clamp_mss(uint8_t *octets, size_t len, uint16_t max_seg_size);
 
-/* The model has no index: it searches the routes one by one. */
+/* The model has no index and no table: it searches the routes one by one. */
 ptrdiff_t model_index_routes(const struct lk_route *routes, size_t count, size_t node_count);
 ptrdiff_t model_choose_route(const struct lk_route *routes, size_t count, const struct lk_addr *addr);
 int model_check_source(const struct lk_route *routes, size_t count, const struct lk_addr *src, unsigned interface);
+
+/* From this number on, routes have no table. */
+enum { MODEL_NO_TABLE = 1 << 26 };
+ptrdiff_t model_make_route_table(size_t count, size_t cell_count);
 
 /* ---- model_edit.c ---- */
 

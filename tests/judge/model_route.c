@@ -181,6 +181,15 @@ ptrdiff_t model_choose_route(const struct lk_route *routes, size_t count, const 
     return chosen;
 }
 
+ptrdiff_t model_make_route_table(size_t count, size_t cell_count)
+{
+    size_t len;
+    if (count >= MODEL_NO_TABLE)
+        return LK_NO_ROOM;
+    len = 5 * count + 5;
+    return len > cell_count || cell_count > LK_MAX_LEN ? LK_NO_ROOM : (ptrdiff_t)len;
+}
+
 /* RFC 1122, section 3.2.1.3; RFC 1812, section 5.3.7; RFC 4291, sections 2.5 and 2.7. */
 static int is_martian(const struct lk_addr *src)
 {

@@ -153,6 +153,78 @@ static void choose(void)
     CHECK(both_choose_route(nodes, (size_t)LK_NO_ROOM, &choices[0].addr) == -1);
 }
 
+/* ---- tables of routes ---- */
+
+/* Of routes, and more than this. */
+enum { CELLS = LK_ROUTE_TABLE_LEN(ROUTES), MORE = CELLS + 20 };
+static uint64_t cells[MORE];
+
+static void make_tables(void)
+{
+    static const struct {
+        size_t count, cell_count;
+        ptrdiff_t result;
+    } made[] = {
+        {ROUTES, 40, 40},
+        {ROUTES, 41, 40},
+        {ROUTES, MORE, 40},
+        {ROUTES, 39, LK_NO_ROOM},
+        {ROUTES, 0, LK_NO_ROOM},
+        {1, 10, 10},
+        {0, 5, 5},
+        {0, 4, LK_NO_ROOM},
+        {(size_t)1 << 26, (size_t)1 << 32, LK_NO_ROOM},
+        {((size_t)1 << 26) + 1, LK_MAX_LEN, LK_NO_ROOM},
+        {LK_MAX_LEN + 1, LK_MAX_LEN, LK_NO_ROOM},
+        {SIZE_MAX, LK_MAX_LEN, LK_NO_ROOM},
+        {(size_t)LK_NO_ROOM, 40, LK_NO_ROOM},
+        {0, LK_MAX_LEN + 1, LK_NO_ROOM},
+        {ROUTES, (size_t)LK_NO_ROOM, LK_NO_ROOM},
+    };
+    CHECK(LK_ROUTE_TABLE_LEN(0) == 5 && LK_ROUTE_TABLE_LEN(ROUTES) == 40);
+    CHECK(both_index_routes(routes, ROUTES, nodes, ROUTES) == ROUTES);
+    for (size_t i = 0; i < sizeof made / sizeof made[0]; i++)
+        CHECK_ROW(i, both_make_route_table(nodes, made[i].count, cells, made[i].cell_count) == made[i].result);
+}
+
+static void choose_by_table(void)
+{
+    static const size_t counts[] = {CELLS, CELLS + 1, MORE, CELLS - 1, 5, 1, 0, LK_MAX_LEN + 1, (size_t)LK_NO_ROOM};
+    CHECK(both_index_routes(routes, ROUTES, nodes, ROUTES) == ROUTES);
+    CHECK(both_make_route_table(nodes, ROUTES, cells, CELLS) == CELLS);
+    for (size_t i = 0; i < sizeof choices / sizeof choices[0]; i++)
+        for (size_t j = 0; j < sizeof counts / sizeof counts[0]; j++)
+            CHECK_ROW(i, both_choose_route_by_table(nodes, ROUTES, cells, counts[j], &choices[i].addr) ==
+                             choices[i].route);
+    CHECK(both_choose_route_by_table(nodes, ROUTES, 0, 0, &choices[0].addr) == 0);
+    CHECK(both_choose_route_by_table(0, 0, 0, 0, &choices[0].addr) == -1);
+    CHECK(both_choose_route_by_table(nodes, LK_MAX_LEN + 1, 0, 0, &choices[0].addr) == -1);
+    CHECK(both_make_route_table(0, 0, cells, CELLS) == LK_ROUTE_TABLE_LEN(0));
+    CHECK(both_choose_route_by_table(0, 0, cells, LK_ROUTE_TABLE_LEN(0), &choices[0].addr) == -1);
+}
+
+/* A default route, and 63 hosts of 198.51.100.0/25: each second address from .1 on. So 64 ranges of one address begin
+ * in one part of the table. */
+static void choose_among_hosts(void)
+{
+    enum { COUNT = 64, HOST_CELLS = LK_ROUTE_TABLE_LEN(COUNT) };
+    static struct lk_route hosts[COUNT] = {{{{{0}, 4}, 0}, {{0}, 0}, 0}};
+    static struct lk_route_node host_nodes[COUNT];
+    static uint64_t host_cells[HOST_CELLS];
+    struct lk_addr addr = {{198, 51, 100}, 4};
+    for (size_t i = 1; i < COUNT; i++) {
+        addr.octets[3] = (uint8_t)(2 * i - 1);
+        hosts[i].block = (struct lk_block){addr, 32};
+    }
+    CHECK(both_index_routes(hosts, COUNT, host_nodes, COUNT) == COUNT);
+    CHECK(both_make_route_table(host_nodes, COUNT, host_cells, HOST_CELLS) == HOST_CELLS);
+    for (int i = 0; i < 256; i++) {
+        ptrdiff_t route = i < 126 && i % 2 ? (i + 1) / 2 : 0;
+        addr.octets[3] = (uint8_t)i;
+        CHECK_ROW(i, both_choose_route_by_table(host_nodes, COUNT, host_cells, HOST_CELLS, &addr) == route);
+    }
+}
+
 static const struct {
     struct lk_addr src;
     uint16_t interface;
@@ -181,11 +253,22 @@ static const struct {
 static void check_sources(void)
 {
     CHECK(both_index_routes(routes, ROUTES, nodes, ROUTES) == ROUTES);
-    for (size_t i = 0; i < sizeof sources / sizeof sources[0]; i++)
-        CHECK_ROW(i, both_check_source(routes, ROUTES, nodes, ROUTES, &sources[i].src, sources[i].interface) ==
+    CHECK(both_make_route_table(nodes, ROUTES, cells, CELLS) == CELLS);
+    for (size_t i = 0; i < sizeof sources / sizeof sources[0]; i++) {
+        const struct lk_addr *src = &sources[i].src;
+        uint16_t interface = sources[i].interface;
+        CHECK_ROW(i, both_check_source(routes, ROUTES, nodes, ROUTES, src, interface) == sources[i].rejection);
+        CHECK_ROW(i, both_check_source_by_table(routes, ROUTES, nodes, ROUTES, cells, CELLS, src, interface) ==
                          sources[i].rejection);
+        CHECK_ROW(i, both_check_source_by_table(routes, ROUTES, nodes, ROUTES, cells, MORE, src, interface) ==
+                         sources[i].rejection);
+        CHECK_ROW(i, both_check_source_by_table(routes, ROUTES, nodes, ROUTES, cells, CELLS - 1, src, interface) ==
+                         sources[i].rejection);
+    }
     CHECK(both_check_source(0, 0, 0, 0, &sources[0].src, 1) == LK_NO_ROUTE);
     CHECK(both_check_source(routes, ROUTES, nodes, LK_MAX_LEN + 1, &sources[0].src, 1) == LK_NO_ROUTE);
+    CHECK(both_check_source_by_table(0, 0, 0, 0, 0, 0, &sources[0].src, 1) == LK_NO_ROUTE);
+    CHECK(both_check_source_by_table(routes, ROUTES, nodes, LK_MAX_LEN + 1, 0, 0, &sources[0].src, 1) == LK_NO_ROUTE);
 }
 
 void worked_route(void)
@@ -193,5 +276,8 @@ void worked_route(void)
     forward();
     clamp_mss();
     choose();
+    make_tables();
+    choose_by_table();
+    choose_among_hosts();
     check_sources();
 }
