@@ -188,8 +188,9 @@ def _load() -> ctypes.CDLL:
     if not is_supported:
         raise ImportError("the C library ip_wire needs an x86-64-v2 processor (SSE4.2 and POPCNT)")
     version = f"{number >> 16}.{number >> 8 & 255}.{number & 255}"
-    if version.rpartition(".")[0] != series or not all(hasattr(found, name) for name in CALLS):
-        raise ImportError(f"this package needs the C library ip_wire {VERSION}, and {path} has version {version}")
+    lacks = "".join([f" without {name}" for name in CALLS if not hasattr(found, name)][:1])
+    if version.rpartition(".")[0] != series or lacks:
+        raise ImportError(f"this package needs the C library ip_wire {VERSION}, and {path} has version {version}{lacks}")
     for name, (result, *kinds) in CALLS.items():
         call = getattr(found, name)
         call.restype, call.argtypes = result, list(argument_types(tuple(kinds)))

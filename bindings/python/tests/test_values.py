@@ -10,6 +10,7 @@ import sys
 import unittest
 from dataclasses import fields, replace
 from ipaddress import IPv4Address, IPv6Address, ip_address, ip_interface, ip_network
+from unittest.mock import patch
 
 import ip_wire
 import model
@@ -20,7 +21,8 @@ from ip_wire import _c as c
 TOP = os.path.join(os.path.dirname(os.path.abspath(__file__)), "..", "..", "..")
 HEADERS = [os.path.join(TOP, folder, "ip_wire.h") for folder in ("c", "include")]
 HEADER = os.environ.get("IP_WIRE_HEADER") or next(filter(os.path.exists, HEADERS), HEADERS[0])
-UNBOUND = []  # the calls of the header that the package lacks
+# The calls of the header that the package lacks. A table saves less time than a call from Python takes.
+UNBOUND = ["lk_check_source_by_table", "lk_choose_route_by_table", "lk_make_route_table"]
 
 
 class Declarations(unittest.TestCase):
@@ -240,6 +242,10 @@ class Importing(unittest.TestCase):
         self.assertEqual(run.returncode, 1)
         self.assertIn("ImportError: the C library ip_wire is not found: /no/such/libip_wire.so", run.stderr)
         self.assertIn("set IP_WIRE_LIBRARY", run.stderr)
+
+    def test_older_library(self):
+        with patch.dict(c.CALLS, lk_later=(None,)):
+            self.assertRaisesRegex(ImportError, "needs the C library ip_wire .* without lk_later$", c._load)
 
 
 if __name__ == "__main__":

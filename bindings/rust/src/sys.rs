@@ -355,10 +355,15 @@ calls! {
     fn lk_index_routes(
         routes: *const Route, count: usize, nodes: *mut RouteNode, node_count: usize
     ) -> isize;
-    fn lk_choose_route(nodes: *const RouteNode, count: usize, addr: &Addr) -> isize;
-    fn lk_check_source(
-        routes: *const Route, route_count: usize, nodes: *const RouteNode, count: usize, src: &Addr,
-        interface: u16
+    fn lk_make_route_table(
+        nodes: *const RouteNode, count: usize, cells: *mut u64, cell_count: usize
+    ) -> isize;
+    fn lk_choose_route_by_table(
+        nodes: *const RouteNode, count: usize, cells: *const u64, cell_count: usize, addr: &Addr
+    ) -> isize;
+    fn lk_check_source_by_table(
+        routes: *const Route, route_count: usize, nodes: *const RouteNode, count: usize,
+        cells: *const u64, cell_count: usize, src: &Addr, interface: u16
     ) -> c_int;
     fn lk_translate_out(
         nat: &Nat, mappings: *mut Mapping, count: usize, now: u64, frame: *mut u8, len: usize

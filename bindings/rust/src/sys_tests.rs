@@ -21,6 +21,8 @@ extern "C" {
 /// The calls of the header that `CALLS` does not have, and what a program has instead.
 const OTHERS: &[(&str, &str)] = &[
     ("lk_append", "slices"),
+    ("lk_check_source", "`lk_check_source_by_table` without cells"),
+    ("lk_choose_route", "`lk_choose_route_by_table` without cells"),
     ("lk_cpu_supported", "`cpu_supported`"),
     ("lk_failure_name", "`Debug` of `Error`"),
     ("lk_is_multicast", "`IpAddr::is_multicast`"),
