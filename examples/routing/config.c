@@ -247,7 +247,8 @@ static int collect_routes(struct reading *reading)
     size_t most = 4 * config->address_count + reading->route_count, count = 0;
     struct lk_route *routes = config->routes = calloc(most + 1, sizeof *routes);
     config->nodes = calloc(most + 1, sizeof *config->nodes);
-    if (routes == NULL || config->nodes == NULL)
+    config->cells = calloc(LK_ROUTE_TABLE_LEN(most), sizeof *config->cells);
+    if (routes == NULL || config->nodes == NULL || config->cells == NULL)
         return 0;
     for (const struct address *own = config->addresses; own < config->addresses + config->address_count; own++) {
         struct lk_block self = own->block;
@@ -261,7 +262,9 @@ static int collect_routes(struct reading *reading)
     for (size_t i = 0; i < reading->route_count; i++)
         routes[count++] = reading->routes[i].route;
     config->route_count = count;
-    return lk_index_routes(routes, count, config->nodes, count) >= 0;
+    config->cell_count = LK_ROUTE_TABLE_LEN(count);
+    return lk_index_routes(routes, count, config->nodes, count) >= 0
+        && lk_make_route_table(config->nodes, count, config->cells, config->cell_count) >= 0;
 }
 
 /* Returns why the router cannot reach an address as a neighbour on an interface, or null. */
@@ -309,6 +312,7 @@ static void free_config(struct config *config)
     free(config->addresses);
     free(config->routes);
     free(config->nodes);
+    free(config->cells);
     free(config->neighbours);
     free(config->settings);
 }

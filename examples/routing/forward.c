@@ -47,8 +47,8 @@ static int may_pass(struct router *router, uint16_t from, const struct lk_frame 
         drop(router, RESERVED);
     } else {
         const struct config *config = &router->config;
-        int rejection = lk_check_source(config->routes, config->route_count, config->nodes, config->route_count,
-                                        &in->src.addr, from);
+        int rejection = lk_check_source_by_table(config->routes, config->route_count, config->nodes, config->route_count,
+                                                 config->cells, config->cell_count, &in->src.addr, from);
         if (rejection == LK_NOT_REJECTED || (router->takes_any_way && rejection != LK_MARTIAN))
             return 1;
         drop(router, rejection);
@@ -124,15 +124,16 @@ static void send_by(struct router *router, uint16_t from, const struct lk_route 
 
 void send_on(struct router *router, uint16_t from, struct packet *packet, const struct lk_addr *dst)
 {
-    ptrdiff_t place = lk_choose_route(router->config.nodes, router->config.route_count, dst);
-    int to = place < 0 ? -1 : router->config.routes[place].interface;
+    const struct config *config = &router->config;
+    ptrdiff_t place = lk_choose_route_by_table(config->nodes, config->route_count, config->cells, config->cell_count, dst);
+    int to = place < 0 ? -1 : config->routes[place].interface;
     if (to < 0) {
         drop(router, NO_WAY);
         send_error(router, from, LK_ROUTE_MISSING, packet, 0);
     } else if (to == TO_BROADCAST) {
         drop(router, GROUP);
     } else if (to != TO_ROUTER) {
-        send_by(router, from, &router->config.routes[place], packet, dst);
+        send_by(router, from, &config->routes[place], packet, dst);
     } else if (answer(router, from, dst, packet)) {
         router->answered++;
     } else {

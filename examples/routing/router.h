@@ -64,6 +64,8 @@ struct config {
     struct lk_route *routes; /* those of the addresses, then those of the file */
     struct lk_route_node *nodes;
     size_t route_count;
+    uint64_t *cells; /* the table of the routes */
+    size_t cell_count;
     struct fixed_neighbour *neighbours; /* by compare_fixed */
     size_t neighbour_count;
     struct setting *settings; /* of each interface */
