@@ -255,6 +255,7 @@ fn climb(nodes: &[Node], start: usize, inner: &Node) -> usize
 }
 
 // Two places around that of an address: those of the hints, or both ends of the array if the hints are wrong.
+#[inline(always)]
 fn bounds(nodes: &[Node], target: &Node) -> (usize, usize)
     ensures order { result.0 ≤ result.1 }
     ensures within { result.1 ≤ length nodes.now }
@@ -290,6 +291,7 @@ fn splits(nodes: &[Node], low: usize, high: usize, target: &Node) -> bool
 }
 
 // The number of nodes whose first address is at or before an address.
+#[inline(always)]
 fn count_up_to(nodes: &[Node], target: &Node) -> usize
     ensures within { result ≤ length nodes.now }
     ensures split { IsNonDecreasingBy place nodes.now → IsSplit nodes.now result result target.now }
@@ -308,6 +310,7 @@ fn count_up_to(nodes: &[Node], target: &Node) -> usize
 
 /// The place of the route with the longest prefix whose block contains the address, and of several the
 /// first. `None` if no block contains it.
+#[inline(always)]
 pub fn find(nodes: &[Node], addr: &IpAddress) -> Option<u32>
     ensures { (blocks : List IpCidr) → IsIndex blocks nodes.now
         → MatchOption result (All (λ block. ¬ IsIn block addr.now) blocks) (IsChosenAt blocks addr.now) }

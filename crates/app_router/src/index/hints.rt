@@ -162,6 +162,7 @@ fn share(number: u64, count: usize) -> usize
 }
 
 /// Two places around that of an address, if the hints are right. Else they are any numbers.
+#[inline(always)]
 pub fn hinted(nodes: &[Node], target: &Node) -> (usize, usize)
     requires { 0 < length nodes.now }
 {
@@ -179,6 +180,7 @@ pub fn hinted(nodes: &[Node], target: &Node) -> (usize, usize)
 }
 
 // The same among the nodes of one version.
+#[inline(always)]
 fn hinted_part(nodes: &[Node], target: &Node) -> (usize, usize) {
     let len = nodes.len();
     if len <= SMALL {
@@ -208,6 +210,7 @@ fn common_bits(hint: u32) -> u32
 }
 
 // The same among the nodes of a part that is divided again.
+#[inline(always)]
 fn division(nodes: &[Node], low: usize, high: usize, target: &Node, common: u32) -> (usize, usize)
     requires within { (low + 24 < high) × (high ≤ length nodes.now) }
     requires common { common < 127 }
