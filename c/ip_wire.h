@@ -970,8 +970,8 @@ ptrdiff_t lk_choose_route(const struct lk_route_node *nodes, size_t count, const
  * after the table are unchanged. The table is valid as long as the index is. Fails with LK_NO_ROOM if there are fewer
  * cells, 2^26 routes or more, or if a count is above LK_MAX_LEN; then all cells are unchanged.
  *
- * Make a table if there are many IPv4 routes: lk_choose_route_by_table finds the route of most IPv4 addresses with one
- * load. A table has 40 bytes for each route, and the index 32. For IPv6 addresses the index is searched. */
+ * A table makes searches for IPv4 addresses faster: it answers with one load where no route begins or ends nearby. It has
+ * 40 bytes for each route, and the index 32. For IPv6 addresses the index is searched. */
 ptrdiff_t lk_make_route_table(const struct lk_route_node *nodes, size_t count, uint64_t *cells, size_t cell_count);
 
 /* Returns the same as lk_choose_route(nodes, count, addr). The first cells are the table of the index
