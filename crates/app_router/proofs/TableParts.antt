@@ -1,6 +1,6 @@
 -- A part that lies within a range has its answer.
-use Rattle.std.proofs.Common.{ℕ, ◌≡◌, ◌∙◌, ◌+◌, ◌++◌, ◌-◌, ◌*◌, ◌^◌, ◌<◌, ◌≤◌, List, ap, arith, drop, length, subst, sym, take}
-use Rattle.std.proofs.lemmas.List.{drop-append-le, drop_at, length-drop, take-append-le, take_all, take_at}
+use Rattle.std.proofs.Common.{ℕ, ◌≡◌, ◌∙◌, ◌+◌, ◌++◌, ◌-◌, ◌*◌, ◌%◌, ◌^◌, ◌<◌, ◌≤◌, List, ap, arith, drop, length, slice_index_or, subst, sym, take}
+use Rattle.std.proofs.lemmas.List.{drop-append-le, drop_at, get_or_default, length-drop, take-append-le, take_all, take_at}
 use Rattle.std.proofs.Math.Nat.{le_of_mul-le-mul_right, lt_of_mul-lt-mul_right}
 use Rattle.app_router.specs.Table.{AreEnough, AreParts, AreRanges, IsAnswer, IsTable, IsEntry, IsInPart, IsInRange, IsWithinRange, answer_of, half_at, range_at}
 use Rattle.ip_wire.specs.declared.IpAddress.TheVariants.{Ipv4}
@@ -26,10 +26,10 @@ parts blocks ranges cells are entries p below whole bytes is inside =
     subst (IsAnswer blocks (Ipv4 bytes)) (sym e) (are k within.listed bytes is (in_range ranges (2 * length cells) p k _ below within inside))
 
 -- entries, hints and ranges of these lengths are a table
-pub table : (blocks : List IpCidr) (entries hints ranges : List ℕ) → length blocks < 2 ^ 29 → length entries ≡ 2 * (length blocks + 1)
+pub table : (blocks : List IpCidr) (entries hints ranges : List ℕ) → length entries ≡ 2 * (length blocks + 1)
     → length hints ≡ length blocks + 1 → length ranges ≡ 2 * (length blocks + 1)
     → AreParts blocks entries → AreRanges blocks ranges → IsTable blocks (entries ++ (hints ++ ranges))
-table blocks entries hints ranges few entries_len hints_len ranges_len are_parts are_ranges =
+table blocks entries hints ranges entries_len hints_len ranges_len are_parts are_ranges =
     let u = length blocks + 1 in
     let cells = entries ++ (hints ++ ranges) in
     let front : take (2 * u) cells ≡ entries = take_at entries (hints ++ ranges) (2 * u) entries_len in
@@ -37,7 +37,6 @@ table blocks entries hints ranges few entries_len hints_len ranges_len are_parts
     ap (λ (l : List ℕ). take (2 * u) (drop u l)) (drop_at entries (hints ++ ranges) (2 * u) entries_len)
     ∙ ap (take (2 * u)) (drop_at hints ranges u hints_len) ∙ take_all (2 * u) ranges (omega (arith, ranges_len)) in
     record {
-      few = λ _. subst (λ (l : List ℕ). 2 * length l ≤ 2 ^ 32) (sym front) (omega (arith, entries_len, few));
       parts = λ _. subst (AreParts blocks) (sym front) are_parts;
       ranges = λ _. subst (AreRanges blocks) (sym back) are_ranges;
     }
@@ -55,7 +54,15 @@ longer blocks cells following len is =
     ∙ ap (take (2 * u)) (drop-append-le u rest following (omega (arith, rest_len)))
     ∙ take-append-le (2 * u) (drop u rest) following (omega (arith, rest_len, length-drop u rest)) in
     record {
-      few = λ _. subst (λ (l : List ℕ). 2 * length l ≤ 2 ^ 32) (sym front) (is.few enough);
       parts = λ _. subst (AreParts blocks) (sym front) (is.parts enough);
       ranges = λ _. subst (AreRanges blocks) (sym back) (is.ranges enough);
     }
+
+-- the range that begins at or before the last number with an address, and whose next one begins after it
+pub found : (ranges : List ℕ) (k addr last : ℕ) → k + 1 < length ranges → last ≡ addr * 2 ^ 32 + (2 ^ 32 - 1) → slice_index_or ranges k 0 ≤ last
+    → last < slice_index_or ranges (k + 1) 0
+    → (j : ℕ) × (j < length ranges) × IsInRange ranges j addr × (slice_index_or ranges k 0 % 2 ^ 32 ≡ answer_of (range_at ranges j))
+found ranges k addr last within is low high =
+    let here : slice_index_or ranges k 0 ≡ range_at ranges k = get_or_default ranges k 0 (2 ^ 64) (omega (arith, within)) in
+    let after : slice_index_or ranges (k + 1) 0 ≡ range_at ranges (k + 1) = get_or_default ranges (k + 1) 0 (2 ^ 64) within in
+    (k, omega (arith, within), (omega (arith, here, is, low), omega (arith, after, is, high)), ap (λ n. n % 2 ^ 32) here)

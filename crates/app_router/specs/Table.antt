@@ -39,29 +39,29 @@ start_of range = range / 2 ^ 32
 abbrev pub answer_of : ℕ → ℕ
 answer_of range = range % 2 ^ 32
 
--- Pinned by: proof of `range_answer`; too wide: proof of `divide`
+-- Pinned by: proof of `range_answer`; too wide: proof of `list_ranges`
 -- the number of an address in the range at index k: the next range begins after it
 abbrev pub IsInRange : List ℕ → ℕ → ℕ → Type 0
 IsInRange ranges k addr = (start_of (range_at ranges k) ≤ addr) × (addr < start_of (range_at ranges (k + 1)))
 
--- Pinned by: proof of `divide`; too wide: proof of `answer_in`
+-- Pinned by: proof of `list_ranges`; too wide: proof of `answer`
 -- each range has its answer
 abbrev pub AreRanges : List IpCidr → List ℕ → Type 0
 AreRanges blocks ranges = (k : ℕ) → k < length ranges → Answers blocks (IsInRange ranges k) (answer_of (range_at ranges k))
 
 -- ---- parts: two entries of 32 bits in a cell
 
--- Pinned by: proof of `half_at`
+-- Pinned by: proof of `half`
 -- the entry at index i: the low half of a cell, then its high half
 abbrev pub half_at : List ℕ → ℕ → ℕ
 half_at cells i = slice_index_or cells (i / 2) 0 / 2 ^ (32 * (i % 2)) % 2 ^ 32
 
--- Pinned by: proof of `answer_in`; too wide: proof of `fill`
+-- Pinned by: proof of `answer`; too wide: proof of `fill`
 -- the number of an address in the part at index p of `count` equal ones
 abbrev pub IsInPart : ℕ → ℕ → ℕ → Type 0
 IsInPart count p addr = addr * count / 2 ^ 32 ≡ p
 
--- Pinned by: proof of `fill`; too wide: proof of `answer_in`
+-- Pinned by: proof of `fill`; too wide: proof of `answer`
 -- an entry from 2^31 on is the answer for its part; a smaller one only helps the search
 abbrev pub AreParts : List IpCidr → List ℕ → Type 0
 AreParts blocks cells = (p : ℕ) → p < 2 * length cells → 2 ^ 31 ≤ half_at cells p
@@ -81,29 +81,29 @@ IsEntry ranges count p entry = 2 ^ 31 ≤ entry → (k : ℕ) × IsWithinRange r
 
 -- ---- where ranges begin
 
--- Pinned by: proof of `bound`; too wide: proof of `divide`
+-- Pinned by: proof of `bound`; too wide: proof of `list_ranges`
 -- a range begins with this number
 abbrev pub IsStart : List ℕ → ℕ → Type 0
 IsStart ranges addr = (k : ℕ) × (k < length ranges) × (start_of (range_at ranges k) ≡ addr)
 
--- Pinned by: proof of `bound`; too wide: proof of `divide`
+-- Pinned by: proof of `bound`; too wide: proof of `list_ranges`
 -- a range begins where the IPv4 block of a node begins, and one after its end; both are numbers of 32 bits
 abbrev pub IsBounded : List ℕ → Node → Type 0
 IsBounded ranges node = node.version ≡ 4 → IsStart ranges (node.high / 2 ^ 32) × IsStart ranges ((node.high + 2 ^ (64 - node.prefix_len)) % 2 ^ 64 / 2 ^ 32)
 
 -- ---- the table
 
--- Pinned by: proof of `answer_in`
+-- Pinned by: proof of `answer`
 -- the cells with the entries of the parts, in a table of n blocks
 abbrev pub entries_in : ℕ → List ℕ → List ℕ
 entries_in n cells = take (2 * (n + 1)) cells
 
--- Pinned by: proof of `answer_in`
+-- Pinned by: proof of `answer`
 -- its ranges
 abbrev pub ranges_in : ℕ → List ℕ → List ℕ
 ranges_in n cells = take (2 * (n + 1)) (drop (n + 1) (drop (2 * (n + 1)) cells))
 
--- Pinned by: proof of `answer_in`; too wide: `RouteTablesOnce`
+-- Pinned by: proof of `answer`; too wide: `RouteTablesOnce`
 -- there are as many cells as the table of these blocks has, or more
 abbrev pub AreEnough : List IpCidr → List ℕ → Type 0
 AreEnough blocks cells = 5 * (length blocks + 1) ≤ length cells
@@ -112,6 +112,5 @@ AreEnough blocks cells = 5 * (length blocks + 1) ≤ length cells
 -- The table of n blocks. Its first 2n + 2 cells are entries of parts, then come n + 1 cells of hints, and 2n + 2 ranges. Fewer
 -- cells, or none, say nothing.
 pub record IsTable (blocks : List IpCidr) (cells : List ℕ) : Type 0 where
-  pub few : AreEnough blocks cells → 2 * length (entries_in (length blocks) cells) ≤ 2 ^ 32
   pub parts : AreEnough blocks cells → AreParts blocks (entries_in (length blocks) cells)
   pub ranges : AreEnough blocks cells → AreRanges blocks (ranges_in (length blocks) cells)

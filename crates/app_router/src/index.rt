@@ -1,6 +1,6 @@
 //! An index of routes: a sorted array in which each node links to the next larger block around it.
 
-ghost use Rattle.std.specs.Prelude.{◌≡◌, ◌↔◌, ◌+◌, ◌-◌, ◌*◌, ◌/◌, ◌%◌, ◌^◌, ◌≤◌, ◌<◌, All, IsTrue, List, MatchOption, ℕ, length, map};
+ghost use Rattle.std.specs.Prelude.{◌≡◌, ◌≢◌, ◌↔◌, ◌+◌, ◌-◌, ◌*◌, ◌/◌, ◌%◌, ◌^◌, ◌≤◌, ◌<◌, All, IsTrue, List, MatchOption, ℕ, length, map};
 ghost use Rattle.std.specs.Ordering.{nat_cmp};
 ghost use Rattle.std.specs.List.Sorted.{IsNonDecreasingBy};
 ghost use Rattle.app_router.specs.Index.{AreLinked, Encloses, IsBlock, IsChosenAt, IsFilled, IsIndex, IsNearest, IsSplit, block_of, first_bits, node_at, node_of, node_with, place, rank, target_of, unlinked, unmarked, version_number};
@@ -80,10 +80,11 @@ impl Node {
         u128::from(high) << 64 | u128::from(low)
     }
 
-    // The first 64 bits of the first address of an IPv4 block and of the address after its last, which is 0 after
-    // the last of all. Zeros for another block.
+    /// The first 64 bits of the first address of an IPv4 block and of the address after its last, which is 0 after the
+    /// last of all. Zeros for another block.
     pub fn bounds(&self) -> (u64, u64)
-        ensures { self.now.version ≡ 4 → (result.0 ≡ self.now.high) × (result.1 ≡ (self.now.high + 2 ^ (64 - self.now.prefix_len)) % 2 ^ 64) }
+        ensures ipv4 { self.now.version ≡ 4 → (result.0 ≡ self.now.high) × (result.1 ≡ (self.now.high + 2 ^ (64 - self.now.prefix_len)) % 2 ^ 64) }
+        ensures other { self.now.version ≢ 4 → result ≡ (0, 0) }
     {
         if self.version != 4 {
             return (0, 0);

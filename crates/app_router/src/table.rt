@@ -1,9 +1,9 @@
-//! A table beside an index of routes. It tells the routes of most IPv4 addresses by one load.
+//! A table beside an index of routes, for IPv4 addresses.
 //!
 //! The addresses are divided into ranges: one begins at the first address of each block, and one after its last, so the
 //! addresses of a range have one route. They are also divided into equal parts. The entry of a part that lies within a
 //! range is its answer; that of another part is a hint, the place of a range where a search begins (`parts`). A hint
-//! only saves time: the range that is found is checked, and if it is a wrong one, the index is searched.
+//! only saves time: the range that is found is checked, and if none is found, the index is searched.
 //!
 //! Two fifths of the cells are the entries of the parts, two in each; one fifth are the hints of parts that are divided
 //! again; two fifths are the ranges, sorted.
@@ -17,7 +17,7 @@ ghost use Rattle.ip_wire.specs.declared.IpCidr.{IpCidr};
 
 mod parts;
 
-use self::parts::{WHOLE, enter, half_at, search};
+use self::parts::{FEW, WHOLE, enter, half, hinted};
 use crate::index::{self, Node, route_at};
 use crate::route::Route;
 use ip_wire::{IpAddress, Ipv4Address};
@@ -43,12 +43,12 @@ pub fn fill(nodes: &[Node], cells: &mut [u64])
     let unit = nodes.len() + 1;
     let (parts, rest) = cells.split_at_mut(2 * unit);
     let (hints, ranges) = rest.split_at_mut(unit);
-    divide(nodes, ranges);
+    list_ranges(nodes, ranges);
     enter(ranges, parts, hints);
 }
 
 // Writes the ranges of an index.
-fn divide(nodes: &[Node], ranges: &mut [u64])
+fn list_ranges(nodes: &[Node], ranges: &mut [u64])
     requires { length ranges.old ≡ 2 * (length nodes.now + 1) }
     ensures len { length ranges.new ≡ length ranges.old }
     ensures ranges { (blocks : List IpCidr) → IsIndex blocks nodes.now → AreRanges blocks ranges.new }
@@ -100,23 +100,35 @@ fn answer_at(nodes: &[Node], count: &mut usize, addr: u32) -> u32
 
 /// The place of the route with the longest prefix whose block contains the address, and of several the first, by a
 /// table and its index. `None` if no block contains it. With fewer cells than the table has, the index is searched.
+#[inline(always)]
 pub fn find(nodes: &[Node], cells: &[u64], addr: &IpAddress) -> Option<u32>
     ensures { (blocks : List IpCidr) → IsIndex blocks nodes.now → IsTable blocks cells.now
         → MatchOption result (All (λ block. ¬ IsIn block addr.now) blocks) (IsChosenAt blocks addr.now) }
 {
     if let IpAddress::Ipv4(ipv4) = addr {
-        if let Some(answer) = answer_in(cells, nodes.len(), ipv4.to_bits()) {
+        if let Some(answer) = answer(nodes.len(), cells, ipv4.to_bits()) {
             return answer.checked_sub(1);
         }
     }
+    find_by_index(nodes, addr)
+}
+
+// The same place by the index. Its code is not part of a look-up, which is shorter then.
+#[inline(never)]
+fn find_by_index(nodes: &[Node], addr: &IpAddress) -> Option<u32>
+    ensures { (blocks : List IpCidr) → IsIndex blocks nodes.now
+        → MatchOption result (All (λ block. ¬ IsIn block addr.now) blocks) (IsChosenAt blocks addr.now) }
+{
     index::find(nodes, addr)
 }
 
-// The answer for an IPv4 address, if the table has it.
-fn answer_in(cells: &[u64], count: usize, addr: u32) -> Option<u32>
+/// One more than the place of the route for the IPv4 address of a number, or 0 if there is none, by the table of so many
+/// routes. `None` if it does not tell.
+#[inline(always)]
+pub fn answer(count: usize, cells: &[u64], addr: u32) -> Option<u32>
     ensures { (blocks : List IpCidr) → length blocks ≡ count → IsTable blocks cells.now → IfSome result (Answers blocks (λ number. number ≡ addr)) }
 {
-    if cells.len() / 5 <= count {
+    if count > MAX_ROUTES || cells.len() < len(count) {
         return None;
     }
     let unit = count + 1;
@@ -124,29 +136,45 @@ fn answer_in(cells: &[u64], count: usize, addr: u32) -> Option<u32>
     let (hints, rest) = rest.split_at(unit);
     let (ranges, _) = rest.split_at(2 * unit);
     // the part, and in the last 32 bits the position within it
-    let position = u64::from(addr).wrapping_mul(4 * unit as u64);
-    let entry = half_at(parts, (position >> 32) as usize)?;
+    let position = u64::from(addr) * (4 * unit as u64);
+    let entry = half(parts, (position >> 32) as usize);
     if entry >= WHOLE {
         return Some(entry - WHOLE);
     }
-    range_answer(ranges, search(ranges, hints, entry, position, addr), addr)
+    range_answer(ranges, hinted(hints, entry, position), addr)
 }
 
-// The answer of a range, if the address is in it.
+// The answer of the range of an address, if it is one of the 32 from a place on.
+#[inline(always)]
 fn range_answer(ranges: &[u64], place: usize, addr: u32) -> Option<u32>
-    ensures { IfSome result (λ answer. (place < length ranges.now) × IsInRange ranges.now place addr × (answer ≡ answer_of (range_at ranges.now place))) }
+    requires { place < 2 ^ 32 }
+    ensures { IfSome result (λ answer. (k : ℕ) × (k < length ranges.now) × IsInRange ranges.now k addr × (answer ≡ answer_of (range_at ranges.now k))) }
 {
-    let range = *ranges.get(place)?;
-    if range >> 32 > u64::from(addr) {
-        return None;
+    let end = ranges.len().saturating_sub(FEW);
+    // the ranges up to this number begin at or before the address
+    let last = (u64::from(addr) << 32) + 0xffff_ffff;
+    for step in 0..8 {
+        let place = place + step * FEW;
+        if place >= end {
+            return None;
+        }
+        let passed = usize::from(ranges[place + 1] <= last)
+            + usize::from(ranges[place + 2] <= last)
+            + usize::from(ranges[place + 3] <= last)
+            + usize::from(ranges[place + 4] <= last);
+        if passed < FEW {
+            let (range, next) = (ranges[place + passed], ranges[place + passed + 1]);
+            if range > last || next <= last {
+                return None;
+            }
+            return Some((range % (1 << 32)) as u32);
+        }
     }
-    match ranges.get(place + 1) {
-        Some(next) if *next >> 32 <= u64::from(addr) => None,
-        _ => Some((range % (1 << 32)) as u32),
-    }
+    None
 }
 
 /// The same route as `choose` of `route`, by a table of the routes and its index.
+#[inline(always)]
 pub fn choose(routes: &[Route], nodes: &[Node], cells: &[u64], addr: &IpAddress) -> Option<Route>
     ensures { IsIndex (map block_of routes.now) nodes.now → IsTable (map block_of routes.now) cells.now
         → MatchOption result (All (λ route. ¬ Leads addr.now route) routes.now) (IsChosen routes.now addr.now) }

@@ -4,7 +4,7 @@ use Rattle.app_router.proofs.Elements.{counted}
 use Rattle.app_router.specs.Table.{IsTable}
 use Rattle.app_router.specs.declared.index.Node.{Node}
 use Rattle.ip_wire.specs.declared.IpCidr.{IpCidr}
-use Rattle.c_exports.proofs.RoutesOnce.{in-bounds}
+use Rattle.c_exports.proofs.RoutesOnce.{IsSame, in-bounds, written_once}
 use Rattle.c_routing.specs.Lengths.{in_bounds}
 use Rattle.c_routing.specs.Routes.{IsIndexOf, IsTableOf, MakesTable, WritesTable, table_failure, table_len}
 use Rattle.c_routing.specs.declared.routes.Route.{Route}
@@ -14,28 +14,10 @@ use Rattle.c_structs.specs.declared.failures.Failure.TheVariants as failure
 
 -- ---- the table
 
--- The same is returned, and nothing is written after the table. After a failure all cells are the same.
-pub record IsSame (nodes : List Node) (new other : List ℕ) (a b : ℤ) : Type 0 where
-  pub returned : a ≡ b
-  pub following : drop (table_len nodes) new ≡ drop (table_len nodes) other
-  pub failed : (n : ℕ) → a ≡ negsuc n → new ≡ other
-
-table-once : (nodes : List Node) (why : Option Failure) (old new other : List ℕ) (a b : ℤ)
-    → MatchOption why (WritesTable nodes old new a) (λ w. (a ≡ failure_code w) × (new ≡ old))
-    → MatchOption why (WritesTable nodes old other b) (λ w. (b ≡ failure_code w) × (other ≡ old)) → IsSame nodes new other a b
-table-once nodes None old new other a b v w = record {
-  returned = v.count ∙ sym w.count;
-  following = v.following ∙ sym w.following;
-  failed = λ n is. let apart : pos (table_len nodes) ≡ negsuc n = sym v.count ∙ is in absurd (cc);
-}
-table-once nodes (Some why) old new other a b (is, stays) (also, same) = record {
-  returned = is ∙ sym also;
-  following = ap (drop (table_len nodes)) (stays ∙ sym same);
-  failed = λ n _. stays ∙ sym same;
-}
-
-pub makes_once : (nodes : List Node) (old new other : List ℕ) (a b : ℤ) → MakesTable nodes old new a → MakesTable nodes old other b → IsSame nodes new other a b
-makes_once nodes old new other a b v w = table-once nodes (table_failure nodes (length old)) old new other a b v w
+pub makes_once : (nodes : List Node) (old new other : List ℕ) (a b : ℤ) → MakesTable nodes old new a → MakesTable nodes old other b
+    → IsSame (table_len nodes) new other a b
+makes_once nodes old new other a b =
+    written_once (table_len nodes) (table_failure nodes (length old)) old new other a b (WritesTable nodes old) (λ list answer v. (v.count, v.following))
 
 -- ---- its room
 
@@ -73,7 +55,6 @@ short_index routes nodes fewer index = subst (IsIndexOf routes) (sym (in-bounds 
 
 not-enough : (blocks : List IpCidr) (cells : List ℕ) → length cells < 5 * (length blocks + 1) → IsTable blocks cells
 not-enough blocks cells fewer = record {
-  few = λ enough. absurd (omega (arith, fewer, enough));
   parts = λ enough. absurd (omega (arith, fewer, enough));
   ranges = λ enough. absurd (omega (arith, fewer, enough));
 }

@@ -40,28 +40,35 @@ chooses_once routes addr a b (inr (minus, none)) (inr (also, never)) = minus ∙
 
 -- ---- the index
 
--- The same is returned, and nothing is written after the index. After a failure all nodes are the same.
-pub record IsSame (routes : List Route) (new other : List Node) (a b : ℤ) : Type 0 where
+-- The same is returned, and nothing is written after so many elements. After a failure all elements are the same.
+pub record IsSame {A : Type 0} (count : ℕ) (new other : List A) (a b : ℤ) : Type 0 where
   pub returned : a ≡ b
-  pub following : drop (length routes) new ≡ drop (length routes) other
+  pub following : drop count new ≡ drop count other
   pub failed : (n : ℕ) → a ≡ negsuc n → new ≡ other
 
-index-once : (routes : List Route) (why : Option Failure) (old new other : List Node) (a b : ℤ)
-    → MatchOption why (WritesIndex routes old new a) (λ w. (a ≡ failure_code w) × (new ≡ old))
-    → MatchOption why (WritesIndex routes old other b) (λ w. (b ≡ failure_code w) × (other ≡ old)) → IsSame routes new other a b
-index-once routes None old new other a b v w = record {
-  returned = v.count ∙ sym w.count;
-  following = v.following ∙ sym w.following;
-  failed = λ n is. let apart : pos (length routes) ≡ negsuc n = sym v.count ∙ is in absurd (cc);
-}
-index-once routes (Some why) old new other a b (is, stays) (also, same) = record {
+-- by a call that writes so many elements and returns their number, or fails and writes nothing
+pub written_once : {A : Type 0} (count : ℕ) (why : Option Failure) (old new other : List A) (a b : ℤ) (Writes : List A → ℤ → Type 0)
+    → ((list : List A) (answer : ℤ) → Writes list answer → (answer ≡ pos count) × (drop count list ≡ drop count old))
+    → MatchOption why (Writes new a) (λ w. (a ≡ failure_code w) × (new ≡ old))
+    → MatchOption why (Writes other b) (λ w. (b ≡ failure_code w) × (other ≡ old)) → IsSame count new other a b
+written_once count None old new other a b Writes told v w =
+    let (is, following) = told new a v in
+    let (also, same) = told other b w in
+    record {
+      returned = is ∙ sym also;
+      following = following ∙ sym same;
+      failed = λ n minus. let apart : pos count ≡ negsuc n = sym is ∙ minus in absurd (cc);
+    }
+written_once count (Some why) old new other a b Writes told (is, stays) (also, same) = record {
   returned = is ∙ sym also;
-  following = ap (drop (length routes)) (stays ∙ sym same);
+  following = ap (drop count) (stays ∙ sym same);
   failed = λ n _. stays ∙ sym same;
 }
 
-pub indexes_once : (routes : List Route) (old new other : List Node) (a b : ℤ) → Indexes routes old new a → Indexes routes old other b → IsSame routes new other a b
-indexes_once routes old new other a b v w = index-once routes (index_failure routes (length old)) old new other a b v w
+pub indexes_once : (routes : List Route) (old new other : List Node) (a b : ℤ) → Indexes routes old new a → Indexes routes old other b
+    → IsSame (length routes) new other a b
+indexes_once routes old new other a b =
+    written_once (length routes) (index_failure routes (length old)) old new other a b (WritesIndex routes old) (λ list answer v. (v.count, v.following))
 
 all-nodes : (routes : List Route) (why : Option Failure) (old new : List Node) (n : ℕ)
     → MatchOption why (WritesIndex routes old new (pos n)) (λ w. (pos n ≡ failure_code w) × (new ≡ old)) → length new ≡ length routes → IsIndexOf routes new

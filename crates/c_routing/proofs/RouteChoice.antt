@@ -1,7 +1,8 @@
 -- The route that is chosen by the index of the blocks.
-use Rattle.std.proofs.Common.{ℕ, ℤ, pos, negsuc, ◌≡◌, ◌<◌, ◌≤◌, All, IsSomeAnd, List, MatchOption, Option, None, Some, arith, inl, inr, length, map, slice_index_or, subst, subst₂, sym}
+use Rattle.std.proofs.Common.{ℕ, ℤ, pos, negsuc, ◌≡◌, ◌∙◌, ◌-ℤ◌, ◌<◌, ◌≤◌, All, IsSomeAnd, List, MatchOption, Option, None, Some, ap, arith, inl, inr, length, map, slice_index_or, subst, subst₂, sym}
 use Rattle.app_router.specs.Index as index
 use Rattle.app_router.specs.Index.{IsChosenAt}
+use Rattle.app_router.specs.Table.{IsAnswer}
 use Rattle.ip_wire.specs.IpCidr.{IsIn, block_prefix_len}
 use Rattle.ip_wire.specs.declared.IpAddress.{IpAddress}
 use Rattle.ip_wire.specs.declared.IpCidr.{IpCidr}
@@ -63,3 +64,13 @@ pub numbered : (routes : List Route) (addr : Addr) (found : Option ℕ) (answer 
     → MatchOption found (answer ≡ negsuc 0) (λ i. answer ≡ pos i) → Chooses routes addr answer
 numbered routes addr None answer none is = inr (is, none)
 numbered routes addr (Some i) answer chosen is = inl (i, is, chosen)
+
+-- the number of the answer of a table, less one, is returned
+pub answered : (routes : List Route) (blocks : List IpCidr) (addr : Addr) (ip : IpAddress) (answer : ℕ) (result : ℤ) → map destinations routes ≡ map Some blocks
+    → ip_of addr ≡ Some ip → IsAnswer blocks ip answer → result ≡ pos answer -ℤ pos 1 → Chooses routes addr result
+answered routes blocks addr ip answer result listed at (inl (zero, none)) is =
+    let minus : result ≡ negsuc 0 = is ∙ ap (λ n. pos n -ℤ pos 1) zero in
+    inr (minus, none-leads routes blocks addr ip listed at none)
+answered routes blocks addr ip answer result listed at (inr (i, more, it)) is =
+    let place : result ≡ pos i = grind (arith, is, more) in
+    inl (i, place, chosen-at routes blocks addr ip i listed at (subst (λ n. i < n) (sym (same-length routes blocks listed)) it.within) it)

@@ -13,5 +13,9 @@ pub fn in_bounds<T>(list: &[T]) -> &[T]
     ensures value { result.now ≡ in_bounds list.now }
     ensures fits { length result.now ≤ max_len }
 {
-    if list.len() <= MAX_LEN { list } else { &[] }
+    if list.len() <= MAX_LEN {
+        list
+    } else {
+        &list[..0]
+    }
 }

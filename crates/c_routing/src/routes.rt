@@ -11,7 +11,7 @@ ghost use Rattle.ip_wire.specs.declared.IpCidr.{IpCidr};
 
 use crate::lengths::in_bounds;
 use app_router::index::{Node, arrange, find};
-use app_router::table;
+use app_router::table::{self, MAX_ROUTES, answer};
 use c_structs::{Addr, Block, Failure, MAX_LEN};
 
 /// `struct lk_route`: a route.
@@ -103,7 +103,7 @@ fn table_failure(nodes: &[Node], room: usize) -> Option<Failure>
     ensures { result ≡ table_failure nodes.now room }
 {
     let count = nodes.len();
-    if count <= table::MAX_ROUTES && table::len(count) <= room && room <= MAX_LEN {
+    if count <= MAX_ROUTES && table::len(count) <= room && room <= MAX_LEN {
         None
     } else {
         Some(Failure::NoRoom)
@@ -111,17 +111,11 @@ fn table_failure(nodes: &[Node], room: usize) -> Option<Failure>
 }
 
 /// The place of the route with the longest prefix that contains an address, of several the first; -1 if there is none.
+#[inline(never)]
 pub fn choose_route(nodes: &[Node], addr: &Addr) -> isize
     ensures { (routes : List Route) → IsIndexOf routes (in_bounds nodes.now) → Chooses routes addr.now result }
 {
     number(choose(in_bounds(nodes), addr))
-}
-
-/// The same place, by a table and its index.
-pub fn choose_by_table(nodes: &[Node], cells: &[u64], addr: &Addr) -> isize
-    ensures { (routes : List Route) → IsTableOf routes (in_bounds nodes.now) (in_bounds cells.now) → Chooses routes addr.now result }
-{
-    number(choose_in(in_bounds(nodes), in_bounds(cells), addr))
 }
 
 // A place, or -1.
@@ -134,8 +128,8 @@ fn number(place: Option<u32>) -> isize
     }
 }
 
-/// The same place, if there is a route.
-pub fn choose(nodes: &[Node], addr: &Addr) -> Option<u32>
+// The same place, if there is a route.
+fn choose(nodes: &[Node], addr: &Addr) -> Option<u32>
     ensures { (routes : List Route) → IsIndexOf routes nodes.now
         → MatchOption result (All (λ route. ¬ Leads addr.now route) routes) (IsChosen routes addr.now) }
 {
@@ -143,11 +137,17 @@ pub fn choose(nodes: &[Node], addr: &Addr) -> Option<u32>
     find(nodes, &addr)
 }
 
-/// The same place by a table, if there is a route.
-pub fn choose_in(nodes: &[Node], cells: &[u64], addr: &Addr) -> Option<u32>
-    ensures { (routes : List Route) → IsTableOf routes nodes.now cells.now
-        → MatchOption result (All (λ route. ¬ Leads addr.now route) routes) (IsChosen routes addr.now) }
+/// The same place as `choose_route`, by a table and its index.
+// As a function of its own it is compiled to fewer instructions.
+#[inline(never)]
+pub fn choose_by_table(nodes: &[Node], cells: &[u64], addr: &Addr) -> isize
+    ensures { (routes : List Route) → IsTableOf routes (in_bounds nodes.now) (in_bounds cells.now) → Chooses routes addr.now result }
 {
-    let addr = addr.ip()?;
-    table::find(nodes, cells, &addr)
+    if addr.version == 4 && nodes.len() <= MAX_ROUTES {
+        let number = addr.ipv4().to_bits();
+        if let Some(answer) = answer(nodes.len(), in_bounds(cells), number) {
+            return answer as isize - 1;
+        }
+    }
+    choose_route(nodes, addr)
 }

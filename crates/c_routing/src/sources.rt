@@ -1,15 +1,15 @@
 //! The sources that a router accepts.
 
-ghost use Rattle.std.specs.Prelude.{◌≡◌, All, MatchOption, pos};
+ghost use Rattle.std.specs.Prelude.{◌≡◌, pos};
 ghost use Rattle.c_routing.specs.Lengths.{in_bounds};
 ghost use Rattle.c_routing.specs.Rejections.{source_code};
-ghost use Rattle.c_routing.specs.Routes.{IsChosen, IsIndexOf, IsTableOf, Leads};
+ghost use Rattle.c_routing.specs.Routes.{Chooses, IsIndexOf, IsTableOf};
 ghost use Rattle.c_routing.specs.Sources.{ChecksAddr, IsBack};
 ghost use Rattle.c_structs.specs.declared.types.Addr.{Addr};
 
 use crate::lengths::in_bounds;
 use crate::rejections::Rejection;
-use crate::routes::{Route, choose, choose_in};
+use crate::routes::{Route, choose_by_table, choose_route};
 use app_router::index::Node;
 use app_router::source::{SourceFault, check_source};
 use c_structs::Addr;
@@ -21,7 +21,7 @@ pub fn check_addr(routes: &[Route], nodes: &[Node], src: &Addr, interface: u16) 
 {
     match src.ip() {
         Some(addr) => {
-            let back = back(in_bounds(routes), choose(in_bounds(nodes), src));
+            let back = back(in_bounds(routes), choose_route(nodes, src));
             code(check_source(&addr, interface, back))
         }
         None => Rejection::Martian.code(),
@@ -40,19 +40,19 @@ pub fn check_addr_by_table(
 {
     match src.ip() {
         Some(addr) => {
-            let place = choose_in(in_bounds(nodes), in_bounds(cells), src);
-            code(check_source(&addr, interface, back(in_bounds(routes), place)))
+            let back = back(in_bounds(routes), choose_by_table(nodes, cells, src));
+            code(check_source(&addr, interface, back))
         }
         None => Rejection::Martian.code(),
     }
 }
 
-// The interface of the route at a place.
-fn back(routes: &[Route], place: Option<u32>) -> Option<u16>
-    ensures { (addr : Addr) → MatchOption place (All (λ route. ¬ Leads addr route) routes.now) (IsChosen routes.now addr) → IsBack routes.now addr result }
+// The interface of the route that was chosen for an address.
+fn back(routes: &[Route], place: isize) -> Option<u16>
+    ensures { (addr : Addr) → Chooses routes.now addr place → IsBack routes.now addr result }
 {
-    let place = place?;
-    match routes.get(place as usize) {
+    let place = usize::try_from(place).ok()?;
+    match routes.get(place) {
         Some(route) => Some(route.interface),
         None => None,
     }

@@ -12,8 +12,8 @@ pub const WHOLE: u32 = 1 << 31;
 
 const PLACE_BITS: u32 = 27;
 
-// A search compares so many ranges at once. A part where more begin is divided.
-const FEW: usize = 4;
+/// A search compares so many ranges at once. A part where more begin is divided.
+pub const FEW: usize = 4;
 
 /// Writes the entries of the parts, and the hints.
 pub fn enter(ranges: &[u64], parts: &mut [u64], hints: &mut [u64])
@@ -69,8 +69,8 @@ fn whole(ranges: &[u64], place: usize, part: u64, count: u64) -> Option<u32>
     }
 }
 
-// The place of the last range from `place` on that begins at or before a position, if that at `place` does. A position is a part, and
-// 32 bits within it.
+// From `place` on, the place of the last range that begins at or before a position, which is a part and 32 bits within
+// it. If the one at `place` begins after it, any place.
 fn last_up_to(ranges: &[u64], place: usize, position: u64, count: u64) -> usize
     requires within { place < length ranges.now }
     requires few { count ≤ 2 ^ 31 }
@@ -127,11 +127,12 @@ fn divide(
 }
 
 /// The entry at a place.
-pub fn half_at(cells: &[u64], place: usize) -> Option<u32>
-    ensures { MatchOption result (2 * length cells.now ≤ place) (λ half. (place < 2 * length cells.now) × (half ≡ half_at cells.now place)) }
+#[inline(always)]
+pub fn half(cells: &[u64], place: usize) -> u32
+    requires { place < 2 * length cells.now }
+    ensures { result ≡ half_at cells.now place }
 {
-    let cell = *cells.get(place / 2)?;
-    Some((cell >> (place % 2 * 32) & 0xffff_ffff) as u32)
+    (cells[place / 2] >> (place % 2 * 32) & 0xffff_ffff) as u32
 }
 
 fn set_half(cells: &mut [u64], place: usize, half: u32)
@@ -149,28 +150,9 @@ fn set_half(cells: &mut [u64], place: usize, half: u32)
     };
 }
 
-/// The place of the range of an address, if the hints are right. Else it is any number.
-pub fn search(ranges: &[u64], hints: &[u64], entry: u32, position: u64, addr: u32) -> usize {
-    let first = hinted(hints, entry, position);
-    // the ranges up to this number begin at or before the address
-    let last = u64::from(addr) << 32 | 0xffff_ffff;
-    if let Some(next) = ranges.get(first + 1..first + 1 + FEW) {
-        let passed = usize::from(next[0] <= last)
-            + usize::from(next[1] <= last)
-            + usize::from(next[2] <= last)
-            + usize::from(next[3] <= last);
-        if passed < FEW {
-            return first.wrapping_add(passed);
-        }
-    }
-    match ranges.get(first + 1..) {
-        Some(next) => first.wrapping_add(next.partition_point(|range| *range <= last)),
-        None => first,
-    }
-}
-
-// The place of a range from which on a search begins, by an entry that is no answer.
-fn hinted(hints: &[u64], entry: u32, position: u64) -> usize
+/// The place of a range where a search begins, by an entry that is no answer.
+#[inline(always)]
+pub fn hinted(hints: &[u64], entry: u32, position: u64) -> usize
     ensures { result < 2 ^ 32 }
 {
     let place = (entry % (1 << PLACE_BITS)) as usize;
@@ -178,9 +160,10 @@ fn hinted(hints: &[u64], entry: u32, position: u64) -> usize
     if bits == 0 {
         return place;
     }
-    let division = (position % (1 << 32)) >> (32 - bits);
-    match half_at(hints, place + division as usize) {
-        Some(place) => place as usize,
-        None => 0,
+    let place = place + ((position % (1 << 32)) >> (32 - bits)) as usize;
+    if place < 2 * hints.len() {
+        half(hints, place) as usize
+    } else {
+        0
     }
 }

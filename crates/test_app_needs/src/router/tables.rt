@@ -152,6 +152,14 @@ fn bounds_of_all_addresses(block: &IpCidr) -> (u64, u64)
     Node::new(block, 7).bounds()
 }
 
+/// An IPv6 block has no bounds.
+fn bounds_of_ipv6(node: &Node) -> (u64, u64)
+    requires { node.now.version ≡ 6 }
+    ensures { result ≡ (0, 0) }
+{
+    node.bounds()
+}
+
 /// A source has one fault, or none, by a table and by its index.
 fn check_source_by_both(
     routes: &[Route],

@@ -22,7 +22,7 @@ loop-i-preserved c =
     let low : range_at twice (2 * i + 2) ≡ first = grind (arith, common_steps) in
     let high : range_at twice (2 * i + 3) ≡ following = grind (arith, common_steps) in
     let told = subst (λ (n : Node). n.version ≡ 4 → (first ≡ n.high) × (following ≡ (n.high + 2 ^ (64 - n.prefix_len)) % 2 ^ 64))
-    (get_or_default nodes i unread (node_with 0 0 0 0) inside) c.bounds-first.ensures in
+    (get_or_default nodes i unread (node_with 0 0 0 0) inside) c.bounds-first.ensures.ipv4 in
     below_more (λ k. ArePlaced twice k (node_at nodes k)) i
     (λ k less. rw (kept (2 * k + 2) (omega (arith, less)), kept (2 * k + 3) (omega (arith, less))) (c.loop-i.invariant k less))
     (λ four. (ap start_of (low ∙ (told four).0), ap start_of (high ∙ (told four).1)))

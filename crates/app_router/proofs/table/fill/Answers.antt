@@ -5,11 +5,11 @@ use Rattle.app_router.proofs.table.fill.Goals as goal
 
 pub returns-clause-table : goal.returns-clause-table
 returns-clause-table c blocks index =
-    let ranges = c.divide.ensures.ranges blocks index in
+    let ranges = c.list_ranges.ensures.ranges blocks index in
     let count : length blocks ≡ length c.args.nodes.now = counted blocks c.args.nodes.now index in
     let entries_len : length c.enter.new.parts ≡ 2 * (length blocks + 1) = omega (arith, count, c.enter.ensures.parts_len, c.split_at_mut-parts.ensures.front_len) in
     let hints_len : length c.enter.new.hints ≡ length blocks + 1 = omega (arith, count, c.enter.ensures.hints_len, c.split_at_mut-hints.ensures.front_len) in
-    let ranges_len : length c.divide.new.ranges ≡ 2 * (length blocks + 1) =
-    omega (arith, count, c.divide.ensures.len, c.split_at_mut-hints.ensures.back_len, c.split_at_mut-parts.ensures.back_len, c.requires.len) in
-    table blocks c.enter.new.parts c.enter.new.hints c.divide.new.ranges (omega (arith, count, c.requires.few)) entries_len hints_len ranges_len
-    (parts blocks c.divide.new.ranges c.enter.new.parts ranges c.enter.ensures.entries) ranges
+    let ranges_len : length c.list_ranges.new.ranges ≡ 2 * (length blocks + 1) =
+    omega (arith, count, c.list_ranges.ensures.len, c.split_at_mut-hints.ensures.back_len, c.split_at_mut-parts.ensures.back_len, c.requires.len) in
+    table blocks c.enter.new.parts c.enter.new.hints c.list_ranges.new.ranges entries_len hints_len ranges_len
+    (parts blocks c.list_ranges.new.ranges c.enter.new.parts ranges c.enter.ensures.entries) ranges

@@ -1,6 +1,6 @@
 use Rattle.std.proofs.lemmas.List.Sorted.{IsNonDecreasingBy-from_sort}
 use Rattle.app_router.proofs.Ranges.{answered}
-use Rattle.app_router.proofs.table.divide.Goals as goal
+use Rattle.app_router.proofs.table.list_ranges.Goals as goal
 
 pub returns-clause-ranges : goal.returns-clause-ranges
 returns-clause-ranges c blocks index =
