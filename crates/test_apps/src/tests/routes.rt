@@ -4,7 +4,7 @@
 use app_router::index::{Node, choose as choose_by_index, find, index};
 use app_router::route::{Route, choose};
 use app_router::source::{SourceFault, check_source, check_source_by_index, check_source_by_table};
-use app_router::table::{choose as choose_by_table, fill, find as find_by_table, len};
+use app_router::table::{answer, choose as choose_by_table, fill, find as find_by_table, len};
 use ip_wire::{IpAddress, IpCidr};
 
 /// The routes that Linux was given: block, next hop and interface. Of the two for 10.1.0.0/16 the
@@ -117,6 +117,8 @@ fn finds_no_route_where_no_block_has_the_address(rt: HostRuntime) {
     fill(&nodes, &mut cells);
     assert!(rt; find_by_table(&nodes, &cells, &ipv4) == Some(7));
     assert!(rt; find_by_table(&nodes, &cells, &ipv6).is_none());
+    assert!(rt; answer(9, &cells, 0x0a01_0203) == Some(8));
+    assert!(rt; answer(9, &[], 0x0a01_0203).is_none());
     let mut cells = [0; 5];
     fill(&[], &mut cells);
     assert!(rt; find_by_table(&[], &cells, &ipv4).is_none());
