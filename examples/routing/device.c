@@ -218,11 +218,6 @@ size_t pad(uint8_t *frame, size_t len)
     return SHORTEST_FRAME;
 }
 
-void send_later(struct interface *interface, struct packet *packet)
-{
-    interface->queue[interface->queued++] = packet;
-}
-
 static void count_sent(struct interface *interface, int is_sent)
 {
     if (is_sent)
@@ -247,7 +242,7 @@ static void flush_socket(struct interface *interface)
     }
 }
 
-void flush(struct interface *interface)
+static void flush(struct interface *interface)
 {
     if (!interface->is_tap)
         flush_socket(interface);
@@ -257,6 +252,20 @@ void flush(struct interface *interface)
         count_sent(interface, writev(interface->device, parts, PARTS) > 0);
     }
     interface->queued = 0;
+}
+
+void send_later(struct interface *interface, struct packet *packet)
+{
+    if (interface->queued == FRAMES_AT_ONCE)
+        flush(interface);
+    interface->queue[interface->queued++] = packet;
+}
+
+void flush_all(struct router *router)
+{
+    for (size_t i = 0; i < router->interface_count; i++)
+        if (router->interfaces[i].queued > 0)
+            flush(&router->interfaces[i]);
 }
 
 void send_now(struct interface *interface, const struct virtio_net_hdr *offload, const uint8_t *frame, size_t len)

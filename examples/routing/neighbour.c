@@ -22,11 +22,10 @@ struct held {
     uint8_t frame[];
 };
 
-/* The same, after it was taken from the list. */
-struct released {
-    struct lk_addr dst;
-    uint16_t from;
-    struct packet packet;
+/* Packets that wait, the oldest one first. */
+struct list {
+    struct held *first, *last;
+    int count;
 };
 
 struct neighbour {
@@ -37,13 +36,13 @@ struct neighbour {
     int requests;         /* since the last reply */
     int64_t asked_at;
     int64_t confirmed_at;
-    struct held *first, **end;
-    int held;
+    struct list waiting;
 };
 
 struct neighbours {
     uint64_t key[2]; /* so that nobody can choose addresses of one set */
     size_t held_bytes;
+    struct list released; /* the neighbours of these have replied */
     struct neighbour sets[SETS][WAYS];
 };
 
@@ -78,32 +77,50 @@ static struct neighbour *find(struct neighbours *neighbours, uint16_t interface,
     return NULL;
 }
 
-/* Takes the packet that has waited for longest. It stays until the next call. */
-static struct released *take_first(struct neighbours *neighbours, struct neighbour *neighbour)
+static void append(struct list *list, struct held *held)
 {
-    static struct released first;
-    struct held *held = neighbour->first;
-    neighbour->first = held->next;
-    if (held->next == NULL)
-        neighbour->end = &neighbour->first;
-    neighbour->held--;
+    held->next = NULL;
+    if (list->first == NULL)
+        list->first = held;
+    else
+        list->last->next = held;
+    list->last = held;
+    list->count++;
+}
+
+static struct held *take_first(struct list *list)
+{
+    struct held *held = list->first;
+    list->first = held->next;
+    list->count--;
+    return held;
+}
+
+static void free_held(struct neighbours *neighbours, struct held *held)
+{
     neighbours->held_bytes -= held->len;
-    first.dst = held->dst;
-    first.from = held->from;
-    first.packet.len = held->len;
-    first.packet.offload = held->offload;
-    memcpy(first.packet.frame, held->frame, held->len);
     free(held);
-    return &first;
+}
+
+/* Copies a packet out of its memory, and frees that. */
+static void unpack(struct neighbours *neighbours, struct held *held, struct packet *packet)
+{
+    packet->len = held->len;
+    packet->offload = held->offload;
+    memcpy(packet->frame, held->frame, held->len);
+    free_held(neighbours, held);
 }
 
 /* Drops the packets that wait. */
 static void give_up(struct router *router, struct neighbour *neighbour)
 {
-    while (neighbour->first != NULL) {
-        struct released *one = take_first(router->neighbours, neighbour);
+    static struct packet packet;
+    while (neighbour->waiting.first != NULL) {
+        struct held *held = take_first(&neighbour->waiting);
+        uint16_t from = held->from;
+        unpack(router->neighbours, held, &packet);
         drop(router, NO_NEIGHBOUR);
-        send_error(router, one->from, LK_NEIGHBOUR_MISSING, &one->packet, 0);
+        send_error(router, from, LK_NEIGHBOUR_MISSING, &packet, 0);
     }
 }
 
@@ -123,7 +140,7 @@ static struct neighbour *add(struct router *router, uint16_t interface, const st
     struct neighbour *place = place_in(set_of(router->neighbours, interface, addr));
     give_up(router, place);
     *place = (struct neighbour){.addr = *addr, .interface = interface, .state = ASKED, .confirmed_at = router->now,
-                                .asked_at = router->now - BETWEEN_REQUESTS, .end = &place->first};
+                                .asked_at = router->now - BETWEEN_REQUESTS};
     return place;
 }
 
@@ -207,8 +224,8 @@ static void hold(struct router *router, struct neighbour *neighbour, const struc
                  const struct lk_addr *dst, uint16_t from)
 {
     struct neighbours *neighbours = router->neighbours;
-    if (neighbour->held == MOST_HELD) {
-        take_first(neighbours, neighbour);
+    if (neighbour->waiting.count == MOST_HELD) {
+        free_held(neighbours, take_first(&neighbour->waiting));
         drop(router, NO_NEIGHBOUR);
     }
     struct held *held = NULL;
@@ -220,9 +237,7 @@ static void hold(struct router *router, struct neighbour *neighbour, const struc
     }
     *held = (struct held){.dst = *dst, .from = from, .len = packet->len, .offload = packet->offload};
     memcpy(held->frame, packet->frame, packet->len);
-    *neighbour->end = held;
-    neighbour->end = &held->next;
-    neighbour->held++;
+    append(&neighbour->waiting, held);
     neighbours->held_bytes += held->len;
 }
 
@@ -262,7 +277,7 @@ void ask_again(struct router *router)
     if (router->neighbours->held_bytes == 0)
         return;
     for (struct neighbour *one = all; one < all + SETS * WAYS; one++) {
-        if (one->first == NULL)
+        if (one->waiting.first == NULL)
             continue;
         if (one->requests >= MOST_REQUESTS && router->now - one->asked_at >= BETWEEN_REQUESTS) {
             give_up(router, one);
@@ -285,10 +300,22 @@ static void learn(struct router *router, struct neighbour *neighbour, const uint
     neighbour->state = KNOWN;
     neighbour->confirmed_at = router->now - (is_confirmed ? 0 : FRESH_TIME);
     neighbour->requests = 0;
-    while (neighbour->first != NULL) {
-        struct released *one = take_first(router->neighbours, neighbour);
-        send_on(router, one->from, &one->packet, &one->dst);
-        flush(&router->interfaces[neighbour->interface]);
+    while (neighbour->waiting.first != NULL)
+        append(&router->neighbours->released, take_first(&neighbour->waiting));
+}
+
+void send_released(struct router *router, struct packet *packets)
+{
+    struct list *list = &router->neighbours->released;
+    while (list->first != NULL) {
+        for (size_t i = 0; i < FRAMES_AT_ONCE && list->first != NULL; i++) {
+            struct held *held = take_first(list);
+            struct lk_addr dst = held->dst;
+            uint16_t from = held->from;
+            unpack(router->neighbours, held, &packets[i]);
+            send_on(router, from, &packets[i], &dst);
+        }
+        flush_all(router);
     }
 }
 

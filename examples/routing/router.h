@@ -29,7 +29,7 @@ struct interface {
     int clamps;          /* the MTU limits the segments of TCP connections over it */
     struct lk_interface own;  /* its Ethernet address, and the addresses from which ICMP errors come */
     struct error_limit limit; /* for the errors that it sends */
-    struct packet *queue[FRAMES_AT_ONCE];
+    struct packet *queue[FRAMES_AT_ONCE]; /* in a buffer of the caller of `send_later` */
     size_t queued;
     unsigned long received, sent;
     unsigned long lost;   /* could not be sent: the device is down or gone, or its queue is full */
@@ -120,9 +120,10 @@ struct router {
 int open_interface(struct router *router, const char *word, struct interface *interface);
 /* Reads at most FRAMES_AT_ONCE frames, and returns their number. */
 size_t receive(struct interface *interface, struct packet *packets);
-/* Keeps a packet for the next `flush`. Until then the packet must stay. */
+/* Queues a packet, which must stay until `flush_all`. If the queue is full, it is sent first. */
 void send_later(struct interface *interface, struct packet *packet);
-void flush(struct interface *interface);
+/* Sends the packets of all queues. */
+void flush_all(struct router *router);
 void send_now(struct interface *interface, const struct virtio_net_hdr *offload, const uint8_t *frame, size_t len);
 /* Fills a frame up to the shortest length of Ethernet, and returns its length. There must be room for it. */
 size_t pad(uint8_t *frame, size_t len);
@@ -144,10 +145,13 @@ struct neighbours *make_neighbours(void);
 int compare_fixed(const void *a, const void *b);
 /* Returns the Ethernet address of a neighbour, or null if it is not known. */
 const uint8_t *hardware_of(struct router *router, uint16_t interface, const struct lk_addr *addr);
-/* Keeps a copy of a packet for `dst` until the neighbour has replied. Then `send_on` gets the packet again. */
+/* Keeps a copy of a packet for `dst` until the neighbour has replied. */
 void wait_for_neighbour(struct router *router, uint16_t to, const struct lk_addr *addr, uint16_t from,
                         const struct packet *packet, const struct lk_addr *dst);
 void on_arp(struct router *router, uint16_t from, const struct lk_frame *in, struct packet *packet);
+/* Gives packets whose neighbours have replied to `send_on` again, and sends them. `packets` is room for FRAMES_AT_ONCE,
+ * of which no queue has one. */
+void send_released(struct router *router, struct packet *packets);
 /* Takes a neighbour solicitation or advertisement. Returns 0 if the packet is none. */
 int on_ndisc(struct router *router, uint16_t from, const struct lk_frame *in, struct packet *packet);
 /* Repeats requests, and drops packets whose neighbour does not reply. To be called once a second. */

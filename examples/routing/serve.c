@@ -67,9 +67,8 @@ static void take_frames(struct router *router, uint16_t from)
     size_t count = receive(&router->interfaces[from], packets);
     for (size_t i = 0; i < count; i++)
         on_frame(router, from, &packets[i]);
-    for (size_t i = 0; count > 0 && i < router->interface_count; i++)
-        if (router->interfaces[i].queued > 0)
-            flush(&router->interfaces[i]);
+    flush_all(router);
+    send_released(router, packets);
 }
 
 static void check_interfaces(struct router *router, struct pollfd *files)
