@@ -33,6 +33,27 @@ static int is_broadcast(const struct lk_addr *addr)
     return addr->version == 4 && memcmp(addr->octets, ones, 4) == 0;
 }
 
+/* The route to an address, or null. */
+static const struct lk_route *route_to(const struct router *router, const struct lk_addr *addr)
+{
+    const struct config *config = &router->config;
+    ptrdiff_t place = lk_choose_route_by_table(config->nodes, config->route_count, config->cells, config->cell_count, addr);
+    return place < 0 ? NULL : &config->routes[place];
+}
+
+/* Returns why no packet with this source may come from an interface, or LK_NOT_REJECTED. With -n it may come from any one,
+ * but its source is no address of the router and no broadcast of a link (RFC 1812, section 5.3.7). */
+static int check_source(const struct router *router, uint16_t from, const struct lk_addr *src)
+{
+    const struct config *config = &router->config;
+    int rejection = lk_check_source_by_table(config->routes, config->route_count, config->nodes, config->route_count,
+                                             config->cells, config->cell_count, src, from);
+    if (rejection == LK_NOT_REJECTED || rejection == LK_MARTIAN || !router->takes_any_way)
+        return rejection;
+    const struct lk_route *route = route_to(router, src);
+    return route != NULL && route->interface >= MOST_INTERFACES ? rejection : LK_NOT_REJECTED;
+}
+
 /* Whether a packet may be forwarded by its addresses. If not, it is counted. */
 static int may_pass(struct router *router, uint16_t from, const struct lk_frame *in)
 {
@@ -46,10 +67,8 @@ static int may_pass(struct router *router, uint16_t from, const struct lk_frame 
     } else if (is_reserved(&in->dst.addr)) {
         drop(router, RESERVED);
     } else {
-        const struct config *config = &router->config;
-        int rejection = lk_check_source_by_table(config->routes, config->route_count, config->nodes, config->route_count,
-                                                 config->cells, config->cell_count, &in->src.addr, from);
-        if (rejection == LK_NOT_REJECTED || (router->takes_any_way && rejection != LK_MARTIAN))
+        int rejection = check_source(router, from, &in->src.addr);
+        if (rejection == LK_NOT_REJECTED)
             return 1;
         drop(router, rejection);
     }
@@ -124,16 +143,14 @@ static void send_by(struct router *router, uint16_t from, const struct lk_route 
 
 void send_on(struct router *router, uint16_t from, struct packet *packet, const struct lk_addr *dst)
 {
-    const struct config *config = &router->config;
-    ptrdiff_t place = lk_choose_route_by_table(config->nodes, config->route_count, config->cells, config->cell_count, dst);
-    int to = place < 0 ? -1 : config->routes[place].interface;
-    if (to < 0) {
+    const struct lk_route *route = route_to(router, dst);
+    if (route == NULL) {
         drop(router, NO_WAY);
         send_error(router, from, LK_ROUTE_MISSING, packet, 0);
-    } else if (to == TO_BROADCAST) {
+    } else if (route->interface == TO_BROADCAST) {
         drop(router, GROUP);
-    } else if (to != TO_ROUTER) {
-        send_by(router, from, &config->routes[place], packet, dst);
+    } else if (route->interface != TO_ROUTER) {
+        send_by(router, from, route, packet, dst);
     } else if (answer(router, from, dst, packet)) {
         router->answered++;
     } else {

@@ -63,6 +63,8 @@ class Router:
     """A router with one interface for each name. `routes`: block, Ethernet address of the next hop, interface. A next hop
     of None is the neighbour that `neighbours` has."""
 
+    # A packet may come from elsewhere than the route back to its source leads.
+    takes_any_way = False
     # The longest packet and the shortest frame that leaves.
     longest, least = 1500, 0
     # The MTU of each interface that clamps.
@@ -85,7 +87,7 @@ class Router:
         self.broadcasts = {addr for block, _, _ in links if block.version == 4 for addr in (block[0], block[-1])}
 
     def but(self, **changes):
-        """The same router, with another `longest`, `least` or `clamps`."""
+        """The same router, with other values of the class."""
         other = copy.copy(self)
         vars(other).update(changes)
         return other
@@ -103,6 +105,8 @@ class Router:
             return "LK_MARTIAN"
         if addr in self.own or addr in self.broadcasts:
             return "LK_OTHER_INTERFACE"
+        if self.takes_any_way:
+            return None
         route = self.choose(addr)
         return "LK_NO_ROUTE" if route is None else None if route[2] == came_in else "LK_OTHER_INTERFACE"
 

@@ -1,5 +1,5 @@
 #!/usr/bin/env python3
-"""The kernel's side of tests/kernel, for routes of examples/router.c that change.
+"""The kernel's side of tests/kernel, for routes of examples/router.c that change, and packets from elsewhere.
 
 tests/kernel/routes.py PROGRAM
 
@@ -15,8 +15,8 @@ import packets
 from client import check, report
 from links import ELSEWHERE, LATEST, settle
 from operation import on_taps
-from router import OF_TAPS, start_on_taps
-from routed_frames import HARDWARE, HOSTS
+from router import MODEL, OF_TAPS, compare_counters, random_frames, start_on_taps
+from routed_frames import HARDWARE, HOSTS, RANDOM_FRAMES
 
 # The most packets that wait for a neighbour, and the most frames that the router reads at once.
 MOST_HELD, AT_ONCE = 64, 64
@@ -38,6 +38,9 @@ def ports_from(side, count, wait=LATEST):
         found = [int.from_bytes(frame[at : at + 2], "big") for frame in side.came_out if frame.startswith(ELSEWHERE)
                  for at in [34 if frame[12] == 8 else 54]]
     return found
+
+
+# ---- a route that changes
 
 
 def held_frames(router, sides):
@@ -80,5 +83,39 @@ def moved_routes(program):
         check("packets beside them", [port for port in found if port >= 2000] == others, found)
 
 
+# ---- sources
+
+
+# Of packets from the left with -n: the source, and why such a packet is dropped.
+SOURCES = (
+    ("10.1.0.2", None), ("10.2.0.2", None), ("198.18.0.7", None), ("192.0.2.1", None), ("10.1.0.254", None), ("fd01::2", None),
+    ("fd02::2", None), ("2001:db8::7", None), ("3ffe::1", None),
+    # addresses of the router
+    *((addr, "LK_OTHER_INTERFACE") for addr in ("10.1.0.1", "10.2.0.1", "10.5.0.1", "fd01::1", "fd02::1", "fd05::1")),
+    # broadcasts of its links (RFC 1812, sections 4.2.2.11 and 5.3.7)
+    *((addr, "LK_OTHER_INTERFACE") for addr in ("10.1.0.0", "10.1.0.255", "10.2.0.0", "10.2.0.255", "10.5.0.255")),
+    # no link has them
+    *((addr, "LK_MARTIAN") for addr in ("0.0.0.1", "127.0.0.1", "224.0.0.9", "240.0.0.1", "255.255.255.255", "::", "::1", "ff05::9")),
+)
+
+
+def sources(program):
+    """With -n a packet may come from elsewhere, but not from an address that no host has."""
+    with on_taps(start_on_taps, program, options=("-n",)) as (router, sides):
+        before = router.counters()
+        for port, (source, _) in enumerate(SOURCES, 1):
+            sides["left"].sock.send(udp_frame("left", source, "2001:db8::1" if ":" in source else "198.18.0.1", port))
+        expected = [port for port, (_, why) in enumerate(SOURCES, 1) if why is None]
+        compare_counters(router, before, [why for _, why in SOURCES if why])
+        found = ports_from(sides["right"], len(expected))
+        check("sources", found == expected, [SOURCES[port - 1] for port in {*found} ^ {*expected}])
+        random_frames(router, sides, RANDOM_FRAMES // 4, MODEL.but(takes_any_way=True))
+
+
+def all_routes(program):
+    moved_routes(program)
+    sources(program)
+
+
 if __name__ == "__main__":
-    sys.exit(report("routes", moved_routes, *sys.argv[1:]))
+    sys.exit(report("routes", all_routes, *sys.argv[1:]))
