@@ -1,43 +1,50 @@
 /* A limit for the mappings of each inside address of a NAT (RFC 6888, REQ-4).
  *
- * The calls of the library neither count the mappings of an address nor say that they opened one. So `owners` has the
- * address for which each mapping was counted. A bucket counts the mappings of all addresses with one hash, and also
- * those that have ended. While it has room, no address of it is above the limit. Else the live mappings of the address
- * are counted one by one. */
+ * The calls of the library neither count the mappings of an address nor say that one has begun or ended. So each inside
+ * address has a counter, and a ring of the mappings that were counted for it, some of which may have ended. An address at
+ * its limit looks for those by turns, at MOST_LOOKS mappings for each packet that needs another one.
+ *
+ * So the work for a packet is bounded, however many addresses are at their limit: it reads at most WAYS counters and
+ * MOST_LOOKS mappings. */
 #define _GNU_SOURCE
 #include "router.h"
 
 #include <stdlib.h>
 #include <sys/random.h>
 
-enum { BUCKETS = 1 << 16, BETWEEN_COUNTS = 1000 /* in milliseconds */ };
+/* A set has less than half as many addresses as ways, on average, if each mapping is of another address. */
+enum { SETS = 1 << 13, WAYS = 64, MOST_LOOKS = 64 };
 
-struct bucket {
-    size_t count;
-    uint32_t full;       /* an address at its limit */
-    uint64_t full_until; /* in milliseconds: it is not counted again before */
+struct counter {
+    uint32_t addr;
+    uint32_t count;       /* 0: the counter is free */
+    struct counted *next; /* of the ring, the one that is looked at next */
+};
+
+/* A mapping, by its place in the table. */
+struct counted {
+    struct counter *counter; /* null: it is not counted */
+    struct counted *next, *previous;
 };
 
 struct limit {
-    size_t most, count;
-    uint64_t key;     /* random, so that nobody can choose addresses of one bucket */
-    uint32_t *owners; /* 0: none */
-    struct bucket buckets[BUCKETS];
+    size_t most;
+    uint64_t key; /* random, so that nobody can choose addresses of one set */
+    struct counted *mappings;
+    struct counter sets[SETS][WAYS];
 };
 
 struct limit *make_limit(size_t most, size_t count)
 {
     struct limit *limit = calloc(1, sizeof *limit);
-    uint32_t *owners = calloc(count, sizeof *owners);
-    if (limit == NULL || owners == NULL || getrandom(&limit->key, sizeof limit->key, 0) != sizeof limit->key) {
+    struct counted *mappings = calloc(count, sizeof *mappings);
+    if (limit == NULL || mappings == NULL || getrandom(&limit->key, sizeof limit->key, 0) != sizeof limit->key) {
         free(limit);
-        free(owners);
+        free(mappings);
         return NULL;
     }
-    limit->key |= 1;
     limit->most = most;
-    limit->count = count;
-    limit->owners = owners;
+    limit->mappings = mappings;
     return limit;
 }
 
@@ -48,51 +55,70 @@ static uint32_t inside_of(const struct lk_mapping *mapping)
     return addr;
 }
 
-static struct bucket *bucket_of(struct limit *limit, uint32_t addr)
+/* The counter of an address, or a free one for it. Null: its set is full. */
+static struct counter *counter_of(struct limit *limit, uint32_t addr)
 {
-    return &limit->buckets[addr * limit->key >> 48];
-}
-
-static void set_owner(struct limit *limit, size_t place, uint32_t addr)
-{
-    uint32_t *owner = &limit->owners[place];
-    if (*owner != 0)
-        bucket_of(limit, *owner)->count--;
-    if (addr != 0)
-        bucket_of(limit, addr)->count++;
-    *owner = addr;
-}
-
-/* The number of live mappings of an address. Its mappings that have ended no longer count. */
-static size_t count_live(struct limit *limit, const struct lk_mapping *mappings, uint32_t addr, uint64_t now)
-{
-    size_t live = 0;
-    for (size_t place = 0; place < limit->count; place++) {
-        if (limit->owners[place] != addr)
-            continue;
-        if (now < mappings[place].expires && inside_of(&mappings[place]) == addr)
-            live++;
-        else
-            set_owner(limit, place, 0);
+    uint64_t hash = (addr + limit->key) * 0x9e3779b97f4a7c15;
+    hash = (hash ^ hash >> 32) * 0xd6e8feb86659fd93;
+    struct counter *set = limit->sets[hash >> 51], *unused = NULL;
+    for (struct counter *one = set; one < set + WAYS; one++) {
+        if (one->count == 0)
+            unused = one;
+        else if (one->addr == addr)
+            return one;
     }
-    return live;
+    return unused;
+}
+
+/* Puts a mapping into the ring, so that it is looked at last. */
+static void add(struct counter *counter, struct counted *one)
+{
+    struct counted *next = counter->count > 0 ? counter->next : one;
+    struct counted *previous = counter->count > 0 ? next->previous : one;
+    *one = (struct counted){.counter = counter, .next = next, .previous = previous};
+    next->previous = previous->next = one;
+    counter->next = next;
+    counter->count++;
+}
+
+static void take_out(struct counted *one)
+{
+    struct counter *counter = one->counter;
+    one->next->previous = one->previous;
+    one->previous->next = one->next;
+    if (counter->next == one)
+        counter->next = one->next;
+    counter->count--;
+    one->counter = NULL;
+}
+
+/* Looks at the next mappings of an address. Those that have ended no longer count. */
+static void look(const struct limit *limit, struct counter *counter, const struct lk_mapping *mappings, uint64_t now)
+{
+    for (uint32_t looks = counter->count < MOST_LOOKS ? counter->count : MOST_LOOKS; looks > 0; looks--) {
+        struct counted *one = counter->next;
+        counter->next = one->next;
+        if (now >= mappings[one - limit->mappings].expires)
+            take_out(one);
+    }
 }
 
 int is_within_limit(struct limit *limit, struct lk_mapping *mappings, size_t place, uint64_t now)
 {
     uint32_t addr = inside_of(&mappings[place]);
-    struct bucket *bucket = bucket_of(limit, addr);
-    if (limit->owners[place] == addr)
+    struct counted *mapping = &limit->mappings[place];
+    if (mapping->counter != NULL && mapping->counter->addr == addr)
         return 1;
-    int is_full = bucket->full == addr && now < bucket->full_until;
-    if (!is_full && bucket->count >= limit->most && count_live(limit, mappings, addr, now) >= limit->most) {
-        bucket->full = addr;
-        bucket->full_until = now + BETWEEN_COUNTS;
-        is_full = 1;
-    }
-    if (is_full)
+    if (mapping->counter != NULL)
+        take_out(mapping);
+    struct counter *counter = counter_of(limit, addr);
+    if (counter != NULL && counter->count >= limit->most)
+        look(limit, counter, mappings, now);
+    if (counter == NULL || counter->count >= limit->most) {
         mappings[place] = (struct lk_mapping){.expires = 0};
-    else
-        set_owner(limit, place, addr);
-    return !is_full;
+        return 0;
+    }
+    counter->addr = addr;
+    add(counter, mapping);
+    return 1;
 }

@@ -200,7 +200,7 @@ int serve(struct router *router);
 /* Makes a limit of `most` live mappings for each inside address, in a table of `count`. Null: out of memory. */
 struct limit *make_limit(size_t most, size_t count);
 /* Counts the mapping at `place` if lk_translate_out has opened it. Returns 0, and frees it, if its inside address has
- * too many. */
+ * too many. One that has ended may count until the packets of its address have looked at all of them. */
 int is_within_limit(struct limit *limit, struct lk_mapping *mappings, size_t place, uint64_t now);
 
 #endif
