@@ -2,6 +2,7 @@
 """Checks the Markdown pages against the tree.
 
     tests/docs/markdown.py [TOP]
+    tests/docs/markdown.py --links FOLDER   only the links of the pages in a folder
 
 - A link leads to a file, and to a heading of it.
 - A file, a call, a type, a law, a goal of make or another name of code that a page has in code type exists.
@@ -247,6 +248,18 @@ def form_faults(page):
         yield len(page.lines), f"the page has more than {most} lines"
 
 
+def report(faults):
+    """Prints what is wrong, and returns the status."""
+    print("".join(fault + "\n" for fault in faults), end="")
+    return 1 if faults else 0
+
+
+def check_links(folder):
+    os.chdir(folder)
+    pages = {path: Page(path) for path in sorted(files(".")) if path.endswith(".md")}
+    return report([f"{path}:{number}: {fault}" for path, page in pages.items() for number, fault in link_faults(page, pages)])
+
+
 def main(top):
     os.chdir(top)
     tree = Tree(top)
@@ -263,9 +276,10 @@ def main(top):
     total = sum(len(pages[path].lines) - 1 for path in LONGEST if path in pages)
     if total > MOST:
         faults.append(f"the pages that are written by hand have {total} lines, more than {MOST}")
-    print("".join(fault + "\n" for fault in faults), end="")
-    return 1 if faults else 0
+    return report(faults)
 
 
 if __name__ == "__main__":
+    if sys.argv[1:2] == ["--links"]:
+        sys.exit(check_links(sys.argv[2]))
     sys.exit(main(sys.argv[1] if len(sys.argv) > 1 else os.path.join(os.path.dirname(__file__), "../..")))

@@ -81,7 +81,8 @@ GOOD_LINES = (
     "", "# " + LONG, "clamp dev left\r\n\r\n\tclamp  dev\tleft # twice",
     "route 10.9.0.1/32 dev left\nroute 0.0.0.0/0 via 10.9.0.1 dev left",
     "route 0.0.0.0/0 via 10.9.0.1 dev left\nroute 10.9.0.1/32 dev left",
-    "address 10.1.0.9/24 dev left", "address 10.1.1.1/25 dev right", "address 10.3.0.0/31 dev right",
+    "address 10.1.0.9/24 dev left", "address 10.1.1.1/25 dev right", "address 10.3.0.0/31 dev right", "address 10.3.0.1/31 dev right",
+    "address 10.3.0.7/32 dev right", "address fd03::/64 dev right",
     "address fe80::1/64 dev left\naddress fe80::1/64 dev right", "address fd01::1/64 dev left\nroute ::/0 via fe80::9 dev left",
     f"neighbour fe80::9 lladdr {HEX} dev left\nneighbour fe80::9 lladdr {HEX} dev right",
 )
