@@ -9,7 +9,7 @@
 
 static const uint8_t elsewhere[6] = {2, 0, 0, 0, 0xee, 0x0e};
 
-static void move(struct interface *from, struct interface *to)
+static void move(struct router *router, struct interface *from, struct interface *to)
 {
     static struct packet packets[FRAMES_AT_ONCE];
     size_t count = receive(from, packets);
@@ -17,20 +17,24 @@ static void move(struct interface *from, struct interface *to)
         memcpy(packets[i].frame, elsewhere, sizeof elsewhere);
         send_later(to, &packets[i]);
     }
-    flush(to);
+    flush_all(router);
 }
 
 int main(int argc, char **argv)
 {
-    struct interface ends[2];
-    if (argc != 3 || !open_interface("copy", argv[1], &ends[0]) || !open_interface("copy", argv[2], &ends[1]))
+    static struct interface ends[2];
+    struct router router = {.name = "copy", .errors = open_output(STDERR_FILENO), .interfaces = ends};
+    if (argc != 3)
         return 1;
+    for (; router.interface_count < 2; router.interface_count++)
+        if (!open_interface(&router, argv[1 + router.interface_count], &ends[router.interface_count]))
+            return 1;
     struct pollfd files[2] = {{.fd = ends[0].device, .events = POLLIN}, {.fd = ends[1].device, .events = POLLIN}};
     printf("ready\n");
     fflush(stdout);
     for (;;) {
         poll(files, 2, -1);
-        move(&ends[0], &ends[1]);
-        move(&ends[1], &ends[0]);
+        move(&router, &ends[0], &ends[1]);
+        move(&router, &ends[1], &ends[0]);
     }
 }

@@ -37,12 +37,13 @@ static int is_broadcast(const struct lk_addr *addr)
 static const struct lk_route *route_to(const struct router *router, const struct lk_addr *addr)
 {
     const struct config *config = &router->config;
-    ptrdiff_t place = lk_choose_route_by_table(config->nodes, config->route_count, config->cells, config->cell_count, addr);
+    ptrdiff_t place =
+        lk_choose_route_by_table(config->nodes, config->route_count, config->cells, config->cell_count, addr);
     return place < 0 ? NULL : &config->routes[place];
 }
 
-/* Returns why no packet with this source may come from an interface, or LK_NOT_REJECTED. With -n it may come from any one,
- * but its source is no address of the router and no broadcast of a link (RFC 1812, section 5.3.7). */
+/* Returns why no packet with this source may come from an interface, or LK_NOT_REJECTED. With -n it may come from any
+ * one, but its source is no address of the router and no broadcast of a link (RFC 1812, section 5.3.7). */
 static int check_source(const struct router *router, uint16_t from, const struct lk_addr *src)
 {
     const struct config *config = &router->config;

@@ -1,10 +1,10 @@
 /* A limit for the mappings of each inside address of a NAT (RFC 6888, REQ-4).
  *
  * The calls of the library neither count the mappings of an address nor say that one has begun or ended. So each inside
- * address has a counter, and a ring of the mappings that were counted for it, some of which may have ended. An address at
- * its limit looks for those by turns, at MOST_LOOKS mappings for each packet that needs another one.
+ * address has a counter, and a ring of the mappings that were counted for it, some of which may have ended. An address
+ * at its limit looks for those by turns, at MOST_LOOKS mappings for each packet that needs another one.
  *
- * So the work for a packet is bounded, however many addresses are at their limit: it reads at most WAYS counters and
+ * The work for a packet is bounded, however many addresses are at their limit: it reads at most WAYS counters and
  * MOST_LOOKS mappings. */
 #define _GNU_SOURCE
 #include "router.h"

@@ -71,8 +71,8 @@ struct config {
     struct setting *settings; /* of each interface */
 };
 
-/* Numbers of routes that lead to no interface: the router's own addresses, and directed broadcasts. Those of interfaces are
- * less than MOST_INTERFACES. */
+/* Numbers of routes that lead to no interface: the router's own addresses, and directed broadcasts. Those of interfaces
+ * are less than MOST_INTERFACES. */
 enum { TO_ROUTER = 65535, TO_BROADCAST = 65534, MOST_INTERFACES = 65534 };
 
 /* Why a packet is dropped, after the reasons of `lk_rejection`. */
