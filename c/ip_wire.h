@@ -791,7 +791,11 @@ enum lk_problem {
 /* Writes an Ethernet frame with an ICMP error about a frame that came in by an interface, to its sender. `frame` is as
  * it came in. Returns the length of the error, or 0 if the frame may get none. Fails with LK_NO_VERSION if `ipv4` is no
  * IPv4 address or `ipv6` no IPv6 address, with LK_NO_HEADER if `len` is above LK_MAX_LEN, and with LK_NO_ROOM. `mtu` is
- * used for LK_PACKET_TOO_BIG only: the length of the longest packet that the next link takes.
+ * used for LK_PACKET_TOO_BIG only: the length of the longest packet that the next link takes. Any other `problem` than
+ * those above counts as LK_NO_PROBLEM, which returns 0.
+ *
+ * The frame goes from `hardware` to the Ethernet source of the other frame. Its IP packet goes from the address of the
+ * interface to the source of the other packet, with hop limit 64 and DSCP 0.
  *
  * The error quotes as much of the packet as fits into 576 bytes over IPv4, 1280 over IPv6 (RFC 1812, section 4.3.2.3;
  * RFC 4443, section 2.4 c), so a `cap` of 1294 always suffices. No error is sent in these cases (RFC 1122, section
@@ -801,9 +805,13 @@ enum lk_problem {
  * - The version, the lengths or the IPv4 header checksum of the packet are wrong.
  * - It is from a source that lk_check_source calls LK_MARTIAN, or from an address of the interface.
  * - It is for a multicast or broadcast address, or for another that no host has.
- * - It is a fragment other than the first, or any fragment of IPv6.
- * - It carries an ICMP message that is no query: an error, a redirect or an unknown type.
- * - It is IPv6 with other extension headers, which an ICMP error may follow.
+ * - It is an IPv4 fragment other than the first.
+ * - An IPv6 extension header follows the IPv6 header, of number 0, 43, 44, 51, 60, 135, 139 or 140: an ICMP error may
+ *   follow it. So a packet with a fragment header gets no error, not even an atomic fragment (RFC 6946).
+ * - It carries ICMP over IPv4 of another type than 0, 8 and 13 to 18, which are queries and their replies.
+ * - It carries ICMPv6 of a type below 128, which are errors, or of type 137, a redirect. Other types from 128 on get
+ *   an error, even unknown ones (RFC 4443, section 2.1).
+ * - It carries ICMP without a type, since its payload is empty.
  * - The interface has no address of its version.
  *
  * The caller limits the rate (RFC 1812, section 4.3.2.8; RFC 4443, section 2.4 f). */
