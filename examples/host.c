@@ -18,7 +18,7 @@ static const char help[] =
     "Is a host on a TAP device, which echoes what comes to port 7 by UDP and TCP.\n"
     "  DEVICE            the name of the TAP device; it is made unless it exists\n"
     "  HARDWARE_ADDRESS  the Ethernet address of the host, as 02-00-00-00-aa-07\n"
-    "  IPV4_ADDRESS, IPV6_ADDRESS  its addresses, as 10.77.0.2 and fd77::2\n"
+    "  IPV4_ADDRESS, IPV6_ADDRESS  its addresses, as 10.77.0.2 and fd77::2; 0.0.0.0 or :: if it has none\n"
     "  --help            prints this\n"
     "SIGINT and SIGTERM end it, and it prints counts.\n";
 
@@ -58,11 +58,14 @@ void send_tcp(const struct lk_frame *headers, const struct lk_tcp_options *optio
     send_out(lk_emit_tcp_frame(headers, options, ptr, len, out, sizeof out));
 }
 
+/* Whether a packet is for this host, from addresses that another host can have (RFC 1122, section 3.2.1.3). Without
+ * routes lk_check_source finds those that none can have. */
 static int is_for_us(const struct lk_frame *in)
 {
-    const struct lk_addr *addr = in->network == LK_IPV4 ? &own.ipv4 : &own.ipv6;
-    return memcmp(in->ethernet.dst, own.hardware, 6) == 0 && memcmp(&in->dst.addr, addr, sizeof *addr) == 0
-           && lk_is_unicast(&in->src.addr);
+    const struct lk_addr *addr = in->network == LK_IPV4 ? &own.ipv4 : &own.ipv6, *src = &in->src.addr;
+    int is_to_us = memcmp(in->ethernet.dst, own.hardware, 6) == 0 && memcmp(&in->dst.addr, addr, sizeof *addr) == 0;
+    return is_to_us && lk_is_unicast(addr) && (in->ethernet.src[0] & 1) == 0 && memcmp(src, addr, sizeof *addr) != 0
+           && lk_check_source(NULL, 0, NULL, 0, src, 0) != LK_MARTIAN;
 }
 
 static int has_wrong_checksum(const struct lk_frame *in)

@@ -21,7 +21,7 @@ static const char help[] =
     "Is a host on a TAP device, which answers ARP, ping, UDP and the SYN of TCP.\n"
     "  DEVICE            the name of the TAP device; it is made unless it exists\n"
     "  HARDWARE_ADDRESS  the Ethernet address of the host, as 02-00-00-00-aa-07\n"
-    "  IPV4_ADDRESS, IPV6_ADDRESS  its addresses, as 10.77.0.2 and fd77::2\n"
+    "  IPV4_ADDRESS, IPV6_ADDRESS  its addresses, as 10.77.0.2 and fd77::2; 0.0.0.0 or :: if it has none\n"
     "  TCP_PORT          a port whose SYN it answers, at most 16 of them\n"
     "  --help            prints this\n"
     "SIGINT and SIGTERM end it.\n";

@@ -40,9 +40,12 @@ static inline int is_there(void)
     return errno == EAGAIN || errno == EINTR || errno == EIO;
 }
 
+/* 0.0.0.0 and :: mean that the host has no address of this version. */
 static inline int parse_host_addr(const char *word, int version, struct lk_addr *addr)
 {
-    return lk_parse_addr(word, strlen(word), addr) && addr->version == version && lk_is_unicast(addr);
+    static const uint8_t zeros[sizeof addr->octets];
+    return lk_parse_addr(word, strlen(word), addr) && addr->version == version
+           && (lk_is_unicast(addr) || memcmp(addr->octets, zeros, sizeof zeros) == 0);
 }
 
 /* Reads the Ethernet, IPv4 and IPv6 address of a host. Returns 0 if one is none, with a message. */
