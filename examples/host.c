@@ -5,7 +5,7 @@
  * Makes the device, unless it exists, and prints "ready". SIGINT and SIGTERM end it: then it prints counts. It
  * ends with status 1 if the device is deleted. While the device is down, it waits.
  *
- * Not supported: reassembly of IP fragments. ICMP errors that come in are ignored. */
+ * Not supported: reassembly of IP fragments, and ICMP errors that come in, but for "packet too big". */
 #define _GNU_SOURCE
 #include "error_limit.h"
 #include "host_tcp.h"
@@ -21,6 +21,8 @@ static const char help[] =
     "  IPV4_ADDRESS, IPV6_ADDRESS  its addresses, as 10.77.0.2 and fd77::2; 0.0.0.0 or :: if it has none\n"
     "  --help            prints this\n"
     "SIGINT and SIGTERM end it, and it prints counts.\n";
+
+enum { LONGEST_IP_HEADER = 60, TCP_HEADER = 20 };
 
 size_t mtu;
 static struct lk_host own = {.echo_port = ECHO_PORT};
@@ -68,6 +70,28 @@ static int is_for_us(const struct lk_frame *in)
            && lk_check_source(NULL, 0, NULL, 0, src, 0) != LK_MARTIAN;
 }
 
+/* Whether a packet is the ICMP error "packet too big" (RFC 4443, section 3.2), over IPv4 "fragmentation needed" (RFC
+ * 1191). */
+static int is_too_big(const struct lk_frame *in)
+{
+    const struct lk_icmp *icmp = &in->icmp;
+    return in->transport == LK_ICMP && (in->network == LK_IPV4 ? icmp->type == 3 && icmp->code == 4 : icmp->type == 2);
+}
+
+/* The error quotes the IP header of a packet, and at least 8 bytes after it (RFC 792). In a TCP header these are the
+ * ports and the sequence number. */
+static void on_too_big(const struct lk_frame *in, const uint8_t *frame)
+{
+    uint8_t quote[LONGEST_IP_HEADER + TCP_HEADER] = {0};
+    size_t len = in->payload_len < sizeof quote ? in->payload_len : sizeof quote;
+    struct lk_frame sent;
+    memcpy(quote, frame + in->payload_offset, len);
+    lk_read_captured_packet(quote, sizeof quote, LK_MAX_LEN, &sent);
+    int is_tcp = (sent.transport == LK_TCP || sent.rejected == LK_TCP) && sent.transport_offset + 8 <= len;
+    if (is_tcp && sent.network == in->network)
+        lower_mtu(&sent, in->network == LK_IPV4 ? in->icmp.word & 0xffff : in->icmp.word);
+}
+
 static int has_wrong_checksum(const struct lk_frame *in)
 {
     int verdict = in->transport_checksum;
@@ -83,6 +107,8 @@ static void on_frame(const uint8_t *frame, size_t len)
         rejected++;
     if (has_wrong_checksum(&in))
         wrong_checksums++;
+    else if (is_too_big(&in) && is_for_us(&in))
+        on_too_big(&in, frame);
     else if (in.transport != LK_TCP && in.rejected != LK_TCP)
         answer(frame, len);
     else if (is_for_us(&in) && reason == LK_BAD_FLAGS)

@@ -10,6 +10,10 @@ enum { ECHO_PORT = 7 };
 /* Handles a TCP segment to this host, whose checksums are right. */
 void on_tcp(const struct lk_frame *in, const struct lk_tcp_options *options, const uint8_t *frame);
 
+/* A packet that was sent is longer than this MTU, in bytes, of a link on its path. `sent` has its addresses, ports and
+ * sequence number. */
+void lower_mtu(const struct lk_frame *sent, size_t path_mtu);
+
 /* Rejects a segment of no connection (RFC 9293, section 3.10.7.1). */
 void reset(const struct lk_frame *in, size_t payload_len);
 
