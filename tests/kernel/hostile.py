@@ -129,6 +129,15 @@ def random_segment(rng, port, seq, ack):
     return segment(port, near(seq), near(ack), flags, options, data, window=rng.choice((0, 1, 1000, 65535)))
 
 
+def random_error(rng, wire, port, seq, ack):
+    """Packet too big, about a segment that the host may have sent."""
+    number = (ack + rng.choice((-1, 0, 1, 536, rng.randrange(3000), 1 << 31))) % 2**32
+    quote = wire.packet(TCP, segment(ECHO, number, seq, ACK, data=bytes(536), to=port), is_answer=True)
+    mtu = rng.choice((0, 68, 576, 1280, 1400, rng.randrange(1280, 1501), rng.randrange(2**32)))
+    body = icmp.message(*icmp.TOO_BIG[wire.version], mtu, quote[: rng.choice((28, 48, 556, rng.randrange(80)))], *wire.addresses)
+    return icmp.framed(body, *wire.addresses, wire.hardware[0], HOST_HARDWARE)
+
+
 def recorded_frames(rng):
     """Frames of the corpus of make compare."""
     for line in compare.corpus(rng.randrange(2**32), CORPUS):
@@ -140,7 +149,7 @@ def recorded_frames(rng):
 
 def hostile_frames(rng, pair):
     """A third are of the corpus of make compare, a third changes of valid frames, and a third segments of open
-    connections, all to the host."""
+    connections and errors about them, all to the host."""
     recorded, ports = list(recorded_frames(rng)), range(TCP_CLIENT, TCP_CLIENT + 8)
     valid = [frame for wire in pair for frame in valid_frames(wire)]
     for n in range(FLOOD):
@@ -152,6 +161,8 @@ def hostile_frames(rng, pair):
             yield HOST_HARDWARE + rng.choice(recorded)[6:]
         elif kind == 1:
             yield compare.changed(rng, rng.choice(valid))
+        elif rng.randrange(8) == 0:
+            yield random_error(rng, wire, port, *numbers)
         else:
             yield wire.frame(TCP, random_segment(rng, port, *numbers))
     for port in ports:
@@ -310,13 +321,14 @@ def acks(device, _):
 
 def of_duplicates(wire):
     """After a gap the window stays, although the peer acknowledges bytes. Else these would be no duplicates."""
-    seq, ack = opened(wire, TCP_CLIENT, b"\x02\x04\x05\xb4", window=10_000)
+    seq, ack = opened(wire, TCP_CLIENT, b"\x02\x04\x05\xb4\x01\x03\x03\0", window=10_000)
     for offset in (0, 1000, 2000):
-        wire.sock.send(wire.frame(TCP, segment(TCP_CLIENT, (seq + offset) % 2**32, ack, ACK, data=bytes(1000))))
+        body = segment(TCP_CLIENT, (seq + offset) % 2**32, ack, ACK, data=bytes(1000), window=10_000)
+        wire.sock.send(wire.frame(TCP, body))
     segments_until(wire, TCP_CLIENT, time.monotonic() + 0.9, 3)
     for offset in (4000, 5000, 6000):
         number = (ack + offset // 2) % 2**32
-        body = segment(TCP_CLIENT, (seq + offset) % 2**32, number, ACK, data=bytes(1000))
+        body = segment(TCP_CLIENT, (seq + offset) % 2**32, number, ACK, data=bytes(1000), window=10_000)
         wire.sock.send(wire.frame(TCP, body))
     found = segments_until(wire, TCP_CLIENT, time.monotonic() + 0.9, 3)
     check("duplicates", len(found) == 3 and len({place[2:] for place in found}) == 1, found)

@@ -94,12 +94,13 @@ def pings(family, address, device):
     subprocess.run(["ip", "link", "set", device, "mtu", "1500"], check=True)
 
 
-def answers(wire, frame):
-    """The frames with which the host answers this one, but for ARP. An answer to a probe comes after them."""
+def answers(wire, *frames):
+    """The frames with which the host answers these, but for ARP. An answer to a probe comes after them."""
     marker, found, end = random.randbytes(8), [], time.monotonic() + LATEST
     while select.select([wire.sock], [], [], 0)[0]:
         wire.sock.recv(70000)
-    wire.sock.send(frame)
+    for frame in frames:
+        wire.sock.send(frame)
     wire.sock.send(wire.frame(UDP, struct.pack(">HHHH", PROBE, ECHO, 16, 0) + marker))
     while select.select([wire.sock], [], [], max(0, end - time.monotonic()))[0]:
         data, place = wire.sock.recvfrom(70000)
@@ -108,7 +109,7 @@ def answers(wire, frame):
         if data.endswith(marker):
             return found
         found.append(data)
-    check("answer to a probe", False, frame.hex())
+    check("answer to a probe", False, [frame.hex() for frame in frames])
     return found
 
 
