@@ -107,7 +107,7 @@ dist: verdicts $(PROGRAM) $(LIBRARY) $(SHARED) $(PAGES)
 deb: has-dpkg-dev $(PROGRAM) $(LIBRARY) $(SHARED) $(PAGES)
 	@c/alone - c/deb out/deb
 
-quick check loosen new test: ready
+quick check loosen new: ready
 
 # What is looked at before anything is built
 .PHONY: ready install-places uninstall-places verdicts has-dpkg-dev

@@ -44,7 +44,7 @@ end() {
     return "$status"
 }
 
-# The gate proves in a copy. It keeps what it proved on this machine; if ANEW is set, it proves everything again.
+# The gate proves in a copy.
 copy_the_tree() {
     mkdir "$copy"
     touch "$room/begun"
@@ -71,10 +71,18 @@ after_library() {
     "$@"
 }
 
-# Runs the gate, and counts its checks. The libraries that it proved are kept in out/proved.
+# Whether the kit keeps verdicts on this machine, and has the flag to prove everything again: where nothing can be proved,
+# rt ci then prints the same with the flag.
+keeps_verdicts() {
+    (mkdir -p "$room/nothing" && cd "$room/nothing" && [ "$(rt ci 2>&1)" = "$(rt ci --anew 2>&1)" ])
+}
+
+# Runs the gate, and counts its checks. The libraries that it proved are kept in out/proved. If ANEW is set, it uses no
+# verdict of an earlier run.
 run_the_gate() {
-    local gate built
-    (cd "$copy" && tests/gate/progress.py "$OLDPWD/out/test.log" rt ci ${ANEW:+--anew})
+    local gate built anew=
+    [ -z "${ANEW:-}" ] || ! keeps_verdicts || anew=--anew
+    (cd "$copy" && tests/gate/progress.py "$OLDPWD/out/test.log" rt ci $anew)
     gate=$?
     ln -s "$PWD/out" "$copy/out"
     rm -rf "$program" "$calls"

@@ -23,9 +23,17 @@ STALE = 3
 
 
 @functools.lru_cache(maxsize=None)
+def told_by_rt(command):
+    return subprocess.run(["rt", command], check=True, capture_output=True, text=True).stdout.strip()
+
+
 def kit():
-    told = subprocess.run(["rt", "doc"], check=True, capture_output=True, text=True).stdout
-    return pathlib.Path(told.strip()).parent
+    """The folder of the kit."""
+    return pathlib.Path(told_by_rt("doc")).parent
+
+
+def kit_version():
+    return told_by_rt("version")
 
 
 @functools.lru_cache(maxsize=None)
@@ -45,14 +53,19 @@ def below(name):
 
 
 @functools.lru_cache(maxsize=None)
-def sum_of(name):
-    """A sum of what the proof of a library reads, beside the libraries under it: the kit, its line of crates.txt, its sources."""
-    seen = hashlib.sha256((kit() / "KIT-ID").read_bytes() + repr(crates()[name]).encode())
+def source_sum_of(name):
+    """A sum of a crate's line in crates.txt and its sources, which is the same with each kit."""
+    seen = hashlib.sha256(repr(crates()[name]).encode())
     for part in ("src", "specs", "proofs"):
         for path in sorted((TOP / "crates" / name / part).rglob("*")):
             if path.is_file():
                 seen.update(repr((str(path.relative_to(TOP)), path.read_bytes())).encode())
     return seen.hexdigest()
+
+
+def sum_of(name):
+    """A sum of what the proof of a crate reads, beside the libraries under it: the kit and the sources."""
+    return hashlib.sha256(f"{kit_version()} {source_sum_of(name)}".encode()).hexdigest()
 
 
 def one_in(number, items):

@@ -15,7 +15,7 @@ SAID = re.compile(r"rt: (\w+)(?:: its tests are)? (proved|NOT PROVED|is kept)\b"
 KEPT_LINES = ("empty contracts", "axioms", "logic=")
 HEAD = """The verdicts of the gate `rt ci` on these sources, by {kit}.
 
-Each crate has a sum of its sources (`sum_of` in tests/gate/proved.py), and these lines of the gate's log:
+Each crate has a sum of its sources (`source_sum_of` in tests/gate/proved.py), and these lines of the gate's log:
 - logic=proved: the prover checked a proof of each function, over the statements of the crates below. What has =trusted
   is not proved here: the logic and the libraries, which were proved before and loaded.
 - empty contracts: the number of functions for which the prover found that no call can meet their conditions.
@@ -56,9 +56,9 @@ def main():
     told, unproved = verdicts(lines)
     if unproved:
         fail(f"make test did not prove {', '.join(unproved)}")
-    print(HEAD.format(kit=(proved.kit() / "KIT-ID").read_text().strip(), last=lines[-1]), end="")
+    print(HEAD.format(kit=proved.kit_version(), last=lines[-1]), end="")
     for name, found in told.items():
-        print(f"\n{name}\n    sources {proved.sum_of(name)}")
+        print(f"\n{name}\n    sources {proved.source_sum_of(name)}")
         print("".join(f"    {line}\n" for line in found), end="")
 
 
