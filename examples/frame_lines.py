@@ -1,17 +1,23 @@
 """Shared by the converters in this folder: the command line, the output and the errors.
 
 A converter reads a file or standard input and prints each frame as one line of hex digits.
-Every failure prints one line, NAME: MESSAGE, on standard error. The status is then 1, or 2
-if the command line is wrong. The lines printed before a failure are whole.
+The input may be compressed by gzip. Every failure prints one line, NAME: MESSAGE, on
+standard error. The status is then 1, or 2 if the command line is wrong. The lines printed
+before a failure are whole.
 """
 import argparse
+import gzip
 import os
 import signal
 import sys
+import zlib
 
 NAME = os.path.basename(sys.argv[0])
 # Lines are collected up to this size in bytes, then written together.
 WRITE_SIZE = 1 << 16
+# The first bytes of a file compressed by gzip, and what reading a damaged one raises.
+GZIP_START = b"\x1f\x8b"
+GZIP_ERRORS = (gzip.BadGzipFile, zlib.error, EOFError)
 
 
 class Failure(Exception):
@@ -77,13 +83,15 @@ def counted(count, noun):
 
 
 def open_source(path):
-    """The file, or standard input if there is no path. Its reads block."""
+    """The file, or standard input if there is no path, decompressed. Its reads block."""
     if path is not None:
-        return open(path, "rb")
-    if sys.stdin is None:
+        source = open(path, "rb")
+    elif sys.stdin is None:
         raise Failure("cannot read: standard input is closed")
-    os.set_blocking(0, True)
-    return sys.stdin.buffer
+    else:
+        os.set_blocking(0, True)
+        source = sys.stdin.buffer
+    return gzip.open(source) if source.peek(2).startswith(GZIP_START) else source
 
 
 def convert(read_frames, arguments, output):
@@ -92,6 +100,8 @@ def convert(read_frames, arguments, output):
         with open_source(arguments.file) as source:
             for frame in read_frames(source, arguments):
                 output.add_frame(frame)
+    except GZIP_ERRORS:
+        raise Failure("the compressed input is damaged or cut off") from None
     except OSError as error:
         name = "" if error.filename is None else f" {error.filename}"
         raise Failure(f"cannot read{name}: {error.strerror}") from None

@@ -7,7 +7,8 @@ The capture is a pcap or pcapng file, in either byte order.
 Frames that the capture truncated to its snapshot length are printed as they are, and
 their number is reported on standard error. The frame check sequence is removed where
 the capture says that it has one. Packets of interfaces other than Ethernet are skipped,
-and their number is reported. A capture without an Ethernet interface is an error.
+and their number is reported. A capture without an Ethernet interface or without any
+packet is an error.
 """
 import struct
 from collections import Counter, namedtuple
@@ -218,6 +219,8 @@ def read_frames(source, arguments):
         counts["with fcs"] += data_len > frame_len
         if not (truncated and arguments.whole):
             yield packet.data[: max(frame_len, 0)]
+    if not counts and not skipped:
+        raise Failure("no packets in this capture")
     report_counts(counts, skipped, arguments.whole)
 
 

@@ -18,7 +18,8 @@ The rules, for each line:
      summary of a packet. So are the lines after it, up to the dump: the inner packet of a
      tunnel has a line without a time. They are skipped, except an unindented line that is a
      frame by rule 6. With -v tcpdump also dumps parts of a packet. Such a dump is skipped: it
-     is indented deeper, or a line of the summary or another dump follows.
+     is indented deeper, or a line of the summary or another dump follows. The number of packets
+     without a dump, and of skipped dumps that are not part of their packet, is reported.
   3. An offset is four to eight hex digits, perhaps after 0x, with a colon or two spaces
      after them. Offset 0 begins a frame. Any other offset must be the number of bytes
      that the frame has so far, and the line continues that frame.
@@ -31,7 +32,7 @@ The rules, for each line:
      from several frames. A frame with another number of bytes is an error.
   6. Any other line is a frame of its own. If it ends in a comma or a backslash, the next
      line continues it.
-  7. A line in none of these forms is an error.
+  7. A line in none of these forms is an error, and so is an input without any frame.
 
 tcpdump -x and -X leave the Ethernet header out: use -xx or -XX, without -t. The number of frames
 that look so is reported on standard error. Of some frames tcpdump also leaves out the last bytes,
@@ -67,18 +68,20 @@ class Reader:
         self.continues = False
         # Whether the last line is a part of tcpdump's summary.
         self.in_summary = False
-        # Whether the lines since tcpdump's last time are of its packet. One of them was perhaps
-        # a dump that is only a part of the packet.
+        # Whether the lines since tcpdump's last time are of its packet, and the dumps among them
+        # that are only a part of the packet.
         self.has_summary = False
-        self.lacks_dump = False
+        self.parts = []
         # The frame has lines with offsets, and one of them has a text column.
         self.is_dumped = False
         self.has_text = False
         # The bytes with offsets are no frame. Their number, if a line before them says it.
         self.is_skipped = False
         self.said_len = None
-        # How many frames begin with an IP header.
-        self.ip_count = 0
+        # How many frames there are, and how many of them begin with an IP header.
+        self.count = self.ip_count = 0
+        # How many summaries have no bytes, and how many skipped dumps are no part of their packet.
+        self.missing_count = self.stray_count = 0
 
     def read_line(self, line):
         """The frames that end before this line or with it."""
@@ -117,10 +120,10 @@ class Reader:
         return self.in_summary
 
     def drop_dump(self):
-        """Forgets a dump of a part of a packet."""
+        """Takes the dump so far as one of a part of the packet."""
+        self.parts.append(bytes(self.frame))
         self.frame = bytearray()
         self.is_dumped = self.has_text = False
-        self.lacks_dump = True
 
     def read_dumped(self, offset, text):
         """A line with an offset: its bytes, and perhaps a text column."""
@@ -144,7 +147,7 @@ class Reader:
     def read_single(self, text):
         """A line without an offset: a frame, or a part of one that continues."""
         data = single_bytes(text)
-        if not self.continues:
+        if self.frame and not self.continues:
             yield from self.end()
         self.frame += data
         self.continues = text[-1] in ",\\"
@@ -154,12 +157,16 @@ class Reader:
     def end(self):
         """The frame so far, if there is one."""
         frame = bytes(self.frame)
-        if self.lacks_dump and not frame:
+        if self.parts and not frame:
             raise Failure("the dump of a packet is missing")
-        self.lacks_dump = self.has_summary = False
+        self.missing_count += self.has_summary and not frame
+        self.stray_count += sum(part not in frame for part in self.parts)
+        self.has_summary = False
+        self.parts = []
         if frame and self.said_len not in (None, len(frame)):
             raise Failure(f"{counted(len(frame), 'byte')}, but {self.said_len} are expected")
         if frame and not self.is_skipped:
+            self.count += 1
             self.ip_count += self.is_dumped and is_ip_packet(frame)
             yield frame
         self.frame = bytearray()
@@ -207,8 +214,18 @@ def read_frames(source, _arguments):
         yield from reader.end()
     except Failure as failure:
         raise Failure(f"line {number}: {failure}") from None
+    report_counts(reader)
+
+
+def report_counts(reader):
+    if reader.missing_count:
+        frame_lines.report(f"skipped, without bytes: {counted(reader.missing_count, 'packet')}")
+    if reader.stray_count:
+        frame_lines.report(f"skipped, not part of its packet: {counted(reader.stray_count, 'dump')}")
     if reader.ip_count:
         frame_lines.report(f"without an Ethernet header, as tcpdump -x prints them: {counted(reader.ip_count, 'packet')}")
+    if not reader.count:
+        raise Failure("no frames in the input" + ("; tcpdump prints them with -xx" if reader.missing_count else ""))
 
 
 if __name__ == "__main__":

@@ -9,6 +9,7 @@ import re
 import shlex
 import sys
 
+from captures import pcap
 from tools import RECORDED, Case, run_cases
 
 ECHO = "examples/echo.pcap"
@@ -82,8 +83,8 @@ FORMS = [
                    "tshark.in", "wireshark_dump.in", "wireshark_escaped.in", "echo.lines")],
     case(f"{RECORDED}/interfaces.pcapng", ECHO_TEXT,
          f"{RECORDED}/interfaces.pcapng: skipped, not Ethernet (link type 101): 1 packet"),
-    case("", "", name="nothing"),
-    case("", "", data=b"# only a comment\n", name="no frame"),
+    case(f"<(gzip -c {ECHO}) | cat", ECHO_TEXT),
+    case("--stats < <(gzip -c examples/frames.hex)", FRAMES_STATS),
     Case("ip_dump: a dump in two writes", "(printf 0000; sleep 0.2; printf '  02 00\\n') | examples/ip_dump", b"",
          "1: EthernetII (wire::Error)\n", "", 0),
     Case("ip_dump: lines in two writes", "(printf 02; sleep 0.2; printf '00\\n') | examples/ip_dump", b"",
@@ -170,6 +171,8 @@ OPTIONS = [
     ]],
 ]
 
+# Three packets of tcpdump with lines that are no dump, and that become one as 0x0000.
+SUMMARIES = "".join(f"17:03:3{n}.7 IP x\n\t0y0000:  {LINE}\n" for n in range(3))
 MANY = f"yes {LINE} | head -n 5000"
 FILES = [
     case(f"/no/such {RECORDED}/echo.lines examples", "".join(f"{RECORDED}/echo.lines:{frame}" for frame in ECHO_FRAMES),
@@ -181,6 +184,14 @@ FILES = [
     case("< /dev/null <&-", "", "cannot read: standard input is closed", 1),
     case(f"{ECHO} >&-", "", "cannot write: standard output is closed", 1),
     case("< examples", "", "cannot read: Is a directory", 1),
+    case("", "", "no frames in the input", 1, name="nothing"),
+    case("", "", "no frames in the input", 1, b"# only a comment\n", "no frame"),
+    case("", "", "no packets in this capture", 1, pcap([]), "no packet"),
+    case(f"< <(gzip -c {ECHO} | head -c 30)", "", "the compressed input is damaged or cut off", 1),
+    case("", f"1: {LINE_TEXT}2: {LINE_TEXT}", "skipped, without bytes: 1 packet", 0,
+         SUMMARIES.replace("0y", "0x", 1).replace("0y", "0x", 1).encode(), "a damaged offset"),
+    case("", "", "skipped, without bytes: 3 packets\nno frames in the input; tcpdump prints them with -xx", 1,
+         SUMMARIES.encode(), "tcpdump without -xx"),
     case(f"{ECHO} > /dev/full", "", "cannot write: No space left on device", 1),
     case("--help > /dev/full", "", "cannot write: No space left on device", 1),
     Case("ip_dump: a reader that ends", f"{MANY} | examples/ip_dump | head -n 1", b"", f"1: {LINE_TEXT}", "", 141),
@@ -194,9 +205,9 @@ FILES = [
     Case("ip_dump: an interrupt", f"(echo {LINE}; sleep 12) | timeout --preserve-status -s INT 8 examples/ip_dump", b"",
          "", "", 130),
     Case("ip_dump: a name that is no text", "d=$(mktemp -d) && f=$d/$'\\xff' && echo 02 > $f && "
-         "examples/ip_dump $f /dev/null | sed s,$d/,, && "
+         "echo 03 > $d/2 && examples/ip_dump $f $d/2 | sed s,$d/,, && "
          "examples/ip_dump --json $f | cut -d '\"' -f 4 | sed s,$d/,, && rm -r $d", b"",
-         b"\xff:1: EthernetII (wire::Error)\n\\udcff\n", "", 0),
+         b"\xff:1: EthernetII (wire::Error)\n2:1: EthernetII (wire::Error)\n\\udcff\n", "", 0),
 ]
 
 # Prints what ip_dump --stats writes on a terminal while its input is slow.

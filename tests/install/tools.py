@@ -87,7 +87,7 @@ PCAP = [
     capture("big-endian, microseconds", pcap(order=">"), LINES),
     capture("little-endian, nanoseconds", pcap(order="<", magic=0xA1B23C4D), LINES),
     capture("big-endian, nanoseconds", pcap(order=">", magic=0xA1B23C4D), LINES),
-    capture("no frame", pcap([]), ""),
+    bad_capture("no frame", pcap([]), "no packets in this capture"),
     capture("a frame of no bytes", pcap([b"", FRAMES[0]]), f"\n{ONE}\n"),
     capture("a frame longer than it was", pcap_header() + pcap_record(FRAMES[0], original_len=3), f"{ONE}\n"),
     capture("the longest frame", pcap([bytes(262144)]), "00" * 262144 + "\n"),
@@ -131,7 +131,7 @@ PCAPNG = [
     capture("pcapng, big-endian", each_kind(">"), EACH_KIND_LINES),
     capture("sections of both orders", each_kind("<") + each_kind(">"), EACH_KIND_LINES * 2),
     bad_capture("a section alone", section(), "no Ethernet in this capture: no interface"),
-    capture("an interface alone", BEGIN, ""),
+    bad_capture("an interface alone", BEGIN, "no packets in this capture"),
     capture("interfaces of each section", section() + interface(link=RAW_IP) + interface() + enhanced(FRAMES[0], number=1)
             + enhanced(b"E", number=0) + section() + interface() + enhanced(FRAMES[1], number=0), LINES,
             "skipped, not Ethernet (link type 101): 1 packet"),
@@ -196,6 +196,7 @@ RECORDED_DUMPS = [
 ]
 
 GAP = "0000  02 00 00\n0004  00\n"
+THREE_PACKETS = "".join(f"17:03:3{2 + n}.7 IP x\n\t0x0000:  0{n}\n" for n in (1, 2, 3))
 
 DUMPS = [
     dump("spaces", "02 00 00 ff\n00  01 \n", "020000ff\n0001\n"),
@@ -207,8 +208,8 @@ DUMPS = [
     dump("escaped, without quotes", "\\x02\\x00\\xFF\n\\x01 \\\n\\x02\n", "0200ff\n0102\n"),
     dump("a stream", "0200FF\nab\n", "0200ff\nab\n"),
     dump("comments and empty lines", "# a\n\n  # 00\n0200\n \n#\n", "0200\n"),
-    dump("only comments", "# a\n", ""),
-    dump("nothing", "", ""),
+    bad_dump("only comments", "# a\n", "no frames in the input"),
+    bad_dump("nothing", "", "no frames in the input"),
     dump("no last line feed", "0200ff", "0200ff\n"),
     dump("carriage returns", "0000  02 00\r\n0002  ff\r\n\r\n0200\r\n", "0200ff\n0200\n"),
     dump("a byte order mark", "\ufeff0200\n", "0200\n"),
@@ -219,11 +220,16 @@ DUMPS = [
     dump("a tunnel", "20:21:44.837063 IP 192.0.2.1.4 > 192.0.2.2.4789: VXLAN, vni 100\nIP 192.0.2.3 > 192.0.2.5: ICMP echo request\n"
          "\t0x0000:  0200\n20:21:44.8 IP x\nARP, Request\n\t0x0000:  ff\n", "0200\nff\n"),
     dump("odd times", "[Error converting time] IP x\n\t0x0000:  0200\n-00:00:00.000110 IP x\n\t0x0000:  ff\n", "0200\nff\n"),
-    dump("packets of no bytes", "[Invalid header: caplen==0, len==0]\n17:03:33.7 IP x\n\t0x0000:  02\n[Invalid header: caplen==0]\n", "02\n"),
-    dump("a dump of a part", "17:03:33.7 IP x\n\tMsg: y\n\t0x0000:  3c\n\t0x0001:  35  5\n\t0x0000:  0200 0001\n17:03:33.7 IP x\n"
-         "\t0x0000:  ff\n", "02000001\nff\n"),
+    dump("packets of no bytes", "[Invalid header: caplen==0, len==0]\n17:03:33.7 IP x\n\t0x0000:  02\n[Invalid header: caplen==0]\n", "02\n",
+         error="skipped, without bytes: 2 packets"),
+    dump("a dump of a part", "17:03:33.7 IP x\n\tMsg: y\n\t0x0000:  3c\n\t0x0001:  35  5\n\t0x0000:  0200 3c35\n17:03:33.7 IP x\n"
+         "\t0x0000:  ff\n", "02003c35\nff\n"),
     dump("a dump of a part, then more words", "17:03:33.7 IP x\n\tL1 LSP\n\t0x0000:  831b\n\t  lsp-id: 1\n\t  0x0000:  0061\n\t    Area\n"
-         "\t0x0000:  0200\n", "0200\n"),
+         "\t0x0000:  0283 1b00\n", "02831b00\n"),
+    dump("a damaged offset", THREE_PACKETS.replace("0x0000:  02", "0y0000:  02"), "01\n03\n", error="skipped, without bytes: 1 packet"),
+    dump("a damaged time", THREE_PACKETS.replace("17:03:34", " 7:03:34"), "02\n03\n", error="skipped, not part of its packet: 1 dump"),
+    bad_dump("tcpdump without -xx", "17:03:33.7 IP x\n17:03:34.7 IP x\n",
+             "skipped, without bytes: 2 packets\nno frames in the input; tcpdump prints them with -xx"),
     dump("a summary, then a frame in one line", "17:03:33.7 IP x\nIP y\n0200\nff\n", "0200\nff\n"),
     bad_dump("only a dump of a part", "17:03:33.7 IP x\n\t0x0000:  3c\n\tMsg\n17:03:33.7 IP x\n\t0x0000:  ff\n",
              "line 4: the dump of a packet is missing"),
@@ -298,6 +304,9 @@ def devices(tool, source, lines, long):
         fails("--odd", "unrecognized arguments: --odd", status=2),
         fails("a b", "unrecognized arguments: b", status=2),
         fails(f"< {source} 2>&-", "", lines, 0),
+        fails(f"<(gzip -c {source})", "", lines, 0),
+        fails(f"< <(gzip -c {source})", "", lines, 0),
+        fails(f"< <(gzip -c {source} | head -c 30)", "the compressed input is damaged or cut off"),
         fails("/no/such 2>&-", ""),
         fails("/no/such 2> /dev/full", ""),
         tool_case(tool, "| head -n 1", "| head -n 1", long, LONG_LINES[0], "cannot write: Broken pipe", 1),
