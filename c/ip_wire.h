@@ -281,7 +281,7 @@ enum lk_transport { LK_NO_TRANSPORT, LK_UDP, LK_TCP, LK_ICMP };
 enum lk_reason {
     LK_READ,         /* no header was rejected */
     LK_TOO_SHORT,    /* fewer bytes than the shortest header */
-    LK_BAD_VERSION,  /* another version than the EtherType names; a packet of neither version */
+    LK_BAD_VERSION,  /* another version than the EtherType or link type names; a packet of neither version */
     LK_BAD_LENGTH,   /* a length field that does not fit */
     LK_OTHER_ARP,    /* ARP for other addresses than Ethernet and IPv4, by their types or lengths */
     LK_PORT_ZERO,    /* UDP: destination port 0; TCP: a port 0 */
@@ -381,7 +381,8 @@ int lk_read_captured_packet(const uint8_t *ptr, size_t captured, size_t len, str
 /* A link-layer header. */
 struct lk_link {
     size_t offset;     /* where the packet begins: the length of the header and its VLAN tags, in bytes */
-    uint16_t type;     /* the EtherType of the packet; 0: the header has none */
+    uint16_t type;     /* the EtherType of the packet; 0: the header has none. Below 0x0600 it is another number: the length
+                        * of an IEEE 802.3 frame, or 1, 4 and others in a cooked header */
     uint16_t tags[2];  /* the control information of each tag, the outer one first: its low 12 bits are the VLAN */
     uint8_t tag_count; /* at most 2; the others of `tags` are 0 */
 };
@@ -395,25 +396,26 @@ struct lk_link {
  *   12, 14, 101  RAW         none: the IP version is in the first byte of the packet
  *   108          LOOP        an address family, in network byte order
  *   113          LINUX_SLL   the header of Linux cooked captures, 16 bytes
- *   228, 229     IPV4, IPV6  none
+ *   228, 229     IPV4, IPV6  none: the packet must have this version
  *   276          LINUX_SLL2  the second version of LINUX_SLL, 20 bytes
  *
  * - `type` is 0x0800 for the address family 2, 0x86dd for 10, 24, 28 and 30, and 0 for others. Without a header it is
- *   that of the IP version.
+ *   that of the version in the first byte of the packet.
  * - Of a cooked header it is the protocol field. It is 0 if the packet comes from a device for frame relay, radiotap
  *   or netlink (ARPHRD 770, 803 and 824), whose protocol field has another meaning.
  * - Up to two VLAN tags are skipped, of the types 0x8100, 0x88a8 and 0x9100 (IEEE 802.1Q). Before a third tag `type` is
  *   one of these, and the packet begins at the control information of that tag.
  *
- * Returns LK_UNKNOWN_LINK, LK_TOO_SHORT if the header or a tag is not there as a whole, or LK_BAD_VERSION for a raw
- * packet of neither version; then nothing is stored. */
+ * Returns LK_UNKNOWN_LINK; LK_TOO_SHORT if the header or a tag is not there as a whole, or without a header if no byte is
+ * there; or LK_BAD_VERSION if a packet without a header has no version of its link type. Then nothing is stored. */
 int lk_read_link(uint32_t link_type, const uint8_t *ptr, size_t captured, struct lk_link *link);
 
 /* The same as lk_read_captured for a packet of any link type that lk_read_link knows. Offsets count from `ptr`.
- * `ethernet.type` is the EtherType after any VLAN tags. The Ethernet addresses are 0 for other link types than 1.
+ * `ethernet.type` is the `type` of lk_read_link, also for a packet without a header. The Ethernet addresses are 0 for
+ * other link types than 1.
  *
  * A header is rejected together with its tags, and the payload begins at `ptr` then. The reasons are those of
- * lk_read_link, and LK_HEADER_CUT instead of LK_TOO_SHORT if `len` has room for the header.
+ * lk_read_link, and LK_HEADER_CUT instead of LK_TOO_SHORT if `len` has room for the header. `ethernet` is 0 then.
  *
  *     uint32_t link_type = (uint32_t)pcap_datalink(capture);
  *     while (pcap_next_ex(capture, &header, &bytes) == 1)

@@ -32,7 +32,7 @@ type Reason uint8
 // The reasons. If several apply to a header, it is the first of them in this order.
 const (
 	TooShort    Reason = C.LK_TOO_SHORT    // fewer bytes than the shortest header
-	BadVersion  Reason = C.LK_BAD_VERSION  // another version than the EtherType names; a packet of neither version
+	BadVersion  Reason = C.LK_BAD_VERSION  // another version than the EtherType or link type names; a packet of neither version
 	BadLength   Reason = C.LK_BAD_LENGTH   // a length field that does not fit
 	OtherARP    Reason = C.LK_OTHER_ARP    // ARP for other addresses than Ethernet and IPv4
 	PortZero    Reason = C.LK_PORT_ZERO    // UDP: destination port 0; TCP: a port 0

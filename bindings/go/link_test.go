@@ -58,6 +58,8 @@ func TestRejectedLinks(t *testing.T) {
 		{1, addresses + "8100006408", TooShort},
 		{101, "55000020", BadVersion},
 		{101, "", TooShort},
+		{228, udp6, BadVersion},
+		{229, "", TooShort},
 	} {
 		data := unhex(t, it.data)
 		if _, err := ReadLink(it.linkType, data); !errors.Is(err, it.err) {

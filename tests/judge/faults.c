@@ -37,6 +37,7 @@ __attribute__((constructor)) static void choose(void)
         "bytes at an odd offset summed as at an even one",
         "an echo to a port below 1024",
         "the inner of two VLAN tags lost", "an address family in one byte order only",
+        "an IPv6 packet of link type 228 accepted", "no byte of link type 229 accepted",
         "a header after that of a later fragment",
         "the segment size of a SYN updated in a partial checksum",
         "the note about a wrong checksum missing", "a fragment offset in units of 8 bytes",
@@ -151,6 +152,11 @@ int __wrap_lk_read_link(uint32_t link_type, const uint8_t *ptr, size_t captured,
     int reason = __real_lk_read_link(link_type, ptr, captured, link);
     if (fault == INNER_TAG_LOST && reason == LK_READ)
         link->tags[1] = 0;
+    if ((fault == OTHER_VERSION_LINKED && link_type == 228 && reason == LK_BAD_VERSION) ||
+        (fault == NO_BYTE_LINKED && link_type == 229 && reason == LK_TOO_SHORT)) {
+        *link = (struct lk_link){0, link_type == 228 ? 0x0800 : 0x86dd, {0, 0}, 0};
+        return LK_READ;
+    }
     return reason;
 }
 

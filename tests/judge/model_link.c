@@ -3,8 +3,8 @@
 #include "model.h"
 
 /* How the EtherType is found: in the bytes at `at`, also of a cooked header, whose device type is at `device_at`; by an
- * address family; by the version of the packet; or it is always `at`. */
-enum way { IN_FIELD, COOKED, HOST_FAMILY, NETWORK_FAMILY, BY_VERSION, ALWAYS };
+ * address family; or by the version of the packet, which must be `at` unless this is 0. */
+enum way { IN_FIELD, COOKED, HOST_FAMILY, NETWORK_FAMILY, BY_VERSION };
 
 static const struct link_type {
     uint32_t number;
@@ -12,8 +12,8 @@ static const struct link_type {
     size_t header_len, at, device_at;
 } link_types[] = {
     {0, HOST_FAMILY, 4, 0, 0}, {1, IN_FIELD, 14, 12, 0}, {12, BY_VERSION, 0, 0, 0},   {14, BY_VERSION, 0, 0, 0},
-    {101, BY_VERSION, 0, 0, 0}, {108, NETWORK_FAMILY, 4, 0, 0}, {113, COOKED, 16, 14, 2}, {228, ALWAYS, 0, 0x0800, 0},
-    {229, ALWAYS, 0, 0x86dd, 0}, {276, COOKED, 20, 0, 8},
+    {101, BY_VERSION, 0, 0, 0}, {108, NETWORK_FAMILY, 4, 0, 0}, {113, COOKED, 16, 14, 2}, {228, BY_VERSION, 0, 4, 0},
+    {229, BY_VERSION, 0, 6, 0}, {276, COOKED, 20, 0, 8},
 };
 
 static const struct link_type *type_of(uint32_t number)
@@ -40,6 +40,11 @@ static unsigned of_host_family(const uint8_t *family)
     return of_family(family) | of_family(reversed);
 }
 
+static unsigned of_version(int version)
+{
+    return version == 4 ? 0x0800 : version == 6 ? 0x86dd : 0;
+}
+
 static unsigned ethertype_in(const struct link_type *type, const uint8_t *ptr)
 {
     unsigned device;
@@ -53,10 +58,8 @@ static unsigned ethertype_in(const struct link_type *type, const uint8_t *ptr)
         return of_host_family(ptr);
     case NETWORK_FAMILY:
         return of_family(ptr);
-    case BY_VERSION:
-        return ptr[0] >> 4 == 4 ? 0x0800 : ptr[0] >> 4 == 6 ? 0x86dd : 0;
     default:
-        return (unsigned)type->at;
+        return type->at != 0 && type->at != ptr[0] >> 4 ? 0 : of_version(ptr[0] >> 4);
     }
 }
 

@@ -46,6 +46,11 @@ static const struct row {
     {RAW, "", LK_TOO_SHORT, 0, 0, 0, 0, {0}},
     {228, IPV4, LK_READ, 0, 0, 0x0800, 0, {0}},
     {229, IPV6, LK_READ, 0, 0, 0x86dd, 0, {0}},
+    {228, IPV6, LK_BAD_VERSION, 0, 0, 0, 0, {0}},
+    {229, IPV4, LK_BAD_VERSION, 0, 0, 0, 0, {0}},
+    {228, IPV6, LK_BAD_VERSION, 1, 0, 0, 0, {0}},
+    {228, "", LK_TOO_SHORT, 0, 0, 0, 0, {0}},
+    {229, "", LK_TOO_SHORT, 0, 0, 0, 0, {0}},
     /* tags */
     {1, ADDRESSES "0800" IPV4, LK_READ, 0, 14, 0x0800, 0, {0}},
     {1, ADDRESSES "810000640800" IPV4, LK_READ, 0, 18, 0x0800, 1, {100}},

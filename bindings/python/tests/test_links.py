@@ -31,6 +31,8 @@ REJECTED = [
     (1, ADDRESSES + "8100006408", Reason.TOO_SHORT),
     (101, "55000020", Reason.BAD_VERSION),
     (101, "", Reason.TOO_SHORT),
+    (228, IPV6, Reason.BAD_VERSION),
+    (229, "", Reason.TOO_SHORT),
 ]
 
 

@@ -63,7 +63,7 @@ numbered! {
     /// Why a header was rejected. If several reasons apply to it, it is the first of them.
     enum Reason {
         TooShort: "there are fewer bytes than the shortest header has",
-        BadVersion: "the IP version is not that of the EtherType, or neither 4 nor 6",
+        BadVersion: "the IP version is not that of the EtherType or link type, or neither 4 nor 6",
         BadLength: "a length field does not fit",
         OtherArp: "ARP is for other addresses than Ethernet and IPv4",
         PortZero: "a port is 0",

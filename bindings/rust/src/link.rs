@@ -18,7 +18,7 @@ pub(crate) const ETHERNET: u32 = 1;
 /// | 12, 14, 101 | RAW | none: the IP version is in the first byte of the packet |
 /// | 108 | LOOP | an address family, in network byte order |
 /// | 113 | LINUX_SLL | the header of Linux cooked captures, 16 bytes |
-/// | 228, 229 | IPV4, IPV6 | none |
+/// | 228, 229 | IPV4, IPV6 | none: the packet must have this version |
 /// | 276 | LINUX_SLL2 | the second version of LINUX_SLL, 20 bytes |
 ///
 /// ```
@@ -44,8 +44,8 @@ impl Link {
     /// # Errors
     ///
     /// - [`Reason::UnknownLink`]: the link type is not one of the table.
-    /// - [`Reason::TooShort`]: the header or a tag is not there as a whole.
-    /// - [`Reason::BadVersion`]: a raw packet is neither IPv4 nor IPv6.
+    /// - [`Reason::TooShort`]: the header or a tag is not there as a whole, or without a header no byte is there.
+    /// - [`Reason::BadVersion`]: a packet without a header has no version of its link type.
     pub fn parse(link_type: u32, captured: &[u8]) -> Result<Self, Reason> {
         let mut fields = sys::Link::default();
         // SAFETY: there are `captured` bytes at `ptr`, and only `fields` is written.

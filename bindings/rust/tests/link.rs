@@ -52,6 +52,11 @@ const ROWS: &[Row] = &[
     (RAW, &[], 0, Err(Reason::TooShort)),
     (228, &[IPV4], 0, Ok((0, Some(0x0800), &[]))),
     (229, &[IPV6], 0, Ok((0, Some(0x86dd), &[]))),
+    (228, &[IPV6], 0, Err(Reason::BadVersion)),
+    (229, &[IPV4], 0, Err(Reason::BadVersion)),
+    (228, &[IPV6], 1, Err(Reason::BadVersion)),
+    (228, &[], 0, Err(Reason::TooShort)),
+    (229, &[], 0, Err(Reason::TooShort)),
     // tags
     (1, &[ADDRESSES, "0800", IPV4], 0, Ok((14, Some(0x0800), &[]))),
     (1, &[ADDRESSES, "810000640800", IPV4], 0, Ok((18, Some(0x0800), &[100]))),

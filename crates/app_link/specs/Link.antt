@@ -38,9 +38,11 @@ header_len kind.Ipv6 = 0
 header_len kind.LinuxSll2 = 20
 
 -- Pinned by: `worked/link`
--- how many bytes tell the EtherType: the header, or the first byte of a raw packet
+-- how many bytes tell the EtherType: the header, or the first byte of a packet without one
 abbrev pub least_len : LinkType → ℕ
 least_len kind.Raw = 1
+least_len kind.Ipv4 = 1
+least_len kind.Ipv6 = 1
 least_len t = header_len t
 
 -- Pinned by: `worked/link`
@@ -60,12 +62,19 @@ loopback_type bytes =
     if big == 0 then family_type (little_number 4 bytes) else big
 
 -- Pinned by: `worked/link`
--- the EtherType of an IP packet of this version
-abbrev pub raw_type : ℕ → Result ℕ LinkFault
-raw_type version =
-    if version == 4 then Ok 2048
-    else if version == 6 then Ok 34525
-    else Err fault.BadVersion
+-- whether packets without a header have this version: of RAW 4 or 6, of IPV4 4, of IPV6 6
+abbrev pub has_version : LinkType → ℕ → Bool
+has_version kind.Ipv4 version = version == 4
+has_version kind.Ipv6 version = version == 6
+has_version t version = (version == 4) || (version == 6)
+
+-- Pinned by: `worked/link`
+-- the EtherType of an IP packet of this version, if the link type has such packets
+abbrev pub raw_type : LinkType → ℕ → Result ℕ LinkFault
+raw_type t version =
+    if not (has_version t version) then Err fault.BadVersion
+    else if version == 4 then Ok 2048
+    else Ok 34525
 
 -- Pinned by: `worked/link`
 -- the EtherType in a Linux cooked header: its protocol field, unless frame relay (770), radiotap (803) or netlink (824)
@@ -79,10 +88,10 @@ abbrev pub type_in : LinkType → List ℕ → Result ℕ LinkFault
 type_in kind.Null bytes = Ok (loopback_type bytes)
 type_in kind.Ethernet bytes = Ok (field bytes 96 16)
 type_in kind.Loop bytes = Ok (family_type (field bytes 0 32))
-type_in kind.Raw bytes = raw_type (field bytes 0 4)
+type_in kind.Raw bytes = raw_type kind.Raw (field bytes 0 4)
 type_in kind.LinuxSll bytes = Ok (cooked_type (field bytes 16 16) (field bytes 112 16))
-type_in kind.Ipv4 bytes = Ok 2048
-type_in kind.Ipv6 bytes = Ok 34525
+type_in kind.Ipv4 bytes = raw_type kind.Ipv4 (field bytes 0 4)
+type_in kind.Ipv6 bytes = raw_type kind.Ipv6 (field bytes 0 4)
 type_in kind.LinuxSll2 bytes = Ok (cooked_type (field bytes 64 16) (field bytes 0 16))
 
 -- ---- VLAN tags

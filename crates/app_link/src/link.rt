@@ -14,7 +14,7 @@ const TAG_LEN: usize = 4;
 pub enum LinkFault {
     /// There are fewer bytes than these, which the header and its tags need.
     TooShort(usize),
-    /// A raw packet of neither IP version.
+    /// A packet without a link-layer header that has no IP version of the link type.
     BadVersion,
 }
 

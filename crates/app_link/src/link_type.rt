@@ -1,7 +1,7 @@
 //! Link types, and the EtherType in a header of each.
 
 ghost use Rattle.std.specs.Prelude.{◌≡◌, ◌≤◌, length};
-ghost use Rattle.app_link.specs.Link.{cooked_type, family_type, header_len, least_len, link_type_of, loopback_type, raw_type, type_in};
+ghost use Rattle.app_link.specs.Link.{cooked_type, family_type, has_version, header_len, least_len, link_type_of, loopback_type, raw_type, type_in};
 
 use crate::link::LinkFault;
 use byteorder::{ByteOrder, LittleEndian, NetworkEndian};
@@ -61,13 +61,13 @@ impl LinkType {
         }
     }
 
-    // How many bytes tell the EtherType: the header, or the first byte of a raw packet.
+    // How many bytes tell the EtherType: the header, or the first byte of a packet without one.
     pub(crate) fn least_len(self) -> usize
         ensures value { result ≡ least_len self }
         ensures header { header_len self ≤ result }
     {
         match self {
-            LinkType::Raw => 1,
+            LinkType::Raw | LinkType::Ipv4 | LinkType::Ipv6 => 1,
             _ => self.header_len(),
         }
     }
@@ -81,17 +81,37 @@ impl LinkType {
             LinkType::Null => Ok(loopback_type(bytes)),
             LinkType::Ethernet => Ok(NetworkEndian::read_u16(&bytes[12..14])),
             LinkType::Loop => Ok(family_type(NetworkEndian::read_u32(bytes))),
-            LinkType::Raw => raw_type(bytes[0] >> 4),
+            LinkType::Raw | LinkType::Ipv4 | LinkType::Ipv6 => self.raw_type(bytes[0] >> 4),
             LinkType::LinuxSll => Ok(cooked_type(
                 NetworkEndian::read_u16(&bytes[2..4]),
                 NetworkEndian::read_u16(&bytes[14..16]),
             )),
-            LinkType::Ipv4 => Ok(IPV4),
-            LinkType::Ipv6 => Ok(IPV6),
             LinkType::LinuxSll2 => Ok(cooked_type(
                 NetworkEndian::read_u16(&bytes[8..10]),
                 NetworkEndian::read_u16(bytes),
             )),
+        }
+    }
+
+    // The EtherType of an IP packet of this version, if the link type has such packets.
+    fn raw_type(self, version: u8) -> Result<u16, LinkFault>
+        ensures { result ≡ raw_type self version }
+    {
+        match version {
+            _ if !self.has_version(version) => Err(LinkFault::BadVersion),
+            4 => Ok(IPV4),
+            _ => Ok(IPV6),
+        }
+    }
+
+    // Whether packets without a header have this version.
+    fn has_version(self, version: u8) -> bool
+        ensures { result ≡ has_version self version }
+    {
+        match self {
+            LinkType::Ipv4 => version == 4,
+            LinkType::Ipv6 => version == 6,
+            _ => matches!(version, 4 | 6),
         }
     }
 }
@@ -115,17 +135,6 @@ fn loopback_type(bytes: &[u8]) -> u16
     match family_type(NetworkEndian::read_u32(bytes)) {
         0 => family_type(LittleEndian::read_u32(bytes)),
         ethertype => ethertype,
-    }
-}
-
-// The EtherType of an IP packet of this version.
-fn raw_type(version: u8) -> Result<u16, LinkFault>
-    ensures { result ≡ raw_type version }
-{
-    match version {
-        4 => Ok(IPV4),
-        6 => Ok(IPV6),
-        _ => Err(LinkFault::BadVersion),
     }
 }
 

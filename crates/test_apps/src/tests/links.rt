@@ -35,7 +35,7 @@ fn finds_the_packet_after_each_header(rt: HostRuntime) {
     assert!(rt; parse(0, &[0, 0, 0, 2]) == Some(Ok(untagged(4, 0x0800))));
     assert!(rt; parse(108, &[2, 0, 0, 0]) == Some(Ok(untagged(4, 0))));
     assert!(rt; parse(101, &[0x60]) == Some(Ok(untagged(0, 0x86dd))));
-    assert!(rt; parse(229, &[]) == Some(Ok(untagged(0, 0x86dd))));
+    assert!(rt; parse(229, &[0x60]) == Some(Ok(untagged(0, 0x86dd))));
     assert!(rt; parse(105, &COOKED).is_none());
 }
 
@@ -56,10 +56,12 @@ fn skips_tags(rt: HostRuntime) {
 
 #[test]
 fn rejects_raw_packets_of_other_versions(rt: HostRuntime) {
-    for first in [0, 0x3f, 0x50, 0x70, 0xff] {
+    let cases = [(101, 0), (101, 0x3f), (101, 0x50), (101, 0x70), (228, 0x60), (229, 0x45)];
+    for (number, first) in cases {
         assert!(rt;
-            parse(101, &[first]) == Some(Err(LinkFault::BadVersion)),
-            "{first}"
+            parse(number, &[first]) == Some(Err(LinkFault::BadVersion)),
+            "{number} {first}"
         );
     }
+    assert!(rt; parse(228, &[]) == Some(Err(LinkFault::TooShort(1))));
 }
