@@ -107,11 +107,20 @@ func ReadPacket(packet []byte) Frame {
 	return frameOf(packet, &f)
 }
 
-// ReadCaptured parses an Ethernet frame of this length, of which only the first bytes were captured.
+// sizeOf returns the length of a frame, as the library takes it: at most LK_MAX_LEN.
+func sizeOf(length int) C.size_t {
+	if length > C.LK_MAX_LEN {
+		return C.LK_MAX_LEN
+	}
+	return C.size_t(length)
+}
+
+// ReadCaptured parses an Ethernet frame of this length, of which only the first bytes were captured. If the length is
+// not known, math.MaxInt serves: the lengths in the headers count.
 func ReadCaptured(captured []byte, length int) Frame {
 	var f C.struct_lk_frame
 	ptr, count := memory(captured)
-	C.lk_read_captured(ptr, count, C.size_t(length), &f)
+	C.lk_read_captured(ptr, count, sizeOf(length), &f)
 	return frameOf(captured, &f)
 }
 
@@ -119,7 +128,7 @@ func ReadCaptured(captured []byte, length int) Frame {
 func ReadCapturedPacket(captured []byte, length int) Frame {
 	var f C.struct_lk_frame
 	ptr, count := memory(captured)
-	C.lk_read_captured_packet(ptr, count, C.size_t(length), &f)
+	C.lk_read_captured_packet(ptr, count, sizeOf(length), &f)
 	return frameOf(captured, &f)
 }
 

@@ -5,6 +5,7 @@ import (
 	"encoding/hex"
 	"errors"
 	"fmt"
+	"math"
 	"net/netip"
 	"reflect"
 	"testing"
@@ -130,6 +131,15 @@ func TestReading(t *testing.T) {
 	}
 	if cut := ReadCapturedPacket(data[14:30], len(data)-14); !errors.Is(cut.Check(), HeaderCut) {
 		t.Errorf("%+v", cut)
+	}
+	for _, cut := range []Frame{
+		ReadCaptured(data[:44], math.MaxInt),
+		ReadCapturedPacket(data[14:44], math.MaxInt),
+		ReadLinkType(1, data[:44], math.MaxInt),
+	} {
+		if cut.Check() != nil || string(cut.Payload) != "pi" || cut.PayloadLen != 4 {
+			t.Errorf("%+v", cut)
+		}
 	}
 }
 

@@ -33,6 +33,6 @@ func ReadLink(linkType uint32, captured []byte) (Link, error) {
 func ReadLinkType(linkType uint32, captured []byte, length int) Frame {
 	var f C.struct_lk_frame
 	ptr, count := memory(captured)
-	C.lk_read_linktype(C.uint32_t(linkType), ptr, count, C.size_t(length), &f)
+	C.lk_read_linktype(C.uint32_t(linkType), ptr, count, sizeOf(length), &f)
 	return frameOf(captured, &f)
 }

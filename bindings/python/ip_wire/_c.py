@@ -8,6 +8,7 @@ from ctypes import c_uint8, c_uint16, c_uint32, c_uint64
 from typing import Any, Dict, Iterator, Tuple
 
 VERSION = "0.3.0"
+MAX_LEN = (1 << 40) - 1  # LK_MAX_LEN
 
 # ---- the structs
 

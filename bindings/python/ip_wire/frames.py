@@ -167,9 +167,16 @@ def parse_packet(data: Data) -> Frame:
     return _parse("lk_read_packet", data_of(data))
 
 
+def _len_of(length: int) -> int:
+    """The length of a frame, as the library takes it."""
+    return min(number_of(c_size_t, length, "length"), c.MAX_LEN)
+
+
 def parse_captured(data: Data, length: int, *, is_packet: bool = False) -> Frame:
-    """Parses a frame or packet of this length, of which only `data` was captured."""
-    captured = data_of(data)[: number_of(c_size_t, length, "length")]
+    """Parses a frame or packet of this length, of which only `data` was captured. If the length is not known,
+    `sys.maxsize` serves: the lengths in the headers count."""
+    length = _len_of(length)
+    captured = data_of(data)[:length]
     return _parse("lk_read_captured_packet" if is_packet else "lk_read_captured", captured, length)
 
 
@@ -188,9 +195,8 @@ def parse_link(link_type: int, data: Data) -> Link:
 def parse_linktype(link_type: int, data: Data, length: Optional[int] = None) -> Frame:
     """Parses a packet of any link type that `parse_link` knows, and of this length. None: all of it was captured."""
     captured = data_of(data)
-    if length is None:
-        length = len(captured)
-    captured = captured[: number_of(c_size_t, length, "length")]
+    length = len(captured) if length is None else _len_of(length)
+    captured = captured[:length]
     frame = c.Frame()
     call("lk_read_linktype", link_type, captured, length, frame)
     return _frame_of(frame, captured, link_type == 1)

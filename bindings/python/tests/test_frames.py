@@ -1,5 +1,6 @@
 """Tests frames and packets: parsing, writing, hosts."""
 import random
+import sys
 import unittest
 from dataclasses import replace
 from ipaddress import IPv4Address, IPv6Address, ip_address
@@ -106,6 +107,17 @@ class Reading(unittest.TestCase):
         self.assertEqual((packet.payload, packet.ethernet), (b"p", None))
         for length in (-1, 1 << 64):
             self.assertRaises(ValueError, ip_wire.parse_captured, data, length)
+
+    def test_unknown_length(self):
+        data = ip_wire.emit_udp(IPV4, b"ping")
+        for length in ((1 << 40) - 1, 1 << 40, sys.maxsize, (1 << 64) - 1):
+            for frame in (
+                ip_wire.parse_captured(data[:44], length),
+                ip_wire.parse_captured(data[14:44], length, is_packet=True),
+                ip_wire.parse_linktype(1, data[:44], length),
+            ):
+                self.assertEqual((frame.reason, frame.payload, frame.payload_len), (None, b"pi", 4))
+            self.assertEqual(ip_wire.parse_captured(data, length).payload, b"ping")
 
     def test_any_bytes(self):
         rng = random.Random(1)

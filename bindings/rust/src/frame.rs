@@ -9,6 +9,15 @@ use core::ffi::c_int;
 use core::fmt;
 use core::net::SocketAddr;
 
+/// The longest frame that the library parses, in bytes: `LK_MAX_LEN`.
+const MAX_LEN: usize = (1 << 40) - 1;
+
+/// The bytes of a frame of `len` bytes that were captured, and the length that the library is given.
+fn first_bytes(captured: &[u8], len: usize) -> (&[u8], usize) {
+    let len = len.min(MAX_LEN);
+    (&captured[..captured.len().min(len)], len)
+}
+
 /// A parsed frame or packet. It borrows the bytes.
 ///
 /// Parsing always succeeds: the headers before a rejected one are there, and [`Frame::payload`] begins at
@@ -64,12 +73,12 @@ impl<'a> Frame<'a> {
     }
 
     /// Parses a frame of `len` bytes of which only the first ones were captured. `captured` is not used
-    /// past `len`.
+    /// past `len`. If `len` is not known, `usize::MAX` serves: the lengths in the headers count.
     ///
     /// A header that was not captured as a whole is rejected with [`Reason::HeaderCut`].
     #[must_use]
     pub fn parse_captured(captured: &'a [u8], len: usize) -> Self {
-        let bytes = &captured[..captured.len().min(len)];
+        let (bytes, len) = first_bytes(captured, len);
         // SAFETY: there are `bytes.len()` bytes at `ptr`, and only `fields` is written.
         Self::read(bytes, false, |c, fields| unsafe {
             c.lk_read_captured(bytes.as_ptr(), bytes.len(), len, fields)
@@ -79,7 +88,7 @@ impl<'a> Frame<'a> {
     /// The same for a packet that begins with its IPv4 or IPv6 header.
     #[must_use]
     pub fn parse_captured_packet(captured: &'a [u8], len: usize) -> Self {
-        let bytes = &captured[..captured.len().min(len)];
+        let (bytes, len) = first_bytes(captured, len);
         // SAFETY: there are `bytes.len()` bytes at `ptr`, and only `fields` is written.
         Self::read(bytes, true, |c, fields| unsafe {
             c.lk_read_captured_packet(bytes.as_ptr(), bytes.len(), len, fields)
@@ -104,7 +113,7 @@ impl<'a> Frame<'a> {
     /// ```
     #[must_use]
     pub fn parse_linktype(link_type: u32, captured: &'a [u8], len: usize) -> Self {
-        let bytes = &captured[..captured.len().min(len)];
+        let (bytes, len) = first_bytes(captured, len);
         // SAFETY: there are `bytes.len()` bytes at `ptr`, and only `fields` is written.
         Self::read(bytes, link_type != link::ETHERNET, |c, fields| unsafe {
             c.lk_read_linktype(link_type, bytes.as_ptr(), bytes.len(), len, fields)

@@ -164,9 +164,8 @@ fn other_packets_are_parsed_by_link_type() {
     }
     let cut = Frame::parse_linktype(RAW, &syn[..40], syn.len());
     assert_eq!(cut.rejected_transport(), Some(Transport::Tcp));
-    // More bytes than the packet has, and a length of which the library uses nothing.
+    // More bytes than the packet has.
     assert_eq!(Frame::parse_linktype(1, &tagged, 20).bytes(), &tagged[..20]);
-    assert_eq!(Frame::parse_linktype(1, &tagged, usize::MAX).rejected(), Some(Reason::TooShort));
 }
 
 const ENDS: &str = "20010db800000000000000000000000120010db8000000000000000000000002";

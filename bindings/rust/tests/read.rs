@@ -138,9 +138,23 @@ fn a_captured_frame_is_cut() {
     let frame = Frame::parse_captured_packet(&bytes[14..43], bytes.len() - 14);
     assert_eq!((frame.payload(), frame.payload_len(), frame.ethernet()), (&b"p"[..], 4, None));
 
-    // More bytes than the frame has, and a length of which the library uses nothing.
+    // More bytes than the frame has.
     assert_eq!(Frame::parse_captured(&bytes, 41).bytes(), &bytes[..41]);
-    assert_eq!(Frame::parse_captured(&bytes, usize::MAX).bytes(), &bytes[..]);
+}
+
+#[test]
+fn a_frame_of_unknown_length_is_parsed_by_its_headers() {
+    let bytes = udp(&ipv4(), b"ping");
+    for len in [(1 << 40) - 1, 1 << 40, usize::MAX] {
+        let frame = Frame::parse_captured(&bytes, len);
+        assert_eq!((frame.check(), frame.payload(), frame.payload_len()), (Ok(()), &b"ping"[..], 4));
+        let frame = Frame::parse_captured(&bytes[..44], len);
+        assert_eq!((frame.check(), frame.payload(), frame.payload_len()), (Ok(()), &b"pi"[..], 4));
+        let frame = Frame::parse_captured_packet(&bytes[14..44], len);
+        assert_eq!((frame.check(), frame.payload(), frame.payload_len()), (Ok(()), &b"pi"[..], 4));
+        let frame = Frame::parse_linktype(1, &bytes[..44], len);
+        assert_eq!((frame.check(), frame.payload(), frame.payload_len()), (Ok(()), &b"pi"[..], 4));
+    }
 }
 
 #[test]
