@@ -185,7 +185,7 @@ int lk_is_unicast(const struct lk_addr *addr);
 struct lk_ethernet {
     uint8_t src[6];
     uint8_t dst[6];
-    uint16_t type; /* 0x0800 IPv4, 0x0806 ARP, 0x86dd IPv6 */
+    uint16_t type; /* 0x0800 IPv4, 0x0806 ARP, 0x86dd IPv6; up to 1500 it is the length of an IEEE 802.3 frame */
 };
 
 /* An ARP packet for Ethernet and IPv4 (RFC 826), without its IPv4 addresses. */
@@ -339,7 +339,8 @@ struct lk_frame {
  * - The fields of a rejected UDP or TCP header are stored too, unless it is too short: `rejected` names it. RFC
  *   9293 needs them for RST. For a UDP header that is rejected as LK_BAD_LENGTH the verdict is
  *   LK_NO_CHECKSUM, because it does not say which bytes are summed.
- * - After an unknown EtherType or protocol all bytes are payload, and so are IPv6 extension headers.
+ * - After an unknown EtherType or protocol all bytes are payload, and so are IPv6 extension headers. A length of IEEE
+ *   802.3 counts as an unknown EtherType: the payload has the padding too.
  *   IPv4 options are skipped. If a source route among them has hops left (RFC 791), the checksum of UDP or TCP is
  *   LK_WRONG, because it covers the last address of the route.
  * - An ICMP message is a packet of protocol 1 over IPv4, or 58 over IPv6, with at least 8 bytes. Its payload begins
@@ -436,18 +437,21 @@ int lk_read_linktype(uint32_t link_type, const uint8_t *ptr, size_t captured, si
  *     ARP 192.0.2.1 > 192.0.2.2 op=1 hardware=02-00-00-00-00-01 len=0
  *     Ethernet 02-00-00-00-00-01 > 02-00-00-00-00-02 type=0x0800 len=19 (too short)
  *
- * - The sender is before the receiver. There are ports if a UDP or TCP header is stored, also a rejected one. Without an
- *   ARP or IP header the line has the Ethernet addresses and the EtherType, which are 0 for other links.
- * - Of the TCP flags `syn`, `fin`, `rst`, `psh`, `ece` and `cwr` are printed. `ack` and `urg` come with their numbers.
+ * - The sender is before the receiver. There are ports if a UDP or TCP header is stored, also a rejected one. If no ARP
+ *   or IP header was read, the line has `ethernet`: the addresses, which are 0 for other links, and the type.
+ * - A UDP or TCP header that is rejected, but is stored, is printed as one that was read. Another protocol, a fragment and
+ *   a header that is not stored have `proto`, the number in the IP header.
+ * - Of the TCP flags `syn`, `fin`, `rst`, `psh`, `ece` and `cwr` are printed. If ACK is set, `ack` follows `seq`; if URG
+ *   is set, `urg`, the urgent pointer, follows `win`.
  * - `hardware` is that of the sender. `fragment` is the offset in bytes, with `+` if more fragments follow.
- * - `len` is `payload_len`.
+ * - `len` is `payload_len`. It counts from a rejected header on.
  * - Notes are in parentheses: (header checksum incorrect) for IPv4; then (checksum incorrect), (no checksum) for
  *   LK_LEFT_OUT, (partial checksum correct) for LK_LEFT_TO_DEVICE, or (checksum cut); then the reason why a header was
  *   rejected, as (bad length) for LK_BAD_LENGTH. */
 ptrdiff_t lk_print_frame(const struct lk_frame *frame, char *out, size_t cap);
 
 /* Return the name of an IP protocol, as "UDP" for 17, or of an EtherType, as "IPv6" for 0x86dd, or "unknown". The texts
- * are constant. Protocols have the keywords of IANA. */
+ * are constant. 26 protocols have names: their keywords in IANA's registry of protocol numbers, as "OSPFIGP" for 89. */
 const char *lk_protocol_name(int protocol);
 const char *lk_ethertype_name(int type);
 
@@ -469,7 +473,8 @@ struct lk_ipv6_header {
  * `len` captured bytes; then `header` is unchanged.
  *
  * After 0 the packet of protocol `next` begins at `offset + len`. After the header of a fragment that is not the first
- * `next` is 59, because there the payload begins in the middle of the packet.
+ * `next` is 59, because there the payload begins in the middle of the packet. Hop-by-hop options that do not follow the
+ * IPv6 header directly are a header as the others; a host drops such a packet (RFC 8200, section 4).
  *
  *     struct lk_ipv6_header header = {0, 0, 0, 0};
  *     int found;
@@ -980,8 +985,10 @@ ptrdiff_t lk_choose_route(const struct lk_route_node *nodes, size_t count, const
  * after the table are unchanged. The table is valid as long as the index is. Fails with LK_NO_ROOM if there are fewer
  * cells, 2^26 routes or more, or if a count is above LK_MAX_LEN; then all cells are unchanged.
  *
- * A table makes searches for IPv4 addresses faster: it answers with one load where no route begins or ends nearby. It has
- * 40 bytes for each route, and the index 32. For IPv6 addresses the index is searched. */
+ * By a table a search for an IPv4 address reads one cell where no route begins or ends nearby, else a few. So searches
+ * that do not wait for each other are faster than by the index. Where each waited for the one before, a table of 100,000
+ * routes saved no time. A table has 40 bytes for each route, and the index 32. For IPv6 addresses the index is
+ * searched. */
 ptrdiff_t lk_make_route_table(const struct lk_route_node *nodes, size_t count, uint64_t *cells, size_t cell_count);
 
 /* Returns the same as lk_choose_route(nodes, count, addr). The first cells are the table of the index
@@ -993,10 +1000,12 @@ ptrdiff_t lk_choose_route_by_table(const struct lk_route_node *nodes, size_t cou
  * these:
  *
  * - LK_MARTIAN for 0.0.0.0/8, 127.0.0.0/8, 224.0.0.0/4, 240.0.0.0/4, `::`, `::1`, ::ffff:0:0/96, ff00::/8, and an
- *   address without a version (RFC 1122, section 3.2.1.3; RFC 1812, section 5.3.7; RFC 4291, section 2), but not
- *   for link-local addresses,
+ *   address without a version (RFC 1122, section 3.2.1.3; RFC 1812, section 5.3.7; RFC 4291, section 2),
  * - LK_NO_ROUTE or LK_OTHER_INTERFACE, by the route to `src` (strict reverse path forwarding, RFC 3704, section
- *   2.2). */
+ *   2.2).
+ *
+ * A link-local source (169.254.0.0/16, fe80::/10) is accepted or rejected by its route, as any other. What comes from it
+ * may be for the router itself, but must not be forwarded (RFC 3927, section 2.7; RFC 4291, section 2.5.6). */
 int lk_check_source(const struct lk_route *routes, size_t route_count, const struct lk_route_node *nodes, size_t count,
                     const struct lk_addr *src, uint16_t interface);
 

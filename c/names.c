@@ -58,7 +58,7 @@ const char *lk_protocol_name(int protocol)
     case 59: return "IPv6-NoNxt";
     case 60: return "IPv6-Opts";
     case 88: return "EIGRP";
-    case 89: return "OSPF";
+    case 89: return "OSPFIGP";
     case 103: return "PIM";
     case 112: return "VRRP";
     case 115: return "L2TP";

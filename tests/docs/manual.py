@@ -24,7 +24,7 @@ NEXT = re.compile(r"\bthe next (?:two|three|four|\d+|calls?|structs?)\b", re.I)
 # A page, what is printed of it, a text of the header, and the text instead of it that has this fault.
 FAULTS = [
     ("lk_check_source", "no full stop", "LK_NOT_REJECTED, or one of\n * these:", "LK_NOT_REJECTED, or"),
-    ("lk_check_source", "no full stop", "2.2). */\nint lk_check_source", "2.2) */\nint lk_check_source"),
+    ("lk_check_source", "no full stop", "2.5.6). */\nint lk_check_source", "2.5.6) */\nint lk_check_source"),
     ("lk_clamp_mss", "begins with it", "0; then the frame is unchanged. */", "0.\n *\n * If it is 0, it stays. */"),
     ("lk_append", "begins with it", "/* Advances `out` past", "/* It advances `out` past"),
     ("lk_parse_block", "names the next", "/* A text is `len` bytes.", "/* The next structs: a text is `len` bytes."),

@@ -41,6 +41,7 @@ __attribute__((constructor)) static void choose(void)
         "a header after that of a later fragment",
         "the segment size of a SYN updated in a partial checksum",
         "the note about a wrong checksum missing", "a fragment offset in units of 8 bytes",
+        "a protocol without its keyword of IANA",
         "ECN cleared with the DSCP", "a checksum left to the device updated as a computed one",
         "the checksum in a first fragment not updated", "the protocol replaced as other bytes",
         "no checksum filled in where UDP has none", "the options of a rejected TCP header",
@@ -82,6 +83,7 @@ uint16_t __real_lk_update_checksum_bytes(uint16_t checksum, size_t offset, const
 int __real_lk_parse_addr(const char *text, size_t len, struct lk_addr *addr);
 ptrdiff_t __real_lk_print_addr(const struct lk_addr *addr, char *out, size_t cap);
 ptrdiff_t __real_lk_print_endpoint(const struct lk_endpoint *endpoint, char *out, size_t cap);
+const char *__real_lk_protocol_name(int protocol);
 ptrdiff_t __real_lk_print_frame(const struct lk_frame *frame, char *out, size_t cap);
 ptrdiff_t __real_lk_emit_icmp(const struct lk_icmp *header, const struct lk_addr *src, const struct lk_addr *dst,
                               const uint8_t *ptr, size_t len, int computed, uint8_t *out, size_t cap);
@@ -436,4 +438,9 @@ ptrdiff_t __wrap_lk_print_frame(const struct lk_frame *frame, char *out, size_t 
     if (fault == OFFSET_IN_UNITS)
         other.ip.fragment_offset /= 8;
     return __real_lk_print_frame(&other, out, cap);
+}
+
+const char *__wrap_lk_protocol_name(int protocol)
+{
+    return fault == SHORT_NAME_OF_OSPF && protocol == 89 ? "OSPF" : __real_lk_protocol_name(protocol);
 }

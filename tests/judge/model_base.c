@@ -94,7 +94,7 @@ const char *model_protocol_name(int protocol)
         {0, "HOPOPT"},      {1, "ICMP"},        {2, "IGMP"},     {4, "IPv4"},    {6, "TCP"},     {8, "EGP"},
         {17, "UDP"},        {33, "DCCP"},       {41, "IPv6"},    {46, "RSVP"},   {47, "GRE"},    {43, "IPv6-Route"},
         {44, "IPv6-Frag"},  {58, "IPv6-ICMP"},  {50, "ESP"},     {51, "AH"},     {88, "EIGRP"},  {59, "IPv6-NoNxt"},
-        {60, "IPv6-Opts"},  {89, "OSPF"},       {103, "PIM"},    {112, "VRRP"},  {115, "L2TP"},  {132, "SCTP"},
+        {60, "IPv6-Opts"},  {89, "OSPFIGP"},    {103, "PIM"},    {112, "VRRP"},  {115, "L2TP"},  {132, "SCTP"},
         {136, "UDPLite"},   {137, "MPLS-in-IP"},
     };
     return name_in(names, sizeof names / sizeof *names, protocol);

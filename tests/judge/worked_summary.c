@@ -93,6 +93,7 @@ static void names(void)
 {
     CHECK(is(both_protocol_name(6), "TCP") && is(both_protocol_name(17), "UDP") && is(both_protocol_name(132), "SCTP"));
     CHECK(is(both_protocol_name(58), "IPv6-ICMP") && is(both_protocol_name(255), "unknown"));
+    CHECK(is(both_protocol_name(89), "OSPFIGP") && is(both_protocol_name(88), "EIGRP"));
     CHECK(is(both_protocol_name(-1), "unknown") && is(both_protocol_name(256 + 6), "unknown"));
     CHECK(is(both_ethertype_name(0x0800), "IPv4") && is(both_ethertype_name(0x86dd), "IPv6"));
     CHECK(is(both_ethertype_name(0x88cc), "LLDP") && is(both_ethertype_name(1500), "unknown"));

@@ -48,8 +48,9 @@ pub struct RouteNode(sys::RouteNode);
 /// Routes with their index, and optionally with a table for IPv4. It keeps the memory that it is given: slices, arrays,
 /// or a `Vec` of a program with `std`.
 ///
-/// With a table a search for an IPv4 address is faster, and finds the same route. Each route takes 40 bytes, its
-/// [`RouteNode`] 32 and its [cells](RouteTable::cells) 40. The table has five cells of 8 bytes more.
+/// With a table the same route is found. Searches for IPv4 addresses are faster, unless each waits for the one before.
+/// Each route takes 40 bytes, its [`RouteNode`] 32 and its [cells](RouteTable::cells) 40. The table has five cells of 8
+/// bytes more.
 ///
 /// A router checks the source of a frame, and [forwards](crate::forward) it by the route to its destination. It does not
 /// forward packets for itself, multicast and link-local packets.
