@@ -983,7 +983,8 @@ ptrdiff_t lk_choose_route(const struct lk_route_node *nodes, size_t count, const
 
 /* Writes the table of an index of `count` routes, and returns the number of its cells, LK_ROUTE_TABLE_LEN(count). Cells
  * after the table are unchanged. The table is valid as long as the index is. Fails with LK_NO_ROOM if there are fewer
- * cells, 2^26 routes or more, or if a count is above LK_MAX_LEN; then all cells are unchanged.
+ * cells, 2^26 routes or more, or if a count is above LK_MAX_LEN; then all cells are unchanged. Two tables of one index
+ * have the same cells.
  *
  * By a table a search for an IPv4 address reads one cell where no route begins or ends nearby, else a few. So searches
  * that do not wait for each other are faster than by the index. Where each waited for the one before, a table of 100,000

@@ -367,23 +367,33 @@ int both_check_source(const struct lk_route *routes, size_t route_count, const s
     return came;
 }
 
-/* Nodes and cells of a list that is too long are not accessed. Cells after the table stay as they are. */
+/* Nodes and cells of a list that is too long are not accessed. Cells after the table stay as they are. What was in the
+ * cells of the table before makes no difference. */
 ptrdiff_t both_make_route_table(const struct lk_route_node *nodes, size_t count, uint64_t *cells, size_t cell_count)
 {
     size_t used = count < MODEL_NO_TABLE ? count : 0, kept = 0;
     size_t len = count < MODEL_NO_TABLE ? used_len(cell_count) : 0;
+    const struct lk_route_node *of_index;
     uint64_t *came;
     ptrdiff_t result;
     CALL(lk_make_route_table);
     came = room(cells, len * sizeof *cells);
-    result = lk_make_route_table(given("nodes", nodes, used * sizeof *nodes), NUMBER(count), came, NUMBER(cell_count));
+    of_index = given("nodes", nodes, used * sizeof *nodes);
+    result = lk_make_route_table(of_index, NUMBER(count), came, NUMBER(cell_count));
     end_call(model_make_route_table(count, cell_count), result);
     if (result > 0)
         kept = (size_t)result;
     if (len > kept)
         same_bytes("cells that no table takes", cells + kept, came + kept, (len - kept) * sizeof *cells);
-    if (kept != 0)
-        memcpy(cells, came, kept * sizeof *cells);
+    for (size_t i = 0; i < kept; i++) {
+        uint64_t old = cells[i];
+        cells[i] = came[i];
+        came[i] = ~old;
+    }
+    if (kept != 0) {
+        lk_make_route_table(of_index, count, came, cell_count);
+        same_bytes("the same table over other cells", cells, came, kept * sizeof *cells);
+    }
     return result;
 }
 

@@ -46,7 +46,8 @@ __attribute__((constructor)) static void choose(void)
         "the checksum in a first fragment not updated", "the protocol replaced as other bytes",
         "no checksum filled in where UDP has none", "the options of a rejected TCP header",
         "a table without the ranges of one route", "a cell written past the end of a table",
-        "a table in one cell too few", "a range that begins at its second address", "the last range of a table forgotten",
+        "a table in one cell too few", "a cell of a table that is not written",
+        "a range that begins at its second address", "the last range of a table forgotten",
         "a cell read past the end of a table", "no route by a table for IPv6", "no route by a table in too few cells",
         "a martian source accepted by a table",
     };

@@ -98,12 +98,23 @@ static ptrdiff_t make_without_second(const struct lk_route_node *nodes, size_t c
     return __real_lk_make_route_table(others, count, cells, cell_count);
 }
 
+/* The last cell of hints stays as it was. */
+static ptrdiff_t make_without_hint(const struct lk_route_node *nodes, size_t count, uint64_t *cells, size_t cell_count)
+{
+    uint64_t *hint = cells + 3 * count + 2, old = *hint;
+    ptrdiff_t result = __real_lk_make_route_table(nodes, count, cells, cell_count);
+    *hint = old;
+    return result;
+}
+
 ptrdiff_t __wrap_lk_make_route_table(const struct lk_route_node *nodes, size_t count, uint64_t *cells,
                                      size_t cell_count)
 {
     ptrdiff_t result;
     if (fault == NODE_LEFT_OUT_OF_TABLE && count > 1 && count <= 64)
         return make_without_second(nodes, count, cells, cell_count);
+    if (fault == CELL_NOT_WRITTEN && count < 64 && LK_ROUTE_TABLE_LEN(count) <= cell_count && cell_count <= LK_MAX_LEN)
+        return make_without_hint(nodes, count, cells, cell_count);
     if (fault == TABLE_WITHOUT_ROOM && count < 64 && cell_count == LK_ROUTE_TABLE_LEN(count) - 1)
         cell_count++;
     result = __real_lk_make_route_table(nodes, count, cells, cell_count);

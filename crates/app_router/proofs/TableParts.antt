@@ -2,7 +2,7 @@
 use Rattle.std.proofs.Common.{ℕ, ◌≡◌, ◌∙◌, ◌+◌, ◌++◌, ◌-◌, ◌*◌, ◌%◌, ◌^◌, ◌<◌, ◌≤◌, List, ap, arith, drop, length, slice_index_or, subst, sym, take}
 use Rattle.std.proofs.lemmas.List.{drop-append-le, drop_at, get_or_default, length-drop, take-append-le, take_all, take_at}
 use Rattle.std.proofs.Math.Nat.{le_of_mul-le-mul_right, lt_of_mul-lt-mul_right}
-use Rattle.app_router.specs.Table.{AreEnough, AreParts, AreRanges, IsAnswer, IsTable, IsEntry, IsInPart, IsInRange, IsWithinRange, answer_of, half_at, range_at}
+use Rattle.app_router.specs.Table.{AreEnough, AreParts, AreRanges, IsAnswer, IsTable, IsEntry, IsInPart, IsInRange, IsWithinRange, answer_of, half_at, hints_in, range_at}
 use Rattle.ip_wire.specs.declared.IpAddress.TheVariants.{Ipv4}
 use Rattle.ip_wire.specs.declared.IpCidr.{IpCidr}
 
@@ -24,6 +24,19 @@ parts blocks ranges cells are entries p below whole bytes is inside =
     let within = entry.1 in
     let e : half_at cells p - 2 ^ 31 ≡ answer_of (range_at ranges k) = omega (arith, entry.2) in
     subst (IsAnswer blocks (Ipv4 bytes)) (sym e) (are k within.listed bytes is (in_range ranges (2 * length cells) p k _ below within inside))
+
+-- the hints in a table
+pub hints_between : (n : ℕ) (entries hints ranges : List ℕ) → length entries ≡ 2 * (n + 1) → length hints ≡ n + 1
+    → hints_in n (entries ++ (hints ++ ranges)) ≡ hints
+hints_between n entries hints ranges entries_len hints_len =
+    ap (take (n + 1)) (drop_at entries (hints ++ ranges) (2 * (n + 1)) entries_len) ∙ take_at hints ranges (n + 1) hints_len
+
+-- the hints in a longer list of cells
+pub hints_before : (n : ℕ) (cells following : List ℕ) → length cells ≡ 5 * (n + 1) → hints_in n (cells ++ following) ≡ hints_in n cells
+hints_before n cells following len =
+    let front = 2 * (n + 1) in
+    ap (take (n + 1)) (drop-append-le front cells following (omega (arith, len)))
+    ∙ take-append-le (n + 1) (drop front cells) following (omega (arith, len, length-drop front cells))
 
 -- entries, hints and ranges of these lengths are a table
 pub table : (blocks : List IpCidr) (entries hints ranges : List ℕ) → length entries ≡ 2 * (length blocks + 1)

@@ -79,6 +79,13 @@ pub record IsWithinRange (ranges : List ℕ) (count p k : ℕ) : Type 0 where
 abbrev pub IsEntry : List ℕ → ℕ → ℕ → ℕ → Type 0
 IsEntry ranges count p entry = 2 ^ 31 ≤ entry → (k : ℕ) × IsWithinRange ranges count p k × (entry ≡ 2 ^ 31 + answer_of (range_at ranges k))
 
+-- ---- hints: two of 32 bits in a cell
+
+-- Pinned by: proof of `enter`; too wide: `RouteTablesOnce`
+-- each hint is the index of a range, of which there are so many
+abbrev pub AreHints : ℕ → List ℕ → Type 0
+AreHints count cells = (i : ℕ) → i < 2 * length cells → half_at cells i < count
+
 -- ---- where ranges begin
 
 -- Pinned by: proof of `bound`; too wide: proof of `list_ranges`
@@ -97,6 +104,11 @@ IsBounded ranges node = node.version ≡ 4 → IsStart ranges (node.high / 2 ^ 3
 -- the cells with the entries of the parts, in a table of n blocks
 abbrev pub entries_in : ℕ → List ℕ → List ℕ
 entries_in n cells = take (2 * (n + 1)) cells
+
+-- Pinned by: proof of `fill`; too wide: `RouteTablesOnce`
+-- its cells with hints
+abbrev pub hints_in : ℕ → List ℕ → List ℕ
+hints_in n cells = take (n + 1) (drop (2 * (n + 1)) cells)
 
 -- Pinned by: proof of `answer`
 -- its ranges

@@ -11,7 +11,7 @@
 ghost use Rattle.std.specs.Prelude.{◌≡◌, ◌+◌, ◌*◌, ◌/◌, ◌%◌, ◌^◌, ◌≤◌, ◌<◌, All, IfSome, List, MatchOption, length, map, ℕ};
 ghost use Rattle.app_router.specs.Index.{IsChosenAt, IsIndex, block_of, node_at};
 ghost use Rattle.app_router.specs.Route.{IsChosen, Leads};
-ghost use Rattle.app_router.specs.Table.{AreRanges, Answers, IsAnswer, IsBounded, IsInRange, IsTable, answer_of, half_at, range_at, start_of};
+ghost use Rattle.app_router.specs.Table.{AreHints, AreRanges, Answers, IsAnswer, IsBounded, IsInRange, IsTable, answer_of, half_at, hints_in, range_at, start_of};
 ghost use Rattle.ip_wire.specs.IpCidr.{IsIn};
 ghost use Rattle.ip_wire.specs.declared.IpCidr.{IpCidr};
 
@@ -33,12 +33,13 @@ pub const fn len(count: usize) -> usize
     5 * (count + 1)
 }
 
-/// Makes the table of an index.
+/// Makes the table of an index. Each cell is written.
 pub fn fill(nodes: &[Node], cells: &mut [u64])
     requires few { length nodes.now < 2 ^ 26 }
     requires len { length cells.old ≡ 5 * (length nodes.now + 1) }
     ensures len { length cells.new ≡ length cells.old }
     ensures table { (blocks : List IpCidr) → IsIndex blocks nodes.now → IsTable blocks cells.new }
+    ensures hints { AreHints (2 * (length nodes.now + 1)) (hints_in (length nodes.now) cells.new) }
 {
     let unit = nodes.len() + 1;
     let (parts, rest) = cells.split_at_mut(2 * unit);

@@ -1,7 +1,7 @@
 -- One table is made of an index, and by it the same route is chosen.
 use Rattle.std.proofs.Common.{ℕ, ℤ, pos, negsuc, ◌≡◌, ◌+◌, ◌*◌, ◌<◌, ◌≤◌, ◌∙◌, ◌&&◌, ◌^◌, Bool, true, false, List, MatchOption, Option, None, Some, ap, arith, drop, if◌then◌else◌, length, nat_le, nat_lt, rules, subst, subst₂, sym}
 use Rattle.app_router.proofs.Elements.{counted}
-use Rattle.app_router.specs.Table.{IsTable}
+use Rattle.app_router.specs.Table.{IsTable, half_at, hints_in}
 use Rattle.app_router.specs.declared.index.Node.{Node}
 use Rattle.ip_wire.specs.declared.IpCidr.{IpCidr}
 use Rattle.c_exports.proofs.RoutesOnce.{IsSame, in-bounds, written_once}
@@ -47,6 +47,16 @@ made routes nodes old new answer index fewer room short same v =
     let written : WritesTable nodes old new answer =
     subst (λ o. MatchOption o (WritesTable nodes old new answer) (λ w. (answer ≡ failure_code w) × (new ≡ old))) why v in
     subst₂ (IsTableOf routes) (sym (in-bounds nodes (omega (arith, fewer)))) (sym (in-bounds new (omega (arith, short, same)))) (written.table routes index)
+
+-- its hints are numbers of ranges
+pub hints_made : (nodes : List Node) (old new : List ℕ) (answer : ℤ) (i : ℕ) → length nodes < 67108864 → table_len nodes ≤ length old
+    → length old ≤ max_len → MakesTable nodes old new answer → i < 2 * length (hints_in (length nodes) new)
+    → half_at (hints_in (length nodes) new) i < 2 * (length nodes + 1)
+hints_made nodes old new answer i fewer room short v inside =
+    let why : table_failure nodes (length old) ≡ None = ap failure_if (fitting (length nodes) (length old) fewer room short) in
+    let written : WritesTable nodes old new answer =
+    subst (λ o. MatchOption o (WritesTable nodes old new answer) (λ w. (answer ≡ failure_code w) × (new ≡ old))) why v in
+    written.hints i inside
 
 pub short_index : (routes : List Route) (nodes : List Node) → length nodes < 67108864 → IsIndexOf routes nodes → IsIndexOf routes (in_bounds nodes)
 short_index routes nodes fewer index = subst (IsIndexOf routes) (sym (in-bounds nodes (omega (arith, fewer)))) index

@@ -2,7 +2,7 @@
 use Rattle.std.specs.Prelude.{ℕ, ℤ, pos, negsuc, ◌≡◌, ◌+◌, ◌*◌, ◌<◌, ◌≤◌, ◌⊎◌, ◌^◌, ◌&&◌, All, is_none, nat_le, nat_lt, if◌then◌else◌, List, drop, length, map, slice_index_or, take, IsSomeAnd, MatchOption, Option, None, Some}
 use Rattle.std.specs.List.{list_any}
 use Rattle.app_router.specs.Index.{IsIndex}
-use Rattle.app_router.specs.Table.{IsTable}
+use Rattle.app_router.specs.Table.{AreHints, IsTable, hints_in}
 use Rattle.app_router.specs.declared.index.Node.{Node}
 use Rattle.ip_wire.specs.IpCidr.{IsIn}
 use Rattle.ip_wire.specs.declared.IpCidr.{IpCidr}
@@ -94,10 +94,12 @@ table_failure nodes room =
     if nat_lt (length nodes) (2 ^ 26) && nat_le (table_len nodes) room && nat_le room max_len then None else Some failure.NoRoom
 
 -- Pinned by: `worked/route`
--- the table is written to the first cells, and their number is returned; the other cells are unchanged
+-- The table is written to the first cells, and their number is returned. Each of its hints is the index of a range, so that no
+-- cell keeps what was in it. The other cells are unchanged.
 pub record WritesTable (nodes : List Node) (old new : List ℕ) (answer : ℤ) : Type 0 where
   pub count : answer ≡ pos (table_len nodes)
   pub table : (routes : List Route) → IsIndexOf routes nodes → IsTableOf routes nodes new
+  pub hints : AreHints (2 * (length nodes + 1)) (hints_in (length nodes) new)
   pub following : drop (table_len nodes) new ≡ drop (table_len nodes) old
 
 -- Pinned by: `worked/route`

@@ -5,7 +5,7 @@
 //! place is that of the hint of the first one. A hint is the place of a range.
 
 ghost use Rattle.std.specs.Prelude.{◌≡◌, ◌≢◌, ◌+◌, ◌*◌, ◌^◌, ◌≤◌, ◌<◌, IfSome, MatchOption, length, ℕ};
-ghost use Rattle.app_router.specs.Table.{IsEntry, IsWithinRange, answer_of, half_at, range_at};
+ghost use Rattle.app_router.specs.Table.{AreHints, IsEntry, IsWithinRange, answer_of, half_at, range_at};
 
 /// An entry from this number on is an answer.
 pub const WHOLE: u32 = 1 << 31;
@@ -15,15 +15,17 @@ const PLACE_BITS: u32 = 27;
 /// A search compares so many ranges at once. A part where more begin is divided.
 pub const FEW: usize = 4;
 
-/// Writes the entries of the parts, and the hints.
+/// Writes the entries of the parts, and the hints. Those that no part needs are 0.
 pub fn enter(ranges: &[u64], parts: &mut [u64], hints: &mut [u64])
     requires some { 0 < length ranges.now }
     requires places { (length ranges.now ≤ 2 ^ 27) × (length hints.old ≤ 2 ^ 26) }
     requires few { 2 * length parts.old ≤ 2 ^ 31 }
     ensures parts_len { length parts.new ≡ length parts.old }
     ensures hints_len { length hints.new ≡ length hints.old }
+    ensures hints { AreHints (length ranges.now) hints.new }
     ensures entries { (p : ℕ) → p < 2 * length parts.new → IsEntry ranges.now (2 * length parts.new) p (half_at parts.new p) }
 {
+    hints.fill(0);
     let count = 2 * parts.len() as u64;
     let (mut place, mut used) = (0, 0);
     for part in 0..count {
@@ -109,7 +111,9 @@ fn divide(
     requires within { (place < length ranges.now) × (part < count) × (used ≤ 2 * length hints.old) }
     requires places { (length ranges.now ≤ 2 ^ 27) × (length hints.old ≤ 2 ^ 26) }
     requires few { count ≤ 2 ^ 31 }
+    requires hints { AreHints (length ranges.now) hints.old }
     ensures len { length hints.new ≡ length hints.old }
+    ensures hints { AreHints (length ranges.now) hints.new }
     ensures hint { result.0 < 2 ^ 31 }
     ensures used { result.1 ≤ 2 * length hints.old }
 {

@@ -1,6 +1,7 @@
 //! Needs the contracts of the calls with routes.
 
-ghost use Rattle.std.specs.Prelude.{◌≡◌, ◌≤◌, ◌<◌, [], drop, length, negsuc, ℕ};
+ghost use Rattle.std.specs.Prelude.{◌≡◌, ◌≤◌, ◌<◌, ◌+◌, ◌*◌, [], drop, length, negsuc, ℕ};
+ghost use Rattle.app_router.specs.Table.{half_at, hints_in};
 ghost use Rattle.c_routing.specs.Lengths.{in_bounds};
 ghost use Rattle.c_routing.specs.Routes.{IsIndexOf, IsTableOf, table_len};
 
@@ -115,6 +116,18 @@ fn table_of_too_many(nodes: &[Node], cells: &mut [u64]) -> isize
     ensures kept { cells.new ≡ cells.old }
 {
     lk_make_route_table(nodes, cells)
+}
+
+// Each hint of a table that was made is the number of a range, whatever was in the cells before.
+#[tactic(auto, using(crate::proofs::RouteTablesOnce::hints_made))]
+fn hints_of_made(nodes: &[Node], cells: &mut [u64])
+    requires few { length nodes.now < 67108864 }
+    requires room { table_len nodes.now ≤ length cells.old }
+    requires usable { length cells.old ≤ 1099511627775 }
+    ensures { let hints = hints_in (length nodes.now) cells.new in
+        (i : ℕ) → i < 2 * length hints → half_at hints i < 2 * (length nodes.now + 1) }
+{
+    lk_make_route_table(nodes, cells);
 }
 
 // By a table that was made the same route is chosen as by its index.

@@ -1,6 +1,7 @@
-use Rattle.std.proofs.Common.{◌≡◌, ◌+◌, ◌*◌, length, arith}
+use Rattle.std.proofs.Common.{◌≡◌, ◌+◌, ◌*◌, length, arith, subst₂, sym}
 use Rattle.app_router.proofs.Elements.{counted}
-use Rattle.app_router.proofs.TableParts.{parts, table}
+use Rattle.app_router.proofs.TableParts.{hints_between, parts, table}
+use Rattle.app_router.specs.Table.{AreHints}
 use Rattle.app_router.proofs.table.fill.Goals as goal
 
 pub returns-clause-table : goal.returns-clause-table
@@ -13,3 +14,12 @@ returns-clause-table c blocks index =
     omega (arith, count, c.list_ranges.ensures.len, c.split_at_mut-hints.ensures.back_len, c.split_at_mut-parts.ensures.back_len, c.requires.len) in
     table blocks c.enter.new.parts c.enter.new.hints c.list_ranges.new.ranges entries_len hints_len ranges_len
     (parts blocks c.list_ranges.new.ranges c.enter.new.parts ranges c.enter.ensures.entries) ranges
+
+pub returns-clause-hints : goal.returns-clause-hints
+returns-clause-hints c =
+    let n = length c.args.nodes.now in
+    let entries_len : length c.enter.new.parts ≡ 2 * (n + 1) = omega (arith, c.enter.ensures.parts_len, c.split_at_mut-parts.ensures.front_len) in
+    let hints_len : length c.enter.new.hints ≡ n + 1 = omega (arith, c.enter.ensures.hints_len, c.split_at_mut-hints.ensures.front_len) in
+    let ranges_len : length c.list_ranges.new.ranges ≡ 2 * (n + 1) =
+    omega (arith, c.list_ranges.ensures.len, c.split_at_mut-hints.ensures.back_len, c.split_at_mut-parts.ensures.back_len, c.requires.len) in
+    subst₂ AreHints ranges_len (sym (hints_between n c.enter.new.parts c.enter.new.hints c.list_ranges.new.ranges entries_len hints_len)) c.enter.ensures.hints
