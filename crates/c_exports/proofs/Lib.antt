@@ -1,4 +1,5 @@
 mod FrameOptions
+mod LinkTypes
 mod NatsOnce
 mod Once
 mod RepliesOnce

@@ -5,7 +5,7 @@ mod CutBytes
 pub mod CutFrame
 mod CutIpv4
 mod CutIpv6
-mod CutOf
+pub mod CutOf
 mod CutTcp
 mod CutUdp
 mod CutWorked

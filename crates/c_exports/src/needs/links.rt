@@ -1,6 +1,6 @@
 //! Needs the contracts of calls that read packets by their link type.
 
-ghost use Rattle.std.specs.Prelude.{◌≡◌};
+ghost use Rattle.std.specs.Prelude.{◌≡◌, ◌≢◌, pos};
 
 use crate::links::{lk_read_link, lk_read_linktype};
 use app_link::Link;
@@ -33,6 +33,23 @@ fn read_linktype(
     (
         lk_read_linktype(link_type, captured, len, frame),
         lk_read_linktype(link_type, captured, len, other),
+    )
+}
+
+// A packet has the EtherType of its link-layer header. If the header is rejected, the packet is rejected too.
+#[tactic(auto, using(crate::proofs::LinkTypes::both_reject))]
+fn link_of_packet(
+    link_type: u32,
+    bytes: &[u8],
+    link: &mut Link,
+    frame: &mut FullFrame,
+) -> (i32, i32)
+    ensures read { result.0 ≡ pos 0 → frame.new.fields.ethernet.ethertype ≡ link.new.ethertype }
+    ensures rejected { result.0 ≢ pos 0 → result.1 ≢ pos 0 }
+{
+    (
+        lk_read_link(link_type, bytes, link),
+        lk_read_linktype(link_type, bytes, bytes.len(), frame),
     )
 }
 
