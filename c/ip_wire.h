@@ -709,8 +709,9 @@ ptrdiff_t lk_rebuild(const uint8_t *ptr, size_t len, uint8_t *out, size_t cap);
  * nothing if the frame carries none that is valid (RFC 4861, sections 7.1.1 and 7.1.2):
  *
  * - The hop limit must be 255, the checksum right, and the code 0.
- * - The target must be no multicast address. Each option must have a length above 0 and end within the message, and a
- *   link-layer address option must have 8 bytes. Options of other kinds are skipped; of several the first counts.
+ * - The target must be no multicast address. Each option must have a length above 0 and end within the message.
+ * - The first link-layer address option (source in a solicitation, target in an advertisement) must have 8 bytes.
+ *   Later ones and options of other kinds are skipped.
  * - A solicitation from `::` must be for a solicited-node group, without the option.
  * - An advertisement for a multicast address must not be solicited. */
 int lk_read_ndisc(const uint8_t *frame, size_t len, struct lk_ndisc *ndisc);
@@ -727,10 +728,10 @@ ptrdiff_t lk_emit_ndisc_frame(const struct lk_frame *headers, const struct lk_nd
 struct lk_host {
     const uint16_t *open_ports;     /* the open TCP ports */
     size_t open_port_count;         /* as many must be there: a count is not compared with LK_MAX_LEN */
-    const uint16_t *open_udp_ports; /* the UDP ports that the caller serves: what they get is not answered */
-    size_t open_udp_port_count;     /* as many must be there too */
-    struct lk_addr ipv4;            /* an IPv4 address */
-    struct lk_addr ipv6;            /* an IPv6 address */
+    const uint16_t *open_udp_ports; /* the UDP ports that the caller serves: what they get is not answered, */
+    size_t open_udp_port_count;     /* but at `echo_port`; as many must be there too */
+    struct lk_addr ipv4;            /* an IPv4 address; 0.0.0.0: none */
+    struct lk_addr ipv6;            /* an IPv6 address; `::`: none */
     uint8_t hardware[6];            /* an Ethernet address */
     uint16_t echo_port;             /* the UDP port that echoes, to higher ports from 1024 on; 0: none */
     /* what an open port sends */
@@ -743,35 +744,38 @@ struct lk_host {
     uint8_t is_router;              /* not 0: it forwards packets; sets R (RFC 4861, section 7.2.4) */
 };
 
-/* Writes the answer of a host to an Ethernet frame. Returns its length, or 0 if the frame gets no answer. Fails
- * with LK_NO_VERSION if `ipv4` is no IPv4 address or `ipv6` no IPv6 address, with LK_NO_HEADER if `len` is above
- * LK_MAX_LEN, and with LK_NO_ROOM.
+/* Writes the answer of a host to an Ethernet frame. Returns its length, or 0 if the frame gets no answer. A `cap`
+ * of `len` + 48 always suffices. Fails with LK_NO_VERSION if `ipv4` is no IPv4 address or `ipv6` no IPv6 address,
+ * with LK_NO_HEADER if `len` is above LK_MAX_LEN, and with LK_NO_ROOM.
  *
  *   frame                                  answer
  *   an ARP request for `ipv4`              an ARP reply
  *   a neighbour solicitation for `ipv6`    a neighbour advertisement (RFC 4861, section 7.2.4)
- *   an echo request                        an echo reply with the same data (RFC 1122, 3.2.2.6; RFC 4443, 4.2)
+ *   an echo request with code 0            an echo reply with the same data (RFC 1122, 3.2.2.6; RFC 4443, 4.2)
  *   a UDP packet to `echo_port`            the same payload, to its sender (RFC 862)
  *   a UDP packet to a closed port          an ICMP error, port unreachable (RFC 1122, 4.1.3.1; RFC 4443, 3.1)
  *   SYN without ACK to an open TCP port    SYN and ACK (RFC 9293, section 3.10.7.2)
  *   ACK without RST to an open TCP port    RST
  *   any but RST to a closed TCP port       RST (section 3.10.7.1)
  *
- * - A frame gets an answer only if it is parsed as a whole and each checksum in it is valid.
- * - UDP and TCP must be for `hardware` and one of the two addresses, and from a unicast hardware address. The
- *   sender hardware address in ARP must be unicast, and the reply goes to it.
- * - UDP, TCP and ARP from these addresses get no answer: 0.0.0.0/8, 127.0.0.0/8, 224.0.0.0/4, 240.0.0.0/4, `::`,
- *   `::1`, ::ffff:0:0/96, ff00::/8, `ipv4` and `ipv6` (RFC 1122, section 3.2.1.3; RFC 4291, section 2). But an ARP
- *   probe, which is from 0.0.0.0, gets one (RFC 5227, section 2.1.1), also if `ipv4` is 0.0.0.0.
+ * - A frame gets an answer only if it is parsed as a whole and each checksum in it is valid. UDP over IPv4 may leave
+ *   its checksum out.
+ * - Echo requests, UDP and TCP must be for `hardware` and one of the two addresses. They and solicitations must be
+ *   from a unicast hardware address. The sender hardware address in ARP must be unicast, and the reply goes to it.
+ * - No single host has an address in 0.0.0.0/8, 127.0.0.0/8, 224.0.0.0/4, 240.0.0.0/4, ::ffff:0:0/96 or ff00::/8, or
+ *   `::` or `::1` (RFC 1122, section 3.2.1.3; RFC 4291, section 2). If `ipv4` or `ipv6` is one of them, nothing for it
+ *   gets an answer: 0.0.0.0 is right for a host without IPv4.
+ * - No frame from one of them gets an answer, nor from `ipv4` or `ipv6`. But an ARP probe from 0.0.0.0 gets one
+ *   (RFC 5227, section 2.1.1), and a solicitation from `::`.
  * - A UDP packet for `echo_port` gets none if its source port is below 1024, or not above `echo_port`. So neither two
  *   hosts nor a host and a service (RFC 862 to 868) reply to each other forever. Choose an `echo_port` below the ports
- *   of its clients.
+ *   of its clients. It echoes also if it is one of `open_udp_ports`.
  * - SYN and ACK has `max_seg_size`. It has window scale, SACK permitted and timestamp if the SYN has them.
  * - No connection is kept: what follows the SYN gets RST, with window 0 and without options.
  * - The answer is a new IP packet, as that of lk_reply, with DSCP 0.
- * - A solicitation must be valid for lk_read_ndisc, and sent to `ipv6` or its solicited-node group. The advertisement
- *   goes to the hardware address in the option, or to the sender of the frame; for a solicitation from `::` to all
- *   nodes.
+ * - A solicitation must be valid for lk_read_ndisc. It is sent to `ipv6` and `hardware`, or to the solicited-node group
+ *   of `ipv6` and the hardware address of the group or `hardware` (RFC 6085). The advertisement goes to the unicast
+ *   hardware address in the option, or to the sender of the frame; for a solicitation from `::` to all nodes.
  * - ICMP errors are written as by lk_emit_icmp_error. */
 ptrdiff_t lk_answer(const struct lk_host *host, const uint8_t *ptr, size_t len, uint8_t *out, size_t cap);
 

@@ -29,10 +29,12 @@ class Host:
     scale: int = 7
     clock: int = 0x55667788
     room: int = 1 << 17
+    ipv4: str = "192.0.2.2"
+    ipv6: str = "2001:db8::2"
 
     def words(self):
         udp_ports, tcp_ports = (",".join(map(str, ports)) or "-" for ports in (self.udp, self.ports))
-        return f"{OUR_LINK.hex('-')} 192.0.2.2 2001:db8::2 {self.echo} {udp_ports} {tcp_ports} {self.seq} {self.window} {self.mss} " \
+        return f"{OUR_LINK.hex('-')} {self.ipv4} {self.ipv6} {self.echo} {udp_ports} {tcp_ports} {self.seq} {self.window} {self.mss} " \
                f"{self.scale} {self.clock} {self.room}"
 
 
@@ -60,6 +62,9 @@ GROUP_LINKS = {"broadcast": BROADCAST, "all-hosts": bytes.fromhex("01005e000001"
 # Destinations that are not the host's.
 NOT_OURS = {"4": ["192.0.2.3", "192.0.2.255", "255.255.255.255", "0.0.0.0", "127.0.0.1", "224.0.0.1", "2.2.0.192", "193.0.2.2"],
             "6": ["2001:db8::3", "::1", "::", "ff02::1", "ff02::1:ff00:2", "::ffff:192.0.2.2", "fe80::2", "2001:db8:0:1::2", "3001:db8::2"]}
+
+# Addresses of a host that stand for none of their version, because no single host may have them: no frame to them gets a reply.
+NO_ADDRESSES = {"4": ["0.0.0.0", "127.0.0.1", "224.0.0.1", "240.0.0.1"], "6": ["::", "::1", "::ffff:192.0.2.2", "ff02::1"]}
 
 # Sources, at the edges of each block, and whether another host may have them. For IPv4: 0.0.0.0/8, 127.0.0.0/8, 224.0.0.0/4 and
 # 240.0.0.0/4 (RFC 1122, section 3.2.1.3). For IPv6: `::`, `::1`, ::ffff:0:0/96 and ff00::/8 (RFC 4291, sections 2.5.2, 2.5.3,
@@ -103,6 +108,13 @@ def address_rows(v, name, ask, reply):
         yield row(f"{name}-to-{dst}", ask(v, dst=addr(dst)), None)
     for src, is_valid in SOURCES[v.name]:
         yield row(f"{name}-from-{src}", ask(v, src=addr(src)), reply(v, to=addr(src)) if is_valid else None)
+
+
+def no_address_rows(v, name, ask, reply):
+    for own in NO_ADDRESSES[v.name]:
+        yield row(f"{name}-to-a-host-at-{own}", ask(v, dst=addr(own)), None, **{f"ipv{v.name}": own})
+    other = {"ipv6": "::"} if v.name == "4" else {"ipv4": "0.0.0.0"}
+    yield row(f"{name}-without-{min(other)}", ask(v), reply(v), **other)
 
 
 def header_rows(v, name, ask, reply):
@@ -170,7 +182,7 @@ def unserved_rows(v):
     name = f"unserved{v.name}"
     ask = lambda v, **fields: ping(v, dst_port=CLOSED, **fields)
     answer = lambda v, **fields: unreachable(v, ask(v))
-    for table in [link_rows, address_rows, header_rows, ipv4_rows if v.name == "4" else ipv6_rows, cut_rows]:
+    for table in [link_rows, address_rows, no_address_rows, header_rows, ipv4_rows if v.name == "4" else ipv6_rows, cut_rows]:
         for one in table(v, name, ask, answer):
             yield one._replace(reply=unreachable(v, one.frame) if one.reply else None)
     # A packet is quoted up to 548 bytes over IPv4, and up to 1,232 over IPv6.
@@ -220,8 +232,15 @@ def solicited_rows():
     for what, link in GROUP_LINKS.items():
         yield row(f"{name}-option-names-{what}", solicited(options=lladdr(1, link)), None)
         yield row(f"{name}-from-link-{what}", solicited(link_src=link), None)
-    for what, link in {**NOT_OUR_LINK, "ours": OUR_LINK}.items():
+    for what, link in NOT_OUR_LINK.items():
         yield row(f"{name}-to-group-link-{what}", solicited(link_dst=link), None)
+    # A bridge may send the frames of a group to each host by itself (RFC 6085).
+    yield row(f"{name}-to-group-link-ours", solicited(link_dst=OUR_LINK), advertised())
+    yield row(f"{name}-from-unspecified-to-group-link-ours", solicited(src=none, options=b"", link_dst=OUR_LINK), to_all)
+    yield row(f"{name}-to-another-group-link-ours", solicited(dst=addr("ff02::1:ff00:3"), link_dst=OUR_LINK), None)
+    for own in NO_ADDRESSES["6"]:
+        group = addr("ff02::1:ff00:0")[:13] + addr(own)[13:]
+        yield row(f"{name}-for-a-host-at-{own}", solicited(target=addr(own), dst=group), None, ipv6=own)
     for what, link in NOT_OUR_LINK.items():
         yield row(f"{name}-to-ours-link-{what}", solicited(dst=Ipv6.ours, link_dst=link), None)
     for dst in ["2001:db8::3", "ff02::1", "ff02::1:ff00:3", "ff05::1:ff00:2", "fe80::2"]:
@@ -330,6 +349,8 @@ def asker_rows():
     """The addresses of a request. An announcement has the sender's address as its target (RFC 5227, section 1.1)."""
     for tpa in [*NOT_OURS["4"], "192.0.2.1"]:
         yield row(f"arp-for-{tpa}", asked(tpa=addr(tpa)), None)
+    for own in NO_ADDRESSES["4"]:
+        yield row(f"arp-for-a-host-at-{own}", asked(tpa=addr(own)), None, ipv4=own)
     for what, link in {"ours": OUR_LINK, "broadcast": BROADCAST, "other": OTHER_LINK}.items():
         yield row(f"arp-target-link-{what}", asked(tha=link), told())
     for what, link in GROUP_LINKS.items():
@@ -463,7 +484,7 @@ def ignored_rows(v):
 def rows():
     for v in VERSIONS:
         for name, ask, reply in REQUESTS:
-            for table in [link_rows, address_rows, header_rows, ipv4_rows if v.name == "4" else ipv6_rows, cut_rows]:
+            for table in [link_rows, address_rows, no_address_rows, header_rows, ipv4_rows if v.name == "4" else ipv6_rows, cut_rows]:
                 yield from table(v, f"{name}{v.name}", ask, reply)
         for table in [udp_rows, udp_field_rows, unserved_rows, icmp_rows, flag_rows, number_rows, port_rows, option_rows, offer_rows, ignored_rows]:
             yield from table(v)

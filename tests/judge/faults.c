@@ -36,6 +36,7 @@ __attribute__((constructor)) static void choose(void)
         "a list of routes that is too long indexed as an empty one",
         "bytes at an odd offset summed as at an even one",
         "an echo to a port below 1024",
+        "a solicitation for a group ignored in a frame to the host itself", "an ARP reply of a host at 0.0.0.0",
         "the inner of two VLAN tags lost", "an address family in one byte order only",
         "an IPv6 packet of link type 228 accepted", "no byte of link type 229 accepted",
         "a header after that of a later fragment",
@@ -355,6 +356,31 @@ static ptrdiff_t answer_service(const struct lk_host *host, const uint8_t *ptr, 
     return result;
 }
 
+/* Answers an ARP request for a host at 0.0.0.0 as if it were for 1.0.0.0. */
+static ptrdiff_t answer_without_address(const struct lk_host *host, const uint8_t *ptr, size_t len, uint8_t *out,
+                                        size_t cap)
+{
+    static const uint8_t none[4];
+    uint8_t copy[60];
+    struct lk_host other = *host;
+    ptrdiff_t result;
+    if (len < 42 || len > sizeof copy || ptr[12] != 8 || ptr[13] != 6 || memcmp(ptr + 38, none, 4) != 0 ||
+        memcmp(host->ipv4.octets, none, 4) != 0)
+        return __real_lk_answer(host, ptr, len, out, cap);
+    memcpy(copy, ptr, len);
+    copy[38] = other.ipv4.octets[0] = 1;
+    result = __real_lk_answer(&other, copy, len, out, cap);
+    if (result > 0)
+        out[28] = 0;
+    return result;
+}
+
+/* Whether the frame has a packet of ICMPv6 to a solicited-node group, but is sent to one host. */
+static int is_group_frame_to_one(const uint8_t *ptr, size_t len)
+{
+    return len >= 54 && (ptr[0] & 1) == 0 && ptr[12] == 0x86 && ptr[20] == 58 && ptr[38] == 0xff;
+}
+
 ptrdiff_t __wrap_lk_answer(const struct lk_host *host, const uint8_t *ptr, size_t len, uint8_t *out, size_t cap)
 {
     static uint8_t unicast[0x20000];
@@ -365,6 +391,10 @@ ptrdiff_t __wrap_lk_answer(const struct lk_host *host, const uint8_t *ptr, size_
         len = 0;
     if (fault == ECHO_TO_A_SERVICE)
         return answer_service(host, ptr, len, out, cap);
+    if (fault == ARP_REPLY_OF_NO_ADDRESS && host->ipv4.version == 4)
+        return answer_without_address(host, ptr, len, out, cap);
+    if (fault == GROUP_FRAME_TO_US_IGNORED && len <= LK_MAX_LEN && is_group_frame_to_one(ptr, len))
+        len = 0;
     if (fault == SERVED_PORT_CLOSED)
         return __real_lk_answer(&without, ptr, len, out, cap);
     if (fault == ADVERT_NOT_SOLICITED || fault == ADVERT_OF_NO_ROUTER) {

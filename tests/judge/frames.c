@@ -82,7 +82,7 @@ struct lk_host any_host_for(const struct lk_frame *frame)
         udp_ports[below(4)] = frame->dst.port;
     if (made.target != 0 && !one_in(4))
         memcpy(host.ipv6.octets, made.octets + made.target, 16);
-    if (made.target != 0 && host.ipv6.version == 6 && !one_in(4))
+    if (made.target != 0 && host.ipv6.version == 6 && (made.octets[0] & 1) != 0 && !one_in(4))
         memcpy(made.octets + 3, host.ipv6.octets + 13, 3);
     return host;
 }
@@ -296,7 +296,8 @@ static void make_ipv4(void)
     memcpy(ptr + 16, any_addr(4).octets, 4);
 }
 
-/* Sends a message of neighbour discovery to its target or to the solicited-node group of it, mostly. */
+/* Sends a message of neighbour discovery to its target or to the solicited-node group of it, mostly. Some frames to the
+ * group are sent to one host. */
 static void address_ndisc(uint8_t *header)
 {
     static const uint8_t group[13] = {0xff, 2, 0, 0, 0, 0, 0, 0, 0, 0, 0, 1, 0xff}, station[3] = {0x33, 0x33, 0xff};
@@ -309,6 +310,8 @@ static void address_ndisc(uint8_t *header)
     if (one_in(4))
         return;
     memcpy(header + 24, group, 13);
+    if (one_in(4))
+        return;
     memcpy(made.octets, station, 3);
     memcpy(made.octets + 3, target + 13, 3);
 }

@@ -158,7 +158,7 @@ static size_t answer_arp(const struct lk_host *host, struct lk_frame *frame, uin
 {
     struct lk_interface own = interface_of(host);
     int is_probe = is_in(&frame->src.addr, "0.0.0.0/32");
-    if (frame->arp.operation != 1 || !is_same(&frame->dst.addr, &host->ipv4) ||
+    if (frame->arp.operation != 1 || !is_same(&frame->dst.addr, &host->ipv4) || !is_host(&host->ipv4) ||
         !is_unicast_hardware(frame->arp.src_hardware) || !(is_probe || is_answered(&own, &frame->src.addr)))
         return 0;
     model_reply(frame);
@@ -285,6 +285,7 @@ static size_t answer_solicitation(const struct lk_host *host, struct lk_frame *f
     struct lk_addr group = {{0xff, 2, 0, 0, 0, 0, 0, 0, 0, 0, 0, 1, 0xff}, 6}, all_nodes = {{0xff, 2}, 6};
     struct lk_ndisc asked, told;
     uint8_t station[6] = {0x33, 0x33, 0xff}, message[32];
+    int is_to_us = memcmp(frame->ethernet.dst, host->hardware, 6) == 0;
     int is_probe = is_in(&frame->src.addr, "::/128");
     memcpy(group.octets + 13, host->ipv6.octets + 13, 3);
     memcpy(station + 3, group.octets + 13, 3);
@@ -292,8 +293,9 @@ static size_t answer_solicitation(const struct lk_host *host, struct lk_frame *f
     if (!model_read_ndisc(ptr, frame_len, &asked) || asked.is_advert || !is_same(&asked.target, &host->ipv6) ||
         !is_host(&host->ipv6) || !is_unicast_hardware(frame->ethernet.src))
         return 0;
-    if (!(is_same(&frame->dst.addr, &host->ipv6) && memcmp(frame->ethernet.dst, host->hardware, 6) == 0) &&
-        !(is_same(&frame->dst.addr, &group) && memcmp(frame->ethernet.dst, station, 6) == 0))
+    /* RFC 6085: what goes to the group may be sent to one of its hosts. */
+    if (!(is_same(&frame->dst.addr, &host->ipv6) && is_to_us) &&
+        !(is_same(&frame->dst.addr, &group) && (is_to_us || memcmp(frame->ethernet.dst, station, 6) == 0)))
         return 0;
     if (!is_probe && !is_answered(&own, &frame->src.addr))
         return 0;
@@ -318,7 +320,7 @@ static int is_for(const struct lk_host *host, const struct lk_frame *frame)
     struct lk_interface own = interface_of(host);
     return memcmp(frame->ethernet.dst, host->hardware, 6) == 0 && is_unicast_hardware(frame->ethernet.src) &&
            (is_same(&frame->dst.addr, &host->ipv4) || is_same(&frame->dst.addr, &host->ipv6)) &&
-           is_answered(&own, &frame->src.addr) && frame->ipv4_checksum != LK_WRONG &&
+           is_host(&frame->dst.addr) && is_answered(&own, &frame->src.addr) && frame->ipv4_checksum != LK_WRONG &&
            frame->transport != LK_NO_TRANSPORT && is_valid(frame->transport_checksum);
 }
 

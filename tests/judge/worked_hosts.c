@@ -140,6 +140,20 @@ static void answers_icmp(void)
     IGNORES(host, to_group);
 }
 
+/* A bridge may send a frame of a group to each host by itself (RFC 6085). */
+static void answers_frames_to_itself(void)
+{
+    const struct lk_host host = asked_host(0, 0);
+    struct octets to_us = solicit;
+    memcpy(to_us.at, host.hardware, 6);
+    ANSWERS(host, to_us, advert);
+    to_us = probe;
+    memcpy(to_us.at, host.hardware, 6);
+    ANSWERS(host, to_us, advert_to_all);
+    to_us.at[5] = 3;
+    IGNORES(host, to_us);
+}
+
 /* Any value but 0 is a router, and R is all that differs. */
 static void answers_of_routers(void)
 {
@@ -261,6 +275,7 @@ void worked_hosts(void)
     offers_of_hosts();
     ignores_damaged_frames();
     answers_icmp();
+    answers_frames_to_itself();
     answers_of_routers();
     worked_lines("tests/data/calls/host.call", "tests/data/calls/host.txt");
     worked_lines("tests/data/calls/worked_replies.call", "tests/data/calls/worked_replies.txt");

@@ -69,7 +69,8 @@ class Interface:
 @represents(c.Host)
 @dataclass(frozen=True)
 class Host:
-    """A host with one interface and no connections. `seq_number` and what follows it is sent by an open port."""
+    """A host with one interface and no connections. `seq_number` and what follows it is sent by an open port. 0.0.0.0 and
+    `::` mean that it has no address of this version."""
 
     hardware: bytes
     ipv4: IPv4Address

@@ -9,11 +9,11 @@ use core::net::{Ipv4Addr, Ipv6Addr};
 pub struct Host<'a> {
     /// The open TCP ports.
     pub open_ports: &'a [u16],
-    /// The UDP ports that the caller serves: what comes to them is not answered.
+    /// The UDP ports that the caller serves: what comes to them is not answered, but at `echo_port`.
     pub open_udp_ports: &'a [u16],
-    /// Its IPv4 address.
+    /// Its IPv4 address. 0.0.0.0 is none.
     pub ipv4: Ipv4Addr,
-    /// Its IPv6 address.
+    /// Its IPv6 address. `::` is none.
     pub ipv6: Ipv6Addr,
     /// Its Ethernet address.
     pub hardware: EthernetAddr,

@@ -7,7 +7,8 @@ use Rattle.ip_wire.specs.Types.{ArpRepr, EthernetAddress, EthernetRepr}
 use Rattle.ip_wire.specs.declared.ArpRepr.TheVariants.{EthernetIpv4}
 use Rattle.ip_wire.specs.declared.EthernetProtocol.TheVariants as ethertype
 use Rattle.ip_wire.specs.declared.Frame.{Frame}
-use Rattle.app_host.specs.Source.{IsAsker}
+use Rattle.ip_wire.specs.declared.IpAddress.TheVariants.{Ipv4}
+use Rattle.app_host.specs.Source.{IsAsker, IsOurs}
 use Rattle.app_host.specs.declared.interface.Interface.{Interface}
 
 -- Pinned by: too wide: `RepliesOnce`, `calls/host`
@@ -17,6 +18,7 @@ pub record IsArpReply (ours : Interface) (request : ArpRepr) (asker : EthernetAd
   pub asker_addr : List ℕ
   pub asked : EthernetAddress
   pub asks : request ≡ EthernetIpv4 Request asker asker_addr asked ours.ipv4_addr
+  pub own : IsOurs ours (Ipv4 ours.ipv4_addr)
   pub from_asker : IsAsker ours asker asker_addr
   pub tells : reply ≡ EthernetIpv4 Reply ours.hardware_addr ours.ipv4_addr asker asker_addr
 

@@ -27,11 +27,13 @@ abbrev pub all_nodes : List ℕ
 all_nodes = address_bytes (0xff02 ∷ 0 ∷ 0 ∷ 0 ∷ 0 ∷ 0 ∷ 0 ∷ 1 ∷ [])
 
 -- Pinned by: proof of `reply`
--- the packet goes to our address, or to its solicited-node group, and the frame to the hardware address of that
+-- The packet goes to our address, and the frame to our hardware address. Or the packet goes to the solicited-node group
+-- of our address, and the frame to the group's hardware address or to ours: a bridge may send a group's frames to each
+-- host by itself (RFC 6085).
 abbrev pub IsForTarget : Interface → EthernetAddress → List ℕ → Type 0
 IsForTarget ours hardware dst =
     ((dst ≡ ours.ipv6_addr) × (hardware ≡ ours.hardware_addr))
-    ⊎ ((dst ≡ solicited_node ours.ipv6_addr) × (hardware.0 ≡ group_hardware dst))
+    ⊎ ((dst ≡ solicited_node ours.ipv6_addr) × ((hardware.0 ≡ group_hardware dst) ⊎ (hardware ≡ ours.hardware_addr)))
 
 -- Pinned by: proof of `reply`
 -- a packet with these headers may ask for our address, which is that of a host

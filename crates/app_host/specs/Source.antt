@@ -23,12 +23,6 @@ abbrev pub ipv6_mapped : Block
 ipv6_mapped = ipv6_block (0 ∷ 0 ∷ 0 ∷ 0 ∷ 0 ∷ 0xffff ∷ 0 ∷ 0 ∷ []) 96
 
 -- Pinned by: too wide: `calls/host`
--- the address is that of our interface
-abbrev pub IsOurs : Interface → IpAddress → Type 0
-IsOurs ours (Ipv4 bytes) = bytes ≡ ours.ipv4_addr
-IsOurs ours (Ipv6 bytes) = bytes ≡ ours.ipv6_addr
-
--- Pinned by: too wide: `calls/host`
 -- an address by which a host means itself: this network or loopback (RFC 1122, section 3.2.1.3), `::` or `::1` (RFC 4291,
 -- sections 2.5.2 and 2.5.3)
 abbrev pub IsThisHost : IpAddress → Type 0
@@ -46,6 +40,19 @@ IsNoHost (Ipv6 bytes) = IsIn ipv6_multicast bytes ⊎ IsIn ipv6_mapped bytes
 pub record IsHostAddr (addr : IpAddress) : Type 0 where
   pub no_self : ¬ IsThisHost addr
   pub host : ¬ IsNoHost addr
+
+-- Pinned by: too wide: `calls/host`
+-- the address is in the field of our interface for its version
+abbrev pub IsInField : Interface → IpAddress → Type 0
+IsInField ours (Ipv4 bytes) = bytes ≡ ours.ipv4_addr
+IsInField ours (Ipv6 bytes) = bytes ≡ ours.ipv6_addr
+
+-- Pinned by: too wide: `calls/host`
+-- Our interface has this address. One that no single host may have, as 0.0.0.0 or `::`, stands for no address of its
+-- version: nothing is sent to it or from it.
+pub record IsOurs (ours : Interface) (addr : IpAddress) : Type 0 where
+  pub in_field : IsInField ours addr
+  pub of_host : IsHostAddr addr
 
 -- Pinned by: too wide: `calls/host`
 -- no packet from another host has this source address

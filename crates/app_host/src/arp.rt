@@ -6,7 +6,7 @@ ghost use Rattle.ip_wire.specs.Reply.{Gives, Sends};
 ghost use Rattle.ip_wire.specs.declared.ArpRepr.{ArpRepr};
 
 use crate::interface::Interface;
-use ip_wire::{ArpOperation, ArpRepr, Carried, EthernetAddress, Frame, send_reply};
+use ip_wire::{ArpOperation, ArpRepr, Carried, EthernetAddress, Frame, IpAddress, send_reply};
 use net_base::ChecksumCapabilities;
 
 /// The reply to a request for the IPv4 address, sent to the host that asks. `None` for any other frame,
@@ -34,7 +34,7 @@ fn reply_to(message: &ArpRepr, ours: &Interface) -> Option<(EthernetAddress, Arp
             source_protocol_addr,
             target_protocol_addr,
             ..
-        } if target_protocol_addr == ours.ipv4_addr
+        } if ours.has_addr(&IpAddress::Ipv4(target_protocol_addr))
             && ours.may_ask(&source_hardware_addr, &source_protocol_addr) => {
             let reply = ArpRepr::EthernetIpv4 {
                 operation: ArpOperation::Reply,

@@ -2,7 +2,7 @@
 
 ghost use Rattle.std.specs.Prelude.{◌≡◌, ◌↔◌, IsTrue};
 ghost use Rattle.app_host.specs.Interface.{IsForUs, header_back};
-ghost use Rattle.app_host.specs.Source.{IsAsker, IsHostAddr, IsInvalidSource, IsNoHost, IsOurs, IsThisHost, ipv4_reserved, ipv4_this_network, ipv6_mapped};
+ghost use Rattle.app_host.specs.Source.{IsAsker, IsHostAddr, IsInField, IsInvalidSource, IsNoHost, IsOurs, IsThisHost, ipv4_reserved, ipv4_this_network, ipv6_mapped};
 ghost use Rattle.ip_wire.specs.Block.{IsIn};
 
 use ip_wire::{
@@ -13,7 +13,7 @@ use ip_wire::{
 /// The hop limit of each reply.
 pub const HOP_LIMIT: u8 = 64;
 
-/// One hardware address, one IPv4 address and one IPv6 address.
+/// One hardware address, one IPv4 address and one IPv6 address. 0.0.0.0 and `::` stand for no address of the version.
 #[derive(Debug, Clone, Copy, PartialEq, Eq)]
 pub struct Interface {
     pub hardware_addr: EthernetAddress,
@@ -24,9 +24,16 @@ pub struct Interface {
 }
 
 impl Interface {
-    /// Returns `true` if the interface has this address.
+    /// Returns `true` if the interface has this address. It has none that no single host may have, as 0.0.0.0 or `::`.
     pub fn has_addr(&self, addr: &IpAddress) -> bool
         ensures { IsTrue result ↔ IsOurs self.now addr.now }
+    {
+        self.has_in_field(addr) && is_host_addr(addr)
+    }
+
+    // Whether the address is in the field for its version.
+    fn has_in_field(&self, addr: &IpAddress) -> bool
+        ensures { IsTrue result ↔ IsInField self.now addr.now }
     {
         match addr {
             IpAddress::Ipv4(addr) => *addr == self.ipv4_addr,

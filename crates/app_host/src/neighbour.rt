@@ -21,8 +21,9 @@ use wire_icmp::IcmpPacket;
 use wire_ndisc::{NDISC_HOP_LIMIT, NdiscNeighborFlags, NdiscRepr};
 
 /// The advertisement to a solicitation for the IPv6 address, with the hardware address. The solicitation
-/// goes to the address or to its solicited-node group. `None` for any other frame, if the Ethernet
-/// address of its sender or the one that it names is not unicast, and if its source is neither valid nor `::`.
+/// goes to the address or to its solicited-node group, and the frame to the hardware address or to that of the
+/// group (RFC 6085). `None` for any other frame, if the Ethernet address of its sender or the one that it names
+/// is not unicast, and if its source is neither valid nor `::`.
 pub fn reply<'a>(request: &Frame<'_>, ours: &Interface) -> Option<MessageFrame<'a>>
     ensures { Gives (AdvertisesFrame ours.now request.now) result }
 {
@@ -88,8 +89,10 @@ fn is_for_target(ours: &Interface, hardware: &EthernetAddress, dst_addr: &Ipv6Ad
     requires { IsHostAddr (address.Ipv6 ours.now.ipv6_addr) }
     ensures { IsTrue result ↔ IsForTarget ours.now hardware.now dst_addr.now }
 {
-    (*dst_addr == ours.ipv6_addr && *hardware == ours.hardware_addr)
-        || (*dst_addr == ours.ipv6_addr.solicited_node() && *hardware == group_hardware(dst_addr))
+    let is_to_us = *hardware == ours.hardware_addr;
+    (*dst_addr == ours.ipv6_addr && is_to_us)
+        || (*dst_addr == ours.ipv6_addr.solicited_node()
+            && (*hardware == group_hardware(dst_addr) || is_to_us))
 }
 
 // The Ethernet and the IPv6 address that get the advertisement, and whether it is solicited.

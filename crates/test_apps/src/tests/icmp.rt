@@ -4,7 +4,7 @@
 use super::ours;
 use app_host::{Interface, icmp_echo, neighbour};
 use app_router::{Problem, error};
-use ip_wire::Frame;
+use ip_wire::{Frame, Ipv4Address, Ipv6Address};
 use net_base::ChecksumCapabilities;
 use test_support::bytes::change;
 use test_support::captured::{PING, PING_6};
@@ -115,11 +115,16 @@ const TOO_BIG_6: [u8; 114] = [
     0x63, 0x64,
 ];
 
-/// Whether the frame gets this echo reply.
+/// Whether the frame gets this echo reply from a host.
 fn echoes(frame: &[u8], reply: &[u8]) -> bool {
+    echoes_at(frame, &ours(), reply)
+}
+
+/// Whether the frame gets this echo reply from an interface.
+fn echoes_at(frame: &[u8], ours: &Interface, reply: &[u8]) -> bool {
     let mut out = [0xa5; 128];
     let sent = match Frame::parse(frame, &ChecksumCapabilities::default()) {
-        Ok(request) => match icmp_echo::reply(&request, &ours()) {
+        Ok(request) => match icmp_echo::reply(&request, ours) {
             Some(reply) => reply.send(&mut out),
             None => None,
         },
@@ -198,6 +203,50 @@ fn answers_a_solicitation(rt: HostRuntime) {
     let mut other_group = SOLICIT;
     change(&mut other_group, &[(5, 0x03)]);
     assert!(rt; advertises(&other_group, &[]));
+}
+
+/// A bridge may send a frame of a group to each host by itself (RFC 6085).
+#[test]
+fn answers_a_solicitation_to_itself(rt: HostRuntime) {
+    let to_us = [(0, 0x02), (1, 0), (2, 0), (5, 0x02)];
+    let mut solicit = SOLICIT;
+    change(&mut solicit, &to_us);
+    assert!(rt; advertises(&solicit, &ADVERT));
+    let mut probe = PROBE;
+    change(&mut probe, &to_us);
+    assert!(rt; advertises(&probe, &ADVERT_TO_ALL));
+    change(&mut probe, &[(5, 0x03)]);
+    assert!(rt; advertises(&probe, &[]));
+}
+
+/// 0.0.0.0 and `::` stand for no address.
+#[test]
+fn answers_nothing_without_an_address(rt: HostRuntime) {
+    let none = Interface {
+        ipv4_addr: Ipv4Address::UNSPECIFIED,
+        ipv6_addr: Ipv6Address::UNSPECIFIED,
+        ..ours()
+    };
+    let mut ping = PING;
+    change(
+        &mut ping,
+        &[(24, 0x74), (25, 0x02), (30, 0), (32, 0), (33, 0)],
+    );
+    assert!(rt; echoes_at(&ping, &none, &[]));
+    let mut ping_6 = PING_6;
+    change(
+        &mut ping_6,
+        &[
+            (38, 0),
+            (39, 0),
+            (40, 0),
+            (41, 0),
+            (53, 0),
+            (56, 0xff),
+            (57, 0x88),
+        ],
+    );
+    assert!(rt; echoes_at(&ping_6, &none, &[]));
 }
 
 #[test]
