@@ -772,7 +772,8 @@ struct lk_host {
  *   of its clients. It echoes also if it is one of `open_udp_ports`.
  * - SYN and ACK has `max_seg_size`. It has window scale, SACK permitted and timestamp if the SYN has them.
  * - No connection is kept: what follows the SYN gets RST, with window 0 and without options.
- * - The answer is a new IP packet, as that of lk_reply, with DSCP 0.
+ * - The answer is a new IP packet, as that of lk_reply. An echo reply has the DSCP of the request (RFC 1812, section
+ *   4.3.2.5), any other answer has DSCP 0.
  * - A solicitation must be valid for lk_read_ndisc. It is sent to `ipv6` and `hardware`, or to the solicited-node group
  *   of `ipv6` and the hardware address of the group or `hardware` (RFC 6085). The advertisement goes to the unicast
  *   hardware address in the option, or to the sender of the frame; for a solicitation from `::` to all nodes.

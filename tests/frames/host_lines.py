@@ -121,7 +121,9 @@ def header_rows(v, name, ask, reply):
     # A host takes a packet with any hop limit (RFC 1122, section 3.2.1.7; RFC 8200, section 3).
     for hop_limit in [0, 1, 2, 63, 255]:
         yield row(f"{name}-hop-limit-{hop_limit}", ask(v, hop_limit=hop_limit), reply(v))
-    yield row(f"{name}-service-ff", ask(v, service=0xFF), reply(v))
+    # An echo reply has the DSCP of its request (RFC 1812, section 4.3.2.5). The ECN of a reply is 0.
+    same_dscp = {"service": 0xFC} if name.startswith("icmp") else {}
+    yield row(f"{name}-service-ff", ask(v, service=0xFF), reply(v, **same_dscp))
     for padding in [1, 2, 46]:
         yield row(f"{name}-padding-{padding}", ask(v, padding=b"\xa5" * padding), reply(v))
     for version in [0, 5, 10 - int(v.name), 15]:
@@ -201,6 +203,8 @@ def icmp_rows(v):
     for size in [0, 1, 2, 3, 1472, 65535 - 8 - 20 * (v.name == "4")]:
         payload = bytes(3 * i % 251 for i in range(size)) if size < 2000 else b"\xa5" * size
         yield row(f"{name}-payload-{size}", echo_request(v, payload), echo_reply(v, payload))
+    for dscp in [1, 32]:
+        yield row(f"{name}-dscp-{dscp}", echo_request(v, service=4 * dscp), echo_reply(v, service=4 * dscp))
     for word in [0, 1, 0xFFFF, 0x1_0000, 0xFFFF_FFFF]:
         yield row(f"{name}-word-{word:08x}", echo_request(v, word=word), echo_reply(v, word=word))
     for kind in range(256):

@@ -50,9 +50,9 @@ def framed(v, segment_of, protocol, link_dst=OUR_LINK, link_src=THEIR_LINK, ethe
     return ethernet(v.ethertype if ethertype is None else ethertype, packet, link_dst, link_src)
 
 
-def replied(v, segment_of, protocol, link=THEIR_LINK, to=None):
+def replied(v, segment_of, protocol, link=THEIR_LINK, to=None, service=0):
     """A frame from the host: hop limit 64, IPv4 without fragmentation and with identification 0 (RFC 6864, section 4.1)."""
-    return framed(v, segment_of, protocol, link, OUR_LINK, src=v.ours, dst=to or v.theirs)
+    return framed(v, segment_of, protocol, link, OUR_LINK, src=v.ours, dst=to or v.theirs, service=service)
 
 
 def ping(v, payload=b"ping", src_port=41319, dst_port=ECHO, after=b"", length=None, checksum=None, **frame):

@@ -37,6 +37,7 @@ __attribute__((constructor)) static void choose(void)
         "bytes at an odd offset summed as at an even one",
         "an echo to a port below 1024",
         "a solicitation for a group ignored in a frame to the host itself", "an ARP reply of a host at 0.0.0.0",
+        "an echo reply with DSCP 0",
         "the inner of two VLAN tags lost", "an address family in one byte order only",
         "an IPv6 packet of link type 228 accepted", "no byte of link type 229 accepted",
         "a header after that of a later fragment",
@@ -402,6 +403,12 @@ ptrdiff_t __wrap_lk_answer(const struct lk_host *host, const uint8_t *ptr, size_
         result = __real_lk_answer(host, ptr, len, out, cap);
         if (result == 86 && out[12] == 0x86 && out[20] == 58 && out[54] == 136 && (out[58] & flag) != 0)
             change_word(out + 58, (out[58] ^ flag) << 8, out + 56);
+        return result;
+    }
+    if (fault == DSCP_OF_ECHO_LOST) {
+        result = __real_lk_answer(host, ptr, len, out, cap);
+        if (result > 34 && out[12] == 8 && out[13] == 0 && out[23] == 1 && out[34] == 0)
+            change_word(out + 14, 0x4500, out + 24);
         return result;
     }
     if (fault != ANSWER_TO_MULTICAST || len < 14 || len > sizeof unicast || (ptr[6] & 1) == 0)

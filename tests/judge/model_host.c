@@ -171,12 +171,13 @@ static size_t answer_arp(const struct lk_host *host, struct lk_frame *frame, uin
 }
 
 /* Writes the headers before an answer of `len` bytes that is in `payload`. */
-static size_t put_answer(const struct lk_frame *reply, unsigned protocol, int is_ndisc, const uint8_t *payload,
-                         size_t len, uint8_t *out)
+static size_t put_answer(const struct lk_frame *reply, unsigned protocol, unsigned hop_limit, unsigned dscp,
+                         const uint8_t *payload, size_t len, uint8_t *out)
 {
     struct lk_ip ip = {0};
     size_t at = put_ethernet(&reply->ethernet, reply->src.addr.version == 4 ? 0x0800 : 0x86dd, out);
-    ip.hop_limit = is_ndisc ? 255 : 64;
+    ip.hop_limit = (uint8_t)hop_limit;
+    ip.dscp = (uint8_t)dscp;
     ip.dont_fragment = 1;
     at += put_ip(&ip, &reply->src.addr, &reply->dst.addr, protocol, len, 1, out + at);
     return at + copy(payload, len, out + at);
@@ -203,7 +204,7 @@ static size_t answer_udp(const struct lk_host *host, struct lk_frame *frame, con
         return 0;
     model_reply(frame);
     len = put_udp(&frame->src, &frame->dst, ptr + frame->payload_offset, frame->payload_len, 1, packet);
-    return put_answer(frame, 17, 0, packet, len, out);
+    return put_answer(frame, 17, 64, 0, packet, len, out);
 }
 
 /* RFC 9293, section 3.10.7.2, third: an open port gets SYN. */
@@ -258,10 +259,11 @@ static size_t answer_tcp(const struct lk_host *host, struct lk_frame *frame, con
     frame->tcp.urgent_at = 0;
     model_reply(frame);
     len = put_tcp(&frame->tcp, &options, 1, &frame->src, &frame->dst, 0, 0, 1, segment);
-    return put_answer(frame, 6, 0, segment, len, out);
+    return put_answer(frame, 6, 64, 0, segment, len, out);
 }
 
-/* An echo request: type 8 over IPv4, 128 over IPv6, and code 0. The reply has type 0 or 129, and the same data. */
+/* An echo request: type 8 over IPv4, 128 over IPv6, and code 0. The reply has type 0 or 129, the same data, and the same
+ * DSCP (RFC 1812, section 4.3.2.5). */
 static size_t answer_icmp(struct lk_frame *frame, const uint8_t *ptr, uint8_t *out)
 {
     static uint8_t message[MODEL_ROOM];
@@ -273,7 +275,7 @@ static size_t answer_icmp(struct lk_frame *frame, const uint8_t *ptr, uint8_t *o
     model_reply(frame);
     len = put_icmp(&frame->icmp, &frame->src.addr, &frame->dst.addr, ptr + frame->payload_offset, frame->payload_len, 1,
                    message);
-    return put_answer(frame, is_ipv4 ? 1 : 58, 0, message, len, out);
+    return put_answer(frame, is_ipv4 ? 1 : 58, 64, frame->ip.dscp, message, len, out);
 }
 
 /* RFC 4861, section 7.2.4. The hardware address of a group is 33:33 and its last four bytes (RFC 2464, section 7). */
@@ -312,7 +314,7 @@ static size_t answer_solicitation(const struct lk_host *host, struct lk_frame *f
     told.is_solicited = !is_probe;
     told.is_router = host->is_router;
     memcpy(told.hardware, host->hardware, 6);
-    return put_answer(frame, 58, 1, message, put_ndisc(&told, &frame->src.addr, &frame->dst.addr, message), out);
+    return put_answer(frame, 58, 255, 0, message, put_ndisc(&told, &frame->src.addr, &frame->dst.addr, message), out);
 }
 
 static int is_for(const struct lk_host *host, const struct lk_frame *frame)

@@ -35,7 +35,7 @@ message-reply-once host bytes asked_header asked h k c d (inr (inr e)) (inl g) =
 message-reply-once host bytes asked_header asked h k c d (inr (inr e)) (inr (inl g)) = absurd (let a = e.asks in let b = g.asks in cc)
 
 -- no frame gets a reply of both kinds
-apart : (host : Host) (bytes : List ℕ) (asked_header : EthernetRepr) (asked : Carried) (h k : EthernetRepr) (c d : Carried)
+pub apart : (host : Host) (bytes : List ℕ) (asked_header : EthernetRepr) (asked : Carried) (h k : EthernetRepr) (c d : Carried)
     → IsFrameReply host asked_header asked h c → ¬ IsMessageReply host bytes asked_header asked k d
 apart host bytes asked_header asked h k c d (inl e) (inl g) = absurd (let a = e.asks in let b = g.asks in cc)
 apart host bytes asked_header asked h k c d (inl e) (inr (inl g)) = absurd (let a = e.asks in let b = g.asks in cc)

@@ -1,5 +1,5 @@
 -- Echo replies and errors in frames.
-use Rattle.std.proofs.Common.{ℕ, ◌≡◌, ◌∙◌, ◌≤◌, ◌+◌, ◌↔◌, List, Option, Some, None, Result, Ok, length, refl, ap, subst, true, arith}
+use Rattle.std.proofs.Common.{ℕ, ◌≡◌, ◌∙◌, ◌<◌, ◌≤◌, ◌+◌, ◌↔◌, List, Option, Some, None, Result, Ok, length, refl, ap, subst, true, arith}
 use Rattle.std.specs.Borrow.{Bor}
 use Rattle.ip_wire.specs.Frame as frame
 use Rattle.ip_wire.specs.Frame.{all_checked, other, packet}
@@ -90,3 +90,8 @@ pub in_frame : (R : EthernetRepr → frame.Carried → EthernetRepr → frame.Ca
     → carried_of request.carried ≡ Some asked → Gives (R request.header asked) result → Gives (ToFrame R request) result
 in_frame R request asked None is none = λ h c (found, same, r). let one : found ≡ asked = cc in none h c (subst (λ a. R request.header a h c) one r)
 in_frame R request asked (Some f) is (sendable, r) = (sendable, (asked, is, r))
+
+-- the reply with another DSCP
+pub with-dscp : (R : EthernetRepr → frame.Carried → Type 0) (f : MessageFrame) (n : ℕ) → n < 64 → Gives R (Some f) → Gives R (Some (record f { dscp = n }))
+with-dscp R f n small (s, r) =
+    (record { ethertype = s.ethertype; protocol = s.protocol; len = s.len; written = s.written; fits = s.fits; version = s.version; dscp = small }, r)

@@ -1,9 +1,11 @@
 pub mod ArpReplies
+pub mod EchoDscp
 pub mod Echoes
 pub mod HostOnce
 pub mod HostReplies
 pub mod IcmpErrors
 pub mod IcmpReplies
+pub mod Marked
 pub mod MessageEnds
 pub mod Messages
 pub mod MessagesOnce

@@ -52,10 +52,10 @@ sent f old new (Some n) sendable composes same (len, fits, is) =
 -- a message of this length can be sent
 pub sendable : (src dst : EthernetAddress) (v : IpRepr) (m : Message) → ((w : IpRepr) → src_addr_of w ≡ src_addr_of v → dst_addr_of w ≡ dst_addr_of v → length (message_bytes w m) ≡ message_len m)
     → message_len m ≤ max_payload_len v → IsOfVersion m v → IsSendable (message_frame src dst v m)
-sendable src dst (Ipv4 v) (Icmp value payload) written fits version = record { ethertype = refl; protocol = refl; len = refl; written = written (Ipv4 v) refl refl; fits = fits; version = tt }
-sendable src dst (Ipv6 v) (Icmp value payload) written fits version = record { ethertype = refl; protocol = refl; len = refl; written = written (Ipv6 v) refl refl; fits = fits; version = tt }
+sendable src dst (Ipv4 v) (Icmp value payload) written fits version = record { ethertype = refl; protocol = refl; len = refl; written = written (Ipv4 v) refl refl; fits = fits; version = tt; dscp = omega arith }
+sendable src dst (Ipv6 v) (Icmp value payload) written fits version = record { ethertype = refl; protocol = refl; len = refl; written = written (Ipv6 v) refl refl; fits = fits; version = tt; dscp = omega arith }
 sendable src dst (Ipv4 v) (Ndisc value) written fits version = absurd (cc)
-sendable src dst (Ipv6 v) (Ndisc value) written fits version = record { ethertype = refl; protocol = refl; len = refl; written = written (Ipv6 v) refl refl; fits = fits; version = refl }
+sendable src dst (Ipv6 v) (Ndisc value) written fits version = record { ethertype = refl; protocol = refl; len = refl; written = written (Ipv6 v) refl refl; fits = fits; version = refl; dscp = omega arith }
 
 -- what the frame carries with an ICMP message between two addresses
 abbrev pub icmp_values : IpRepr → IcmpRepr → List ℕ → IpAddress → IpAddress → Carried

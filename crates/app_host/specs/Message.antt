@@ -1,13 +1,14 @@
 -- Frames with a message of ICMP or of neighbour discovery, and replies of every kind.
-use Rattle.std.specs.Prelude.{ℕ, ⊤, ◌≡◌, ◌<◌, ◌≤◌, ◌+◌, ◌++◌, List, Option, Some, None, drop, length, true}
+use Rattle.std.specs.Prelude.{ℕ, ⊤, ◌≡◌, ◌<◌, ◌≤◌, ◌+◌, ◌/◌, ◌%◌, ◌++◌, List, Option, Some, None, drop, length, true}
 use Rattle.ip_wire.specs.Ethernet as ethernet
-use Rattle.ip_wire.specs.Frame.{Carried, IsReadWhole, other, packet, type_of}
+use Rattle.ip_wire.specs.Field.{field}
+use Rattle.ip_wire.specs.Frame.{Carried, IsReadWhole, ReadsPacket, all_checked, other, packet, packet_payload, type_of}
 use Rattle.ip_wire.specs.Ip as ip
 use Rattle.ip_wire.specs.Ip.{dst_addr_of, header_before, max_payload_len, next_header_of, payload_len_of, src_addr_of, version_of}
 use Rattle.ip_wire.specs.IpAddress.{address_bytes}
 use Rattle.ip_wire.specs.Reply as frame
 use Rattle.ip_wire.specs.Reply.{reply_len}
-use Rattle.ip_wire.specs.Types.{EthernetAddress, EthernetRepr, IpRepr}
+use Rattle.ip_wire.specs.Types.{EthernetAddress, EthernetRepr, IpRepr, IpVersion}
 use Rattle.ip_wire.specs.declared.IpVersion.TheVariants as version
 use Rattle.wire_icmp.specs.Icmp as icmp
 use Rattle.wire_icmp.specs.Icmp.{protocol_of}
@@ -55,6 +56,7 @@ pub record IsSendable (f : MessageFrame) : Type 0 where
   pub written : length (message_bytes f.ip f.message) ≡ message_len f.message
   pub fits : message_len f.message ≤ max_payload_len f.ip
   pub version : IsOfVersion f.message f.ip
+  pub dscp : f.dscp < 64
 
 -- Pinned by: proof of `send`
 -- a frame of these headers, of the bytes of a message and of any padding parses as their values
@@ -76,6 +78,46 @@ abbrev pub IsSent : MessageFrame → List ℕ → List ℕ → Option ℕ → Ty
 IsSent f old new None = (length old < reply_len (values_of f)) × (new ≡ old)
 IsSent f old new (Some len) =
     (len ≡ reply_len (values_of f)) × (len ≤ length old) × (drop len new ≡ drop len old) × IsReadWhole new f.header (values_of f)
+
+-- ---- the DSCP and the ECN of a packet (RFC 2474, section 3; RFC 3168, section 5)
+
+-- Pinned by: `calls/host`
+-- the DSCP of a packet of this version: of IPv6 the first 6 bits of the traffic class
+abbrev pub dscp_of : IpVersion → List ℕ → ℕ
+dscp_of version.Ipv4 bytes = field bytes 8 6
+dscp_of version.Ipv6 bytes = field bytes 4 8 / 4
+
+-- Pinned by: `calls/host`
+-- the ECN of a packet of this version: of IPv6 the last 2 bits of the traffic class
+abbrev pub ecn_of : IpVersion → List ℕ → ℕ
+ecn_of version.Ipv4 bytes = field bytes 14 2
+ecn_of version.Ipv6 bytes = field bytes 4 8 % 4
+
+-- Pinned by: `calls/host`
+-- a packet of this version has this DSCP, and ECN 0
+pub record HasClass (version : IpVersion) (bytes : List ℕ) (dscp : ℕ) : Type 0 where
+  pub marked : dscp_of version bytes ≡ dscp
+  pub unmarked_ecn : ecn_of version bytes ≡ 0
+
+-- Pinned by: `calls/host`
+-- the packet in the bytes of the frame of a message has the DSCP of the message, and ECN 0
+abbrev pub IsMarked : MessageFrame → List ℕ → Type 0
+IsMarked f bytes = HasClass (version_of f.ip) (drop 14 bytes) f.dscp
+
+-- Pinned by: proof of `send`
+-- the packet with this header has another DSCP, and else parses as before
+pub record IsRemarked (v : IpRepr) (old new : List ℕ) (dscp : ℕ) : Type 0 where
+  pub marked : HasClass (version_of v) new dscp
+  pub reads : ReadsPacket all_checked new v
+  pub payload : packet_payload v new ≡ packet_payload v old
+  pub rest : drop (ip.header_len_of v) new ≡ drop (ip.header_len_of v) old
+
+-- Pinned by: proof of `send`
+-- the frame of a message has its DSCP, and else parses as before
+pub record IsFrameRemarked (f : MessageFrame) (old new : List ℕ) : Type 0 where
+  pub marked : IsMarked f new
+  pub reads : IsReadWhole new f.header (values_of f)
+  pub rest : drop (14 + ip.header_len_of f.ip) new ≡ drop (14 + ip.header_len_of f.ip) old
 
 -- ---- replies of both kinds
 
@@ -104,13 +146,21 @@ abbrev pub IsReplySent : Reply → List ℕ → List ℕ → Option ℕ → Type
 IsReplySent (reply.Frame f) old new result = frame.IsSent f old new result
 IsReplySent (reply.Message f) old new result = IsSent f old new result
 
+-- Pinned by: `calls/host`
+-- the packet of a reply with a message has its DSCP, and ECN 0
+abbrev pub IsReplyMarked : Reply → List ℕ → Type 0
+IsReplyMarked (reply.Frame f) bytes = ⊤
+IsReplyMarked (reply.Message f) bytes = IsMarked f bytes
+
 -- ---- frames that are put together
 
 -- Pinned by: `apps/icmp`
--- the frame between two hosts with this message, in a packet with the addresses and the hop limit of a header
+-- the frame between two hosts with this message, in a packet with the addresses and the hop limit of a header, and with
+-- DSCP 0
 abbrev pub message_frame : EthernetAddress → EthernetAddress → IpRepr → Message → MessageFrame
 message_frame src dst v m = record {
   header = record { src_addr = src; dst_addr = dst; ethertype = type_of v };
   ip = header_before v (protocol_of (version_of v)) (message_len m);
+  dscp = 0;
   message = m;
 }

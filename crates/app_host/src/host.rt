@@ -1,16 +1,22 @@
 //! The replies of a host. Each kind has its function in `app_host`.
 
-ghost use Rattle.std.specs.Prelude.{◌≡◌, ◌↔◌, IfSome, IsTrue, None};
+ghost use Rattle.std.specs.Prelude.{◌≡◌, ◌↔◌, ◌<◌, ◌≤◌, IfSome, IsTrue, List, None, drop, length, ℕ};
 ghost use Rattle.app_host.specs.Host.{Answers, IsServed, IsUnread, RepliesBytes, RepliesFrame, RepliesMessage, UnreachableFrame};
+ghost use Rattle.app_host.specs.IcmpEcho.{HasDscpOf, KeepsDscp};
 ghost use Rattle.app_host.specs.Message as message;
+ghost use Rattle.app_host.specs.Message.{IsReplyMarked, dscp_of};
 ghost use Rattle.ip_wire.specs.FrameValue.{Fits};
+ghost use Rattle.ip_wire.specs.Ip.{version_of};
 ghost use Rattle.ip_wire.specs.Reply.{Gives, Sends};
+ghost use Rattle.ip_wire.specs.Types.{IpRepr};
+ghost use Rattle.ip_wire.specs.declared.Carried.TheVariants.{Packet};
+ghost use Rattle.ip_wire.specs.declared.Transport.{Transport as Inner};
 
 use crate::tcp_reply::Offer;
 use crate::{
     Interface, MessageFrame, Reply, arp, icmp_echo, icmp_error, neighbour, tcp_answer, udp_echo,
 };
-use ip_wire::{Carried, Frame, Transport};
+use ip_wire::{Carried, ETHERNET_HEADER_LEN, Frame, IpVersion, Ipv4Packet, Ipv6Packet, Transport};
 use net_base::ChecksumCapabilities;
 use wire_icmp::{IcmpRepr, Unreachable};
 
@@ -30,7 +36,8 @@ pub struct Host<'a> {
 
 /// The reply of the host to the bytes of a frame, or `None`. An error quotes the frame.
 pub fn reply<'a>(host: &Host<'_>, frame: &'a [u8]) -> Option<Reply<'a>>
-    ensures { message.GivesReply (RepliesBytes host.now frame.now) result }
+    ensures reply { message.GivesReply (RepliesBytes host.now frame.now) result }
+    ensures dscp { IfSome result (λ reply. (new : List ℕ) → IsReplyMarked reply new → KeepsDscp host.now.interface frame.now new) }
 {
     match Frame::parse(frame, &ChecksumCapabilities::default()) {
         Ok(request) => {
@@ -52,6 +59,7 @@ pub fn answer(host: &Host<'_>, frame: &[u8], out: &mut [u8]) -> Option<usize>
     ensures sends { Sends (RepliesBytes host.now frame.now) out.old out.new result }
     ensures unread { IsUnread frame.now → result ≡ None }
     ensures answers { IfSome result (λ len. Answers host.now frame.now out.new) }
+    ensures dscp { IfSome result (λ len. KeepsDscp host.now.interface frame.now out.new) }
 {
     match reply(host, frame) {
         Some(reply) => reply.send(out),
@@ -82,15 +90,36 @@ fn reply_with_message<'a>(
     request: &Frame<'a>,
     frame: &'a [u8],
 ) -> Option<MessageFrame<'a>>
-    ensures { message.Gives (RepliesMessage host.now frame.now request.now) result }
+    ensures reply { message.Gives (RepliesMessage host.now frame.now request.now) result }
+    ensures dscp { IfSome result (HasDscpOf host.now.interface request.now frame.now) }
 {
-    if let Some(reply) = icmp_echo::reply(request, &host.interface) {
+    if let Some(reply) = icmp_echo::reply(request, dscp_in(request, frame), &host.interface) {
         return Some(reply);
     }
     if let Some(advert) = neighbour::reply(request, &host.interface) {
         return Some(advert);
     }
     port_unreachable(host, request, frame)
+}
+
+// The DSCP of the packet in a frame, which has these bytes. 0 if there is no packet.
+fn dscp_in(request: &Frame<'_>, frame: &[u8]) -> u8
+    ensures fits { result < 64 }
+    ensures is { (v : IpRepr) (inner : Inner) → 16 ≤ length frame.now → request.now.carried ≡ Packet v inner → result ≡ dscp_of (version_of v) (drop 14 frame.now) }
+{
+    match request.carried {
+        Carried::Packet(header, _) => {
+            if frame.len() < ETHERNET_HEADER_LEN + 2 {
+                return 0;
+            }
+            let packet = &frame[ETHERNET_HEADER_LEN..];
+            match header.version() {
+                IpVersion::Ipv4 => Ipv4Packet::new_unchecked(packet).dscp(),
+                IpVersion::Ipv6 => Ipv6Packet::new_unchecked(packet).traffic_class() / 4,
+            }
+        }
+        _ => 0,
+    }
 }
 
 // The error about a UDP packet for a port that the host does not serve.

@@ -1,5 +1,6 @@
 //! The reply to an echo request (RFC 792; RFC 1122, section 3.2.2.6; RFC 4443, section 4.2).
 
+ghost use Rattle.std.specs.Prelude.{◌≡◌, ◌<◌, IfSome};
 ghost use Rattle.app_host.specs.IcmpEcho.{IsIcmpEcho, RepliesEchoFrame};
 ghost use Rattle.app_host.specs.Message.{Gives};
 ghost use Rattle.ip_wire.specs.Frame.{other, packet};
@@ -11,13 +12,19 @@ use net_base::ChecksumCapabilities;
 use wire_icmp::{IcmpPacket, IcmpRepr, protocol_of};
 
 /// The reply to an echo request for this interface, with the same identifier, sequence number and data.
-/// `None` for any other frame, also for a request to a group.
-pub fn reply<'a>(request: &Frame<'a>, ours: &Interface) -> Option<MessageFrame<'a>>
-    ensures { Gives (RepliesEchoFrame ours.now request.now) result }
+/// `None` for any other frame, also for a request to a group. The DSCP of the request is that of the reply too
+/// (RFC 1812, section 4.3.2.5); a `Frame` has none.
+pub fn reply<'a>(request: &Frame<'a>, dscp: u8, ours: &Interface) -> Option<MessageFrame<'a>>
+    requires { dscp < 64 }
+    ensures reply { Gives (RepliesEchoFrame ours.now request.now) result }
+    ensures dscp { IfSome result (λ reply. reply.dscp ≡ dscp) }
 {
     match request.carried {
         Carried::Packet(header, inner) => match inner {
-            Transport::Other(bytes) => reply_to(&request.header, &header, bytes, ours),
+            Transport::Other(bytes) => match reply_to(&request.header, &header, bytes, ours) {
+                Some(reply) => Some(MessageFrame { dscp, ..reply }),
+                None => None,
+            },
             _ => None,
         },
         _ => None,

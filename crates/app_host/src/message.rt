@@ -1,19 +1,20 @@
 //! Frames with a message of ICMP or of neighbour discovery. The bytes of the message are written when the
 //! frame is sent, so no frame borrows them.
 
-ghost use Rattle.std.specs.Prelude.{◌≡◌, ◌≤◌, ◌<◌, ◌+◌, ◌^◌, ◌++◌, length, true};
-ghost use Rattle.app_host.specs.Message.{Composes, IsOfVersion, IsReplySent, IsSendable, IsSendableReply, IsSent, frame_bytes, message_bytes, message_frame, message_len, values_of};
+ghost use Rattle.std.specs.Prelude.{◌≡◌, ◌≤◌, ◌<◌, ◌+◌, ◌^◌, ◌++◌, IfSome, drop, length, true};
+ghost use Rattle.app_host.specs.Message.{Composes, HasClass, IsFrameRemarked, IsMarked, IsOfVersion, IsRemarked, IsReplyMarked, IsReplySent, IsSendable, IsSendableReply, IsSent, frame_bytes, message_bytes, message_frame, message_len, values_of};
 ghost use Rattle.app_host.specs.declared.message.Message.TheVariants.{Icmp, Ndisc};
 ghost use Rattle.ip_wire.specs.Ethernet as ethernet;
-ghost use Rattle.ip_wire.specs.Frame.{type_of, type_of_version};
-ghost use Rattle.ip_wire.specs.Ip.{bytes_of, dst_addr_of, header_len_of, max_payload_len, payload_len_of, src_addr_of};
+ghost use Rattle.ip_wire.specs.Frame.{IsReadWhole, ReadsPacket, all_checked, type_of, type_of_version};
+ghost use Rattle.ip_wire.specs.Ip.{bytes_of, dst_addr_of, header_len_of, max_payload_len, payload_len_of, src_addr_of, version_of};
 ghost use Rattle.ip_wire.specs.Filled.{Fills};
 ghost use Rattle.wire_icmp.specs.Icmp as icmp;
 ghost use Rattle.wire_ndisc.specs.Ndisc as ndisc;
 
+use ip_wire::laws::field::bytes_fit;
 use ip_wire::{
     ETHERNET_HEADER_LEN, EthernetAddress, EthernetFrameMut, EthernetProtocol, EthernetRepr, Frame,
-    IpRepr, IpVersion, Ipv6Repr, send,
+    IpRepr, IpVersion, Ipv4PacketMut, Ipv6PacketMut, Ipv6Repr, send,
 };
 use net_base::ChecksumCapabilities;
 use wire_icmp::{ICMP_HEADER_LEN, IcmpRepr, protocol_of};
@@ -34,6 +35,8 @@ pub struct MessageFrame<'a> {
     pub header: EthernetRepr,
     /// The IP header, with the protocol and the length of the message.
     pub ip: IpRepr,
+    /// The DSCP of the packet, at most 63. Its ECN is 0.
+    pub dscp: u8,
     pub message: Message<'a>,
 }
 
@@ -88,7 +91,7 @@ fn emit_ndisc(value: &NdiscRepr, ip: &Ipv6Repr, out: &mut [u8]) -> Option<usize>
 
 impl<'a> MessageFrame<'a> {
     // The frame between two hosts with an ICMP message, in a packet with the addresses and the hop
-    // limit of a header.
+    // limit of a header, and with DSCP 0.
     pub(crate) fn icmp(
         src_addr: EthernetAddress,
         dst_addr: EthernetAddress,
@@ -101,6 +104,7 @@ impl<'a> MessageFrame<'a> {
         MessageFrame {
             header: header_before(src_addr, dst_addr, &ip),
             ip: ip.before(protocol_of(ip.version()), ICMP_HEADER_LEN + payload.len()),
+            dscp: 0,
             message: Message::Icmp(value, payload),
         }
     }
@@ -118,6 +122,7 @@ impl<'a> MessageFrame<'a> {
         MessageFrame {
             header: header_before(src_addr, dst_addr, &ip),
             ip: ip.before(protocol_of(ip.version()), len),
+            dscp: 0,
             message: Message::Ndisc(value),
         }
     }
@@ -134,10 +139,31 @@ impl<'a> MessageFrame<'a> {
     /// does not fit; then `out` is unchanged.
     pub fn send(&self, out: &mut [u8]) -> Option<usize>
         requires { IsSendable self.now }
-        ensures { IsSent self.now out.old out.new result }
+        ensures sends { IsSent self.now out.old out.new result }
+        ensures marked { IfSome result (λ len. IsMarked self.now out.new) }
     {
         message_composes(self.header, self.ip);
-        self.try_emit(out)
+        match self.try_emit(out) {
+            Some(len) => {
+                self.mark(out);
+                Some(len)
+            }
+            None => None,
+        }
+    }
+
+    // Writes the DSCP into the emitted frame.
+    fn mark(&self, out: &mut [u8])
+        requires fits { self.now.dscp < 64 }
+        requires reads { IsReadWhole out.old self.now.header (values_of self.now) }
+        requires unmarked { HasClass (version_of self.now.ip) (drop 14 out.old) 0 }
+        ensures { IsFrameRemarked self.now out.old out.new }
+    {
+        if self.dscp == 0 {
+            return;
+        }
+        let (_, packet) = out.split_at_mut(ETHERNET_HEADER_LEN);
+        set_dscp(&self.ip, packet, self.dscp);
     }
 
     fn try_emit(&self, out: &mut [u8]) -> Option<usize>
@@ -175,11 +201,32 @@ impl Reply<'_> {
     /// does not fit; then `out` is unchanged.
     pub fn send(&self, out: &mut [u8]) -> Option<usize>
         requires { IsSendableReply self.now }
-        ensures { IsReplySent self.now out.old out.new result }
+        ensures sends { IsReplySent self.now out.old out.new result }
+        ensures marked { IfSome result (λ len. IsReplyMarked self.now out.new) }
     {
         match self {
             Reply::Frame(frame) => send(frame, out),
             Reply::Message(frame) => frame.send(out),
+        }
+    }
+}
+
+// Writes the DSCP of a packet with this header, in which DSCP and ECN are 0.
+fn set_dscp(ip: &IpRepr, packet: &mut [u8], dscp: u8)
+    requires fits { dscp < 64 }
+    requires reads { ReadsPacket all_checked packet.old ip.now }
+    requires unmarked { HasClass (version_of ip.now) packet.old 0 }
+    ensures { IsRemarked ip.now packet.old packet.new dscp }
+{
+    bytes_fit(packet);
+    match ip {
+        IpRepr::Ipv4(_) => {
+            let mut packet = Ipv4PacketMut::new_unchecked(packet);
+            packet.update_dscp(dscp);
+        }
+        IpRepr::Ipv6(_) => {
+            let mut packet = Ipv6PacketMut::new_unchecked(packet);
+            packet.set_traffic_class(4 * dscp);
         }
     }
 }

@@ -1,4 +1,5 @@
 use Rattle.std.proofs.Common.{refl}
+use Rattle.app_host.proofs.EchoDscp.{if-kept}
 use Rattle.app_host.proofs.HostOnce.{bytes-once}
 use Rattle.app_host.proofs.HostReplies.{answers, reply-sent}
 use Rattle.app_host.proofs.HostReplies as host_replies
@@ -9,8 +10,13 @@ pub returns-in-Some : goal.returns-in-Some
 returns-in-Some c =
     let host = c.args.host.now in
     let bytes = c.args.frame.now in
-    let s = reply-sent (RepliesBytes host bytes) c.in-Some.reply c.args.out.now c.send.new.out c.send.result c.in-Some.ensures c.send.ensures (bytes-once host bytes) in
-    record { sends = s; unread = host_replies.unanswered host bytes _ _ _ s; answers = answers host bytes _ _ _ s }
+    let s = reply-sent (RepliesBytes host bytes) c.in-Some.reply c.args.out.now c.send.new.out c.send.result c.in-Some.ensures.reply c.send.ensures.sends (bytes-once host bytes) in
+    record {
+      sends = s;
+      unread = host_replies.unanswered host bytes _ _ _ s;
+      answers = answers host bytes _ _ _ s;
+      dscp = if-kept c.send.result (c.in-Some.ensures.dscp c.send.new.out) c.send.ensures.marked;
+    }
 
 pub returns-in-None-clause-sends : goal.returns-in-None-clause-sends
-returns-in-None-clause-sends c = (refl, λ h d r. absurd (c.in-None.ensures h d r))
+returns-in-None-clause-sends c = (refl, λ h d r. absurd (c.in-None.ensures.reply h d r))

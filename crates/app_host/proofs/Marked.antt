@@ -1,0 +1,175 @@
+-- The DSCP is written into a packet in which it is 0.
+use Rattle.std.proofs.Common.{ℕ, ◌≡◌, ◌∙◌, ◌<◌, ◌≤◌, ◌+◌, ◌-◌, ◌*◌, ◌++◌, inl, inr, true, false, List, Some, append_assoc, drop, length, length-append, length-drop, slice_range, take, refl, sym, ap, subst, arith}
+use Rattle.std.specs.Prelude.{◌==◌, ◌||◌, not}
+use Rattle.std.proofs.lemmas.List.{drop-drop, length-take-le, take-append-drop}
+use Rattle.app_host.specs.Message.{HasClass, IsFrameRemarked, IsRemarked, IsSent, frame_bytes, message_bytes, message_len, values_of}
+use Rattle.app_host.specs.declared.message.MessageFrame.{MessageFrame}
+use Rattle.ip_wire.proofs.Cells.{cells-all}
+use Rattle.ip_wire.proofs.EthernetLayer.{drop-bytes_of}
+use Rattle.ip_wire.proofs.Spelled.{AreBytes}
+use Rattle.ip_wire.specs.Ethernet as ethernet
+use Rattle.ip_wire.specs.Field.{field, with_field}
+use Rattle.ip_wire.specs.Filled.{Fills}
+use Rattle.ip_wire.specs.Frame.{IsReadWhole, ReadsCarried, ReadsPacket, ReadsTransport, all_checked, other, packet}
+use Rattle.ip_wire.specs.Ip as ip
+use Rattle.ip_wire.specs.Ip.{header_len_of, version_of}
+use Rattle.ip_wire.specs.Ipv4 as ipv4
+use Rattle.ip_wire.specs.Ipv6 as ipv6
+use Rattle.ip_wire.specs.Types.{EthernetRepr, IpRepr, IpVersion, Ipv4, Ipv4Repr, Ipv6, Ipv6Repr}
+use Rattle.ip_wire.specs.declared.IpVersion.TheVariants as version
+use Rattle.wire_field.proofs.Following.{drop-with_field}
+use Rattle.wire_field.proofs.Written.{AreBytes-with_field, field_with_field_other, field_with_field_same, length_with_field}
+use Rattle.wire_ipv6.proofs.Ipv6Changed.{reads-unread}
+
+-- what is after the first k bytes follows from what is after fewer
+pub drop-later : (old new : List ℕ) (n k : ℕ) → n ≤ k → drop n new ≡ drop n old → drop k new ≡ drop k old
+drop-later old new n k after same =
+    let at : n + (k - n) ≡ k = omega (arith, after) in
+    let split : (xs : List ℕ) → drop (k - n) (drop n xs) ≡ drop k xs = λ xs. drop-drop (k - n) n xs ∙ ap (λ m. drop m xs) at in
+    sym (split new) ∙ ap (drop (k - n)) same ∙ split old
+
+-- ---- IPv4
+
+-- what a new DSCP and a new checksum leave of a header
+record IsIpv4Kept (old new : List ℕ) : Type 0 where
+  header : field new 4 4 ≡ field old 4 4
+  total : field new 16 16 ≡ field old 16 16
+  more : field new 50 1 ≡ field old 50 1
+  offset : field new 51 13 ≡ field old 51 13
+  ecn : field new 14 2 ≡ field old 14 2
+  rest : drop 20 new ≡ drop 20 old
+
+abbrev pub ipv4_marked : List ℕ → ℕ → ℕ → List ℕ
+ipv4_marked bytes n sum = with_field (with_field bytes 8 6 n) 80 16 sum
+
+ipv4-kept : (bytes : List ℕ) (n sum : ℕ) → AreBytes bytes → 20 ≤ length bytes → IsIpv4Kept bytes (ipv4_marked bytes n sum)
+ipv4-kept bytes n sum are room =
+    let inner = with_field bytes 8 6 n in
+    let fits : 8 + 6 ≤ 8 * length bytes = omega (arith, room) in
+    let long = length_with_field bytes 8 6 n (omega arith) fits in
+    let inner-are = AreBytes-with_field bytes 8 6 n are (omega arith) fits in
+    let outer : 80 + 16 ≤ 8 * length inner = omega (arith, long, room) in
+    let first : (at size : ℕ) → 0 < size → at + size ≤ 80 → field (with_field inner 80 16 sum) at size ≡ field inner at size = λ at size some before.
+    field_with_field_other inner 80 16 sum at size inner-are (omega arith) some outer (inl before) in
+    record {
+      header = first 4 4 (omega arith) (omega arith) ∙ field_with_field_other bytes 8 6 n 4 4 are (omega arith) (omega arith) fits (inl (omega arith));
+      total = first 16 16 (omega arith) (omega arith) ∙ field_with_field_other bytes 8 6 n 16 16 are (omega arith) (omega arith) fits (inr (omega arith));
+      more = first 50 1 (omega arith) (omega arith) ∙ field_with_field_other bytes 8 6 n 50 1 are (omega arith) (omega arith) fits (inr (omega arith));
+      offset = first 51 13 (omega arith) (omega arith) ∙ field_with_field_other bytes 8 6 n 51 13 are (omega arith) (omega arith) fits (inr (omega arith));
+      ecn = first 14 2 (omega arith) (omega arith) ∙ field_with_field_other bytes 8 6 n 14 2 are (omega arith) (omega arith) fits (inr (omega arith));
+      rest = drop-with_field inner 80 16 sum 20 (omega arith) (omega arith) (omega (arith, long, room)) ∙ drop-with_field bytes 8 6 n 20 (omega arith) (omega arith) room;
+    }
+
+ipv4-dscp : (bytes : List ℕ) (n sum : ℕ) → AreBytes bytes → 20 ≤ length bytes → n < 64 → field (ipv4_marked bytes n sum) 8 6 ≡ n
+ipv4-dscp bytes n sum are room small =
+    let fits : 8 + 6 ≤ 8 * length bytes = omega (arith, room) in
+    let long = length_with_field bytes 8 6 n (omega arith) fits in
+    let inner-are = AreBytes-with_field bytes 8 6 n are (omega arith) fits in
+    let written = field_with_field_same bytes 8 6 n are (omega arith) fits in
+    field_with_field_other (with_field bytes 8 6 n) 80 16 sum 8 6 inner-are (omega arith) (omega arith) (omega (arith, long, room)) (inl (omega arith)) ∙ omega (arith, written, small)
+
+pub remarked-ipv4 : (v : Ipv4Repr) (bytes new : List ℕ) (n sum : ℕ) → AreBytes bytes → n < 64 → ReadsPacket all_checked bytes (Ipv4 v) → HasClass version.Ipv4 bytes 0
+    → new ≡ ipv4_marked bytes n sum → ipv4.Reads new true v → IsRemarked (Ipv4 v) bytes new n
+remarked-ipv4 v bytes new n sum are small (r, whole) none is reads =
+    let room = r.lengths.least in
+    let k = subst (IsIpv4Kept bytes) (sym is) (ipv4-kept bytes n sum are room) in
+    let header = k.header in
+    let total = k.total in
+    let more = k.more in
+    let offset = k.offset in
+    record {
+      marked = record { marked = ap (λ b. field b 8 6) is ∙ ipv4-dscp bytes n sum are room small; unmarked_ecn = k.ecn ∙ none.unmarked_ecn };
+      reads = (reads, (λ i. (more i == 1) || not (8 * offset i == 0)) ∙ whole);
+      payload = (λ i. slice_range new (4 * header i) (total i))
+          ∙ ap (take (ipv4.total_len bytes - ipv4.header_len bytes)) (drop-later bytes new 20 (ipv4.header_len bytes) r.lengths.header k.rest);
+      rest = k.rest;
+    }
+
+-- ---- IPv6
+
+pub remarked-ipv6 : (v : Ipv6Repr) (bytes new : List ℕ) (n : ℕ) → AreBytes bytes → n < 64 → ipv6.Reads bytes v → new ≡ with_field bytes 4 8 (4 * n) → IsRemarked (Ipv6 v) bytes new n
+remarked-ipv6 v bytes new n are small r is =
+    let room : 40 ≤ length bytes = omega (arith, r.lengths) in
+    let fits : 4 + 8 ≤ 8 * length bytes = omega (arith, room) in
+    let written : field new 4 8 ≡ 4 * n = ap (λ b. field b 4 8) is ∙ field_with_field_same bytes 4 8 (4 * n) are (omega arith) fits ∙ omega (arith, small) in
+    let len : field new 32 16 ≡ field bytes 32 16 =
+    ap (λ b. field b 32 16) is ∙ field_with_field_other bytes 4 8 (4 * n) 32 16 are (omega arith) (omega arith) fits (inr (omega arith)) in
+    let rest : drop 40 new ≡ drop 40 bytes = ap (drop 40) is ∙ drop-with_field bytes 4 8 (4 * n) 40 (omega arith) (omega arith) room in
+    record {
+      marked = record { marked = omega (arith, written); unmarked_ecn = omega (arith, written) };
+      reads = subst (λ b. ipv6.Reads b v) (sym is) (reads-unread bytes 4 8 (4 * n) v are (omega arith) (omega arith) (omega arith) r);
+      payload = (λ i. slice_range new 40 (40 + len i)) ∙ ap (take (40 + field bytes 32 16 - 40)) rest;
+      rest = rest;
+    }
+
+-- the same of a header and of bytes that are equal
+pub remarked : (v w : IpRepr) (bytes new after : List ℕ) (n : ℕ) → w ≡ v → after ≡ new → IsRemarked v bytes new n → IsRemarked w bytes after n
+remarked v w bytes new after n is same m = subst (λ x. IsRemarked x bytes after n) (sym is) (subst (λ b. IsRemarked v bytes b n) (sym same) m)
+
+-- ---- frames
+
+-- the same Ethernet header, followed by another packet
+record IsLinkKept (old new : List ℕ) : Type 0 where
+  dst_addr : slice_range new 0 6 ≡ slice_range old 0 6
+  src_addr : slice_range new 6 12 ≡ slice_range old 6 12
+  ethertype : field new 96 16 ≡ field old 96 16
+
+link-kept : (front a b : List ℕ) → length front ≡ 14 → IsLinkKept (front ++ a) (front ++ b)
+link-kept front a b e =
+    subst (λ l. IsLinkKept (l ++ a) (l ++ b)) (sym (cells-all 14 front e)) (record { dst_addr = refl; src_addr = refl; ethertype = refl })
+
+packet-of : (front b : List ℕ) → length front ≡ 14 → drop 14 (front ++ b) ≡ b
+packet-of front b e = subst (λ l. drop 14 (l ++ b) ≡ b) (sym (cells-all 14 front e)) refl
+
+-- a frame whose packet got another DSCP
+pub remarked-frame : (f : MessageFrame) (old new part : List ℕ) → IsReadWhole old f.header (values_of f)
+    → new ≡ take 14 old ++ part → IsRemarked f.ip (drop 14 old) part f.dscp → IsFrameRemarked f old new
+remarked-frame f old new part r is m =
+    let v = f.ip in
+    let header = f.header in
+    let inner = other (message_bytes v f.message) in
+    let link = r.reads_header in
+    let (type, reads, transport) = r.reads_carried in
+    let front : length (take 14 old) ≡ 14 = length-take-le 14 old link.whole in
+    let s = subst (λ l. IsLinkKept l (take 14 old ++ part)) (take-append-drop 14 old) (link-kept (take 14 old) (drop 14 old) part front) in
+    let kept = subst (IsLinkKept old) (sym is) s in
+    let at : drop 14 new ≡ part = ap (drop 14) is ∙ packet-of (take 14 old) part front in
+    let later : (xs : List ℕ) → drop (header_len_of v) (drop 14 xs) ≡ drop (14 + header_len_of v) xs = λ xs. drop-drop (header_len_of v) 14 xs in
+    record {
+      marked = subst (λ b. HasClass (version_of v) b f.dscp) (sym at) m.marked;
+      reads = record {
+        reads_header = record {
+          whole = omega (arith, ap length is, length-append (take 14 old) part, front);
+          dst_addr = link.dst_addr ∙ sym kept.dst_addr;
+          src_addr = link.src_addr ∙ sym kept.src_addr;
+          ethertype = link.ethertype ∙ ap ethernet.protocol_of (sym kept.ethertype);
+        };
+        reads_carried = subst (λ b. ReadsCarried all_checked header.ethertype b (packet v inner)) (sym at)
+            (type, m.reads, subst (λ b. ReadsTransport all_checked v b inner) (sym m.payload) transport);
+      };
+      rest = sym (later new) ∙ ap (drop (header_len_of v)) at ∙ m.rest ∙ later old;
+    }
+
+-- ---- the emitted frame
+
+unmarked-header : (v : IpRepr) (rest : List ℕ) → HasClass (version_of v) (ip.bytes_of v true ++ rest) 0
+unmarked-header (Ipv4 v) rest = record { marked = refl; unmarked_ecn = refl }
+unmarked-header (Ipv6 v) rest = record { marked = refl; unmarked_ecn = refl }
+
+-- the emitted bytes of a frame have DSCP and ECN 0
+pub unmarked : (f : MessageFrame) (rest : List ℕ) → length f.header.dst_addr.0 ≡ 6 → length f.header.src_addr.0 ≡ 6 → HasClass (version_of f.ip) (drop 14 (frame_bytes f ++ rest)) 0
+unmarked f rest dst src =
+    let headers = ethernet.bytes_of f.header in
+    let packet = ip.bytes_of f.ip true ++ message_bytes f.ip f.message in
+    let joined : frame_bytes f ++ rest ≡ headers ++ (ip.bytes_of f.ip true ++ (message_bytes f.ip f.message ++ rest)) =
+    append_assoc headers packet rest ∙ ap (λ l. headers ++ l) (append_assoc (ip.bytes_of f.ip true) (message_bytes f.ip f.message) rest) in
+    subst (λ b. HasClass (version_of f.ip) b 0) (sym (ap (drop 14) joined ∙ drop-bytes_of f.header (ip.bytes_of f.ip true ++ (message_bytes f.ip f.message ++ rest)) dst src))
+    (unmarked-header f.ip (message_bytes f.ip f.message ++ rest))
+
+pub emitted-unmarked : (f : MessageFrame) (old new : List ℕ) (n : ℕ) → length f.header.dst_addr.0 ≡ 6 → length f.header.src_addr.0 ≡ 6
+    → Fills (frame_bytes f) (14 + (header_len_of f.ip + message_len f.message)) old new (Some n) → HasClass (version_of f.ip) (drop 14 new) 0
+emitted-unmarked f old new n dst src (len, fits, is) = subst (λ b. HasClass (version_of f.ip) (drop 14 b) 0) (sym is) (unmarked f (drop n old) dst src)
+
+-- a frame that was sent is sent with its DSCP too
+pub sent-marked : (f : MessageFrame) (old sent new : List ℕ) (n : ℕ) → IsSent f old sent (Some n) → IsFrameRemarked f sent new → IsSent f old new (Some n)
+sent-marked f old sent new n (len, fits, rest, reads) m = (len, fits, drop-later sent new (14 + header_len_of f.ip) n (omega (arith, len)) m.rest ∙ rest, m.reads)
