@@ -11,16 +11,16 @@ returns-in-Some c =
     let P = RepliesBytes c.args.host.now c.args.frame.now in
     let fits : SFits w64 c.write_reply.result = search rules in
     let wrote = subst (λ a. WritesReply P c.args.out.now c.write_reply.new.out a) (sym (to_z-of_z w64 c.write_reply.result fits))
-    (reply-given P c.in-Some.reply c.args.out.now c.write_reply.new.out c.write_reply.result c.in-Some.ensures c.write_reply.ensures) in
+    (reply-given P c.in-Some.reply c.args.out.now c.write_reply.new.out c.write_reply.result c.in-Some.ensures.reply c.write_reply.ensures) in
     record { answers = wrote; unread = unanswered c.args.host.now c.args.frame.now _ _ _ wrote }
 
 pub returns-in-None : goal.returns-in-None
 returns-in-None c =
-    let wrote = no-reply (RepliesBytes c.args.host.now c.args.frame.now) c.args.out.now c.in-None.ensures in
+    let wrote = no-reply (RepliesBytes c.args.host.now c.args.frame.now) c.args.out.now c.in-None.ensures.reply in
     record { answers = wrote; unread = unanswered c.args.host.now c.args.frame.now _ _ _ wrote }
 
 pub write_reply-requires-clause-sendable : goal.write_reply-requires-clause-sendable
-write_reply-requires-clause-sendable c = c.in-Some.ensures.0
+write_reply-requires-clause-sendable c = c.in-Some.ensures.reply.0
 
 pub write_reply-requires-clause-values : goal.write_reply-requires-clause-values
-write_reply-requires-clause-values c = let (sendable, (h, d, values, replies)) = c.in-Some.ensures in (h, d, values)
+write_reply-requires-clause-values c = let (sendable, (h, d, values, replies)) = c.in-Some.ensures.reply in (h, d, values)
