@@ -17,8 +17,8 @@ use Rattle.app_host.specs.Source.{IsHostAddr, IsInvalidSource}
 use Rattle.app_host.specs.declared.interface.Interface.{Interface}
 
 -- Pinned by: proof of `error`
--- whether the number names an extension header of IPv6 (RFC 7045, section 4), other than the encapsulating security
--- payload, whose payload is encrypted
+-- whether the number names an extension header of IPv6 (RFC 7045, section 4), but not the encapsulating security payload
+-- (50), whose payload is encrypted, nor the numbers for experiments (253 and 254)
 abbrev pub is_extension_header : ℕ → Bool
 is_extension_header n = n == 0 || n == 43 || n == 44 || n == 51 || n == 60 || n == 135 || n == 139 || n == 140
 

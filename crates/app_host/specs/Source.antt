@@ -30,7 +30,7 @@ IsThisHost (Ipv4 bytes) = IsIn ipv4_this_network bytes ⊎ IsIn ipv4_loopback by
 IsThisHost (Ipv6 bytes) = (bytes ≡ ipv6_unspecified) ⊎ (bytes ≡ ipv6_loopback)
 
 -- Pinned by: too wide: `calls/host`
--- an address that no host has: multicast, reserved (RFC 1122, section 3.2.1.3) or IPv4-mapped (RFC 4291, section 2.5.5.2)
+-- an address that no host has: multicast, reserved (RFC 1122, section 3.2.1.3) or IPv4-mapped (RFC 6890, section 2.2.3)
 abbrev pub IsNoHost : IpAddress → Type 0
 IsNoHost (Ipv4 bytes) = IsIn ipv4_multicast bytes ⊎ IsIn ipv4_reserved bytes
 IsNoHost (Ipv6 bytes) = IsIn ipv6_multicast bytes ⊎ IsIn ipv6_mapped bytes

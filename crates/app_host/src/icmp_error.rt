@@ -87,7 +87,7 @@ fn is_beginning(header: &IpRepr, packet: &[u8]) -> bool
 }
 
 // Whether the protocol is an extension header of IPv6 (RFC 7045, section 4), but not the encapsulating
-// security payload.
+// security payload or a number for experiments.
 fn is_extension_header(protocol: IpProtocol) -> bool
     ensures { result ≡ is_extension_header (number_of protocol) }
 {
