@@ -1055,8 +1055,8 @@ struct lk_mapping {
 /* Translate the source of a packet that leaves, and the destination of a packet that comes in, in place, as
  * lk_translate does. `mappings` are LK_MAPPINGS(ports), zeros at first, for this many outside ports from `first_port`
  * on. There are `count / LK_MAPPINGS(1)` outside ports, but none above 65535: mappings of higher ports are not used.
- * The table has three parts of `count / LK_MAPPINGS(1)` mappings, for UDP, TCP and ICMP; in each the mapping of port
- * `first_port + n` is number `n`.
+ * The mapping of a port is mappings[protocol * ports + (port - first_port)]: `ports` is `count / LK_MAPPINGS(1)`, and
+ * `protocol` is 0 for UDP, 1 for TCP and 2 for ICMP.
  * The identifier of an echo counts as its port. `now` is a clock in milliseconds that never goes back.
  *
  *     enum { FIRST_PORT = 1024, COUNT = LK_MAPPINGS(65536 - FIRST_PORT) };
@@ -1074,9 +1074,10 @@ struct lk_mapping {
  *   are not among them.
  * - A mapping belongs to one inside endpoint, whatever the remote endpoints are (RFC 4787, REQ-1). What any remote
  *   endpoint sends to its outside port comes in (REQ-8).
- * - An endpoint without a live mapping gets a new one: for its own port if that is free, else for the first free port
- *   of 63 in a row, which follow from the key and the endpoint, or of all ports if there are fewer. LK_NO_FREE_PORT:
- *   all of these have live mappings.
+ * - An endpoint without a live mapping gets a new one. Its port is its own port if free, else the first free one of 63
+ *   candidates in a row, chosen by a keyed hash of the endpoint. With fewer outside ports all are candidates.
+ *   LK_NO_FREE_PORT: none of these is free.
+ * - One inside host can take every port. A program limits the mappings of each host, as `nat -m` of examples/ does.
  * - A mapping is live until its time-out has passed since the last packet of its inside endpoint. Packets that come in
  *   do not keep it alive (REQ-6).
  * - A TCP mapping has `tcp_transitory_timeout` after its inside endpoint sent SYN, FIN or RST, and `tcp_timeout` after
