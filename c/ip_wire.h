@@ -841,13 +841,15 @@ enum lk_rejection {
     LK_WRONG_CHECKSUM, /* of the IPv4 header */
     LK_EXPIRED,        /* the hop limit is 0 or 1 */
     LK_FRAGMENT,       /* NAT: the packet is a fragment */
-    LK_OTHER_PROTOCOL, /* NAT: the packet carries neither UDP nor TCP, nor an ICMP message that is translated */
-    LK_BAD_TRANSPORT,  /* NAT: the UDP or TCP header is rejected (lk_reason), or the checksum is wrong or left to the
-                        * device, also of ICMP; an ICMP error quotes less than an IPv4 header and 8 bytes */
+    LK_OTHER_PROTOCOL, /* NAT: the packet carries neither UDP nor TCP, nor an ICMP message that is translated, by its
+                        * type and code */
+    LK_BAD_TRANSPORT,  /* NAT: the UDP or TCP header is rejected (lk_reason), an ICMP message has fewer than 8 bytes,
+                        * or the checksum is wrong or left to the device; an ICMP error quotes less than an IPv4
+                        * header and 8 bytes */
     LK_ZERO_PORT,      /* NAT: the port to be written is 0, and a receiver would reject the packet; lk_translate_out:
                         * the source port is 0, so that no answer could come back */
-    LK_NO_MAPPING,     /* lk_translate_in: no live mapping has this outside address and port; also of a packet that an
-                        * ICMP error quotes; an echo request that comes in, or an echo reply that leaves */
+    LK_NO_MAPPING,     /* lk_translate_in: no live mapping has this outside address and port; an echo request that
+                        * comes in, or an echo reply that leaves; an ICMP error about another packet */
     LK_NO_FREE_PORT,   /* lk_translate_out: no outside port is free for this endpoint */
     LK_MARTIAN,        /* lk_check_source: no host may send from this address */
     LK_NO_ROUTE,       /* lk_check_source: there is no route back */
@@ -872,7 +874,8 @@ enum lk_side { LK_SOURCE, LK_DESTINATION };
 /* Writes an IPv4 address and a port into the UDP or TCP packet of an Ethernet frame, in place (RFC 3022), and updates
  * the checksums, as lk_update_.. do. A UDP checksum of 0 stays 0. Any `side` but 0 is the destination. The identifier
  * of an ICMP echo message counts as its port on either side, and may be 0. Its checksum is computed anew. Other ICMP
- * messages get LK_OTHER_PROTOCOL. A checksum of LK_LEFT_TO_DEVICE gets LK_BAD_TRANSPORT: call lk_fill_checksum before.
+ * messages get LK_OTHER_PROTOCOL, whatever their length and checksum are. Type and code count as 0 if they are missing.
+ * A checksum of LK_LEFT_TO_DEVICE gets LK_BAD_TRANSPORT: call lk_fill_checksum before.
  *
  * Returns LK_NOT_REJECTED, or a rejection from LK_NO_IPV4 to LK_ZERO_PORT, but not LK_EXPIRED; then the frame is
  * unchanged. The source port of UDP may be 0 (RFC 768), so that it gets no LK_ZERO_PORT. */
@@ -1094,7 +1097,7 @@ struct lk_mapping {
  *   there (RFC 5508, section 4). One that comes in quotes a packet of a live mapping, from its outside port; one that
  *   leaves quotes a packet to the inside endpoint of a live mapping. All checksums are updated; one in the quoted
  *   packet may be wrong, and stays wrong then. An error neither restarts a time-out nor ends a connection. Errors about
- *   other packets get LK_NO_MAPPING. */
+ *   other packets get LK_NO_MAPPING, also about later fragments, other protocols and other ICMP messages. */
 int lk_translate_out(const struct lk_nat *nat, struct lk_mapping *mappings, size_t count, uint64_t now, uint8_t *frame,
                      size_t len);
 int lk_translate_in(const struct lk_nat *nat, struct lk_mapping *mappings, size_t count, uint64_t now, uint8_t *frame,

@@ -101,6 +101,16 @@ static void translate_by_anything(void)
     end_call(1, lk_translate_in(&nat, placed, mapping_count, now, room(made.octets, made.len), made.len) >= 0);
 }
 
+/* Another packet: a later fragment, another protocol, or another ICMP message. */
+static void make_other(struct kept *kept)
+{
+    switch (below(3)) {
+    case 0: kept->octets[7]++; break;
+    case 1: kept->octets[9] = 47; break;
+    default: kept->octets[4 * (kept->octets[0] & 15)] ^= 8; break;
+    }
+}
+
 /* Makes an ICMP error about a packet that was translated: from a host, or to the outside address. Some routers lower the
  * hop limit in what they quote, and leave the checksum of the header. */
 static void make_error(struct kept kept, int is_in)
@@ -115,6 +125,8 @@ static void make_error(struct kept kept, int is_in)
     ip.hop_limit = 9;
     if (one_in(4))
         kept.octets[8]--;
+    if (one_in(8))
+        make_other(&kept);
     put_word(made.octets + 12, 0x0800);
     at = 14 + put_ip(&ip, &src, &dst, 1, 8 + len, 1, made.octets + 14);
     at += put_icmp(&icmp, &src, &dst, kept.octets, len, 1, made.octets + at);

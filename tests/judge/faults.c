@@ -30,6 +30,7 @@ __attribute__((constructor)) static void choose(void)
         "LK_ROUTE_MISSING for LK_NEIGHBOUR_MISSING", "an ICMP mapping with the time-out of UDP",
         "an echo identifier of 0 rejected",
         "an error rejected for a quoted checksum",
+        "LK_BAD_TRANSPORT for an ICMP message that is not translated", "LK_BAD_TRANSPORT for an error about GRE",
         "the segment size of a SYN and ACK left",
         "an advertisement that is never of a router",
         "no failure for a frame that is too long",

@@ -44,6 +44,10 @@ int __wrap_lk_forward(uint8_t *frame, size_t len, const uint8_t *src, const uint
 int __wrap_lk_translate(uint8_t *frame, size_t len, int side, const struct lk_endpoint *end)
 {
     int result = __real_lk_translate(frame, len, fault == SIDE_OF_ONE_BYTE ? side & 0xff : side, end);
+    struct lk_frame f;
+    lk_read_frame(frame, len, &f);
+    if (fault == CHECKSUM_BEFORE_TYPE && result == LK_OTHER_PROTOCOL && f.transport_checksum == LK_WRONG)
+        return LK_BAD_TRANSPORT;
     if (fault == ECHO_OF_0_REJECTED && result == LK_NOT_REJECTED && end->port == 0 && frame[23] == 1)
         return LK_ZERO_PORT;
     return result;
@@ -196,6 +200,9 @@ int __wrap_lk_translate_in(const struct lk_nat *nat, struct lk_mapping *mappings
         memcpy(frame + f.payload_offset, before + f.payload_offset, f.payload_len);
     if (fault == QUOTED_CHECKSUM_VERIFIED && result == LK_NOT_REJECTED && f.transport == LK_ICMP && f.icmp.type != 0 &&
         lk_checksum(before + f.payload_offset, 4u * (before[f.payload_offset] & 15)) != 0xffff)
+        return LK_BAD_TRANSPORT;
+    if (fault == OTHER_QUOTED_AS_BAD && result == LK_NO_MAPPING && f.transport == LK_ICMP && f.icmp.type != 0 &&
+        f.icmp.type != 8 && before[f.payload_offset + 9] == 47)
         return LK_BAD_TRANSPORT;
     if (fault == KEPT_ALIVE_BY_INBOUND && result == LK_NOT_REJECTED && f.transport == LK_UDP)
         mapping->expires = now + nat->udp_timeout;

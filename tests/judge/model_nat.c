@@ -155,13 +155,14 @@ struct quoted {
     struct lk_endpoint end;
 };
 
-/* At least the IPv4 header and 8 bytes, no later fragment, and of ICMP an echo message whose identifier the host on
- * this side chose. The checksum of the header may be wrong: some routers lower the hop limit and leave it. */
+/* At least the IPv4 header and 8 bytes; then no later fragment, and of ICMP an echo message whose identifier the host
+ * on this side chose. The checksum of the header may be wrong: some routers lower the hop limit and leave it. */
 static int find_quoted(uint8_t *ptr, size_t len, int side, struct quoted *quoted)
 {
     size_t header_len = len == 0 ? 0 : 4u * (ptr[0] & 15);
-    if (len == 0 || ptr[0] >> 4 != 4 || header_len < 20 || header_len + 8 > len || (get_word(ptr + 6) & 0x1fff) != 0)
-        return 0;
+    int has_port;
+    if (len == 0 || ptr[0] >> 4 != 4 || header_len < 20 || header_len + 8 > len)
+        return LK_BAD_TRANSPORT;
     quoted->header = ptr;
     quoted->rest = ptr + header_len;
     quoted->known = len - header_len;
@@ -172,7 +173,8 @@ static int find_quoted(uint8_t *ptr, size_t len, int side, struct quoted *quoted
     quoted->end.addr.version = 4;
     memcpy(quoted->end.addr.octets, ptr + (side == LK_SOURCE ? 12 : 16), 4);
     quoted->end.port = (uint16_t)get_word(quoted->port_at);
-    return ptr[9] == 6 || ptr[9] == 17 || (ptr[9] == 1 && quoted->rest[0] == (side == LK_SOURCE ? 8 : 0));
+    has_port = ptr[9] == 6 || ptr[9] == 17 || (ptr[9] == 1 && quoted->rest[0] == (side == LK_SOURCE ? 8 : 0));
+    return has_port && (get_word(ptr + 6) & 0x1fff) == 0 ? LK_NOT_REJECTED : LK_NO_MAPPING;
 }
 
 static int error_rejection(uint8_t *octets, const struct lk_frame *frame, int side, struct quoted *quoted)
@@ -180,8 +182,9 @@ static int error_rejection(uint8_t *octets, const struct lk_frame *frame, int si
     unsigned type = frame->icmp.type;
     if (frame->ip.protocol != 1 || (type != 3 && type != 11 && type != 12))
         return LK_OTHER_PROTOCOL;
-    return find_quoted(octets + frame->payload_offset, frame->payload_len, side, quoted) ? LK_NOT_REJECTED
-                                                                                          : LK_BAD_TRANSPORT;
+    if (frame->transport_checksum != LK_RIGHT)
+        return LK_BAD_TRANSPORT;
+    return find_quoted(octets + frame->payload_offset, frame->payload_len, side, quoted);
 }
 
 static void write_quoted(const struct quoted *quoted, const struct lk_endpoint *end)

@@ -15,13 +15,19 @@ static int network_rejection(const uint8_t *octets, size_t len, struct lk_frame 
     return frame->ipv4_checksum == LK_WRONG ? LK_WRONG_CHECKSUM : LK_NOT_REJECTED;
 }
 
-/* The identifier of an echo message is its port on either side (RFC 5508, section 3.1). */
-static int icmp_rejection(struct lk_frame *frame)
+/* A message of fewer than 8 bytes is payload. Its type and code are stored all the same, as far as they are there. The
+ * identifier of an echo message is its port on either side (RFC 5508, section 3.1). */
+static int icmp_rejection(const uint8_t *octets, struct lk_frame *frame)
 {
-    if (frame->transport_checksum != LK_RIGHT)
-        return LK_BAD_TRANSPORT;
+    int is_short = frame->transport != LK_ICMP;
+    if (is_short && frame->payload_len > 0)
+        frame->icmp.type = octets[frame->payload_offset];
+    if (is_short && frame->payload_len > 1)
+        frame->icmp.code = octets[frame->payload_offset + 1];
     if ((frame->icmp.type != 8 && frame->icmp.type != 0) || frame->icmp.code != 0)
         return LK_OTHER_PROTOCOL;
+    if (is_short || frame->transport_checksum != LK_RIGHT)
+        return LK_BAD_TRANSPORT;
     frame->src.port = frame->dst.port = (uint16_t)(frame->icmp.word >> 16);
     return LK_NOT_REJECTED;
 }
@@ -36,7 +42,7 @@ int nat_rejection(const uint8_t *octets, size_t len, struct lk_frame *frame)
     if (frame->is_fragment)
         return LK_FRAGMENT;
     if (frame->ip.protocol == 1)
-        return icmp_rejection(frame);
+        return icmp_rejection(octets, frame);
     if (frame->ip.protocol != 6 && frame->ip.protocol != 17)
         return LK_OTHER_PROTOCOL;
     if (frame->reason != LK_READ || (frame->transport_checksum != LK_RIGHT && frame->transport_checksum != LK_LEFT_OUT))

@@ -4,13 +4,16 @@
 /* What is translated: the inside and the outside endpoint of the frames. */
 static const struct lk_endpoint inside = {{{192, 0, 2, 1}, 4}, 46563}, outside = {{{203, 0, 113, 9}, 4}, 40000};
 
-/* Frames that are not translated, with the first reason of the list. */
-static const struct {
+/* A frame that is not translated, with the first reason of the list that applies. */
+struct rejected {
     const struct octets *frame;
     size_t len;
     struct change changes[CHANGES];
     int rejection;
-} not_translated[] = {
+};
+
+/* Every call rejects these. */
+static const struct rejected not_translated[] = {
     {&query, 13, {{0, 0}}, LK_NOT_IP},
     {&router_solicit, 70, {{0, 0}}, LK_NOT_IP},
     {&query, 46, {{13, 0x06}}, LK_NOT_IP},
@@ -18,6 +21,7 @@ static const struct {
     {&query, 46, {{14, 0x65}}, LK_BAD_HEADER},
     {&fragment_of_options, 50, {{24, 0}}, LK_WRONG_CHECKSUM},
     {&fragment_of_options, 50, {{0, 0}}, LK_FRAGMENT},
+    {&fragment_of_options, 50, {{23, 0x10}, {25, 0xb8}}, LK_FRAGMENT}, /* of another protocol */
     {&query, 46, {{23, 0x10}, {25, 0xd5}}, LK_OTHER_PROTOCOL},
     {&query, 46, {{39, 0x07}}, LK_BAD_TRANSPORT},
     {&query, 46, {{36, 0}, {37, 0}, {40, 0xe7}, {41, 0x1d}}, LK_BAD_TRANSPORT},
@@ -25,7 +29,48 @@ static const struct {
     {&query, 46, {{40, 0x84}, {41, 0x21}}, LK_BAD_TRANSPORT}, /* checksum offload */
     {&syn, 74, {{47, 0x03}}, LK_BAD_TRANSPORT},
     {&syn, 74, {{73, 0x0b}}, LK_BAD_TRANSPORT},
+    {&query, 46, {{34, 0}, {35, 0}}, LK_BAD_TRANSPORT}, /* a wrong checksum, and from port 0 */
+    /* A timestamp, and an echo with a code, each with a wrong checksum. Then messages of 7, 1 and 2 bytes. */
+    {&nat_request, 47, {{34, 0x0d}}, LK_OTHER_PROTOCOL},
+    {&nat_request, 47, {{35, 0x01}}, LK_OTHER_PROTOCOL},
+    {&nat_request, 47, {{17, 0x1b}, {25, 0x9d}, {34, 0x0d}}, LK_OTHER_PROTOCOL},
+    {&nat_request, 47, {{17, 0x15}, {25, 0xa3}, {34, 0x0d}}, LK_OTHER_PROTOCOL},
+    {&nat_request, 47, {{17, 0x16}, {25, 0xa2}, {35, 0x01}}, LK_OTHER_PROTOCOL},
+    /* An echo with a wrong checksum, and echoes of 7, 1 and 0 bytes. */
+    {&nat_request, 47, {{36, 0x43}}, LK_BAD_TRANSPORT},
+    {&nat_request, 47, {{17, 0x1b}, {25, 0x9d}, {37, 0x1c}}, LK_BAD_TRANSPORT},
+    {&nat_request, 47, {{17, 0x15}, {25, 0xa3}}, LK_BAD_TRANSPORT},
+    {&nat_request, 47, {{17, 0x14}, {25, 0xa4}}, LK_BAD_TRANSPORT},
 };
+
+/* ICMP errors for the outside address. The echo request that the unchanged one quotes has a mapping. */
+static const struct rejected not_let_in[] = {
+    {&nat_error_in, 70, {{34, 0x05}, {36, 0xfa}}, LK_OTHER_PROTOCOL}, /* a redirect */
+    {&nat_error_in, 70, {{34, 0x05}}, LK_OTHER_PROTOCOL},             /* with a wrong checksum */
+    {&nat_error_in, 70, {{37, 0xd1}}, LK_BAD_TRANSPORT},
+    {&nat_error_in, 70, {{17, 0x1b}, {25, 0x98}, {37, 0xff}}, LK_BAD_TRANSPORT}, /* of 7 bytes */
+    /* It quotes 7 bytes after the header, IPv6, and a header of 16 and of 24 bytes. */
+    {&nat_error_in, 70, {{17, 0x37}, {25, 0x7c}, {37, 0xd1}}, LK_BAD_TRANSPORT},
+    {&nat_error_in, 70, {{36, 0xd4}, {42, 0x65}}, LK_BAD_TRANSPORT},
+    {&nat_error_in, 70, {{36, 0xf5}, {42, 0x44}}, LK_BAD_TRANSPORT},
+    {&nat_error_in, 70, {{36, 0xf3}, {42, 0x46}}, LK_BAD_TRANSPORT},
+    /* It quotes GRE: with a wrong checksum, in 7 bytes after the header, and neither. */
+    {&nat_error_in, 70, {{51, 0x2f}}, LK_BAD_TRANSPORT},
+    {&nat_error_in, 70, {{17, 0x37}, {25, 0x7c}, {37, 0xa3}, {51, 0x2f}}, LK_BAD_TRANSPORT},
+    {&nat_error_in, 70, {{37, 0xa2}, {51, 0x2f}}, LK_NO_MAPPING},
+    {&nat_error_in, 70, {{37, 0xcf}, {49, 0x01}}, LK_NO_MAPPING}, /* a later fragment */
+    {&nat_error_in, 70, {{36, 0xfc}, {62, 0x00}}, LK_NO_MAPPING}, /* an echo reply */
+    {&nat_error_in, 70, {{25, 0x7a}, {33, 0x0a}}, LK_NO_MAPPING}, /* for another address */
+};
+
+/* ICMP errors of an inside host. The UDP packet that the unchanged one quotes has a mapping. */
+static const struct rejected not_let_out[] = {
+    {&nat_error_of_inside, 74, {{37, 0x38}, {51, 0x2f}}, LK_NO_MAPPING},                         /* GRE */
+    {&nat_error_of_inside, 74, {{37, 0x55}, {49, 0x01}}, LK_NO_MAPPING},                         /* a later fragment */
+    {&nat_error_of_inside, 74, {{36, 0xf5}, {37, 0x66}, {51, 0x01}, {62, 0x08}}, LK_NO_MAPPING}, /* an echo request */
+};
+
+#define ROWS(table) (sizeof(table) / sizeof *(table))
 
 /* ---- NAT of one packet ---- */
 
@@ -73,7 +118,7 @@ static void translate_ports_of_0(void)
 
 static void translate_rejects(void)
 {
-    for (size_t i = 0; i < sizeof not_translated / sizeof not_translated[0]; i++) {
+    for (size_t i = 0; i < ROWS(not_translated); i++) {
         const struct octets before = cut(not_translated[i].frame, not_translated[i].len, not_translated[i].changes);
         struct octets frame = before;
         CHECK_ROW(i, translate(&frame, LK_SOURCE, &outside) == not_translated[i].rejection);
@@ -205,12 +250,15 @@ static void translate_by_table_rejects(void)
     const struct octets no_source = changed(changed(changed(changed(query, 34, 0), 35, 0), 40, 0), 41, 0);
     struct octets frame;
     begin_nat();
-    for (size_t i = 0; i < sizeof not_translated / sizeof not_translated[0]; i++) {
+    for (size_t i = 0; i < ROWS(not_translated); i++) {
         const struct octets before = cut(not_translated[i].frame, not_translated[i].len, not_translated[i].changes);
         CHECK_ROW(i, goes_out(0, &before, &frame) == not_translated[i].rejection && is_now(&frame, &before));
         CHECK_ROW(i, comes_in(0, &before, &frame) == not_translated[i].rejection && is_now(&frame, &before));
     }
     CHECK(goes_out(0, &no_source, &frame) == LK_ZERO_PORT);
+    CHECK(both_translate_out(&nat, 0, 0, 0, frame.at, frame.len) == LK_ZERO_PORT);
+    CHECK(goes_out(0, &nat_reply_in, &frame) == LK_NO_MAPPING);
+    CHECK(both_translate_out(&nat, 0, 0, 0, frame.at, frame.len) == LK_NO_MAPPING);
     CHECK(comes_in(0, &query, &frame) == LK_NO_MAPPING); /* for another address */
     frame = query;
     CHECK(both_translate_out(&nat, 0, 0, 0, frame.at, frame.len) == LK_NO_FREE_PORT);
@@ -254,8 +302,6 @@ static void translate_echoes(void)
 
 static void translate_errors_out(void)
 {
-    const struct octets wrong = changed(nat_error_in, 37, nat_error_in.at[37] ^ 1);
-    const struct octets redirect = changed(changed(nat_error_in, 34, 5), 36, (uint8_t)(nat_error_in.at[36] + 6));
     struct octets translated;
     begin_nat();
     CHECK(goes_out(0, &nat_error_of_inside, &translated) == LK_NO_MAPPING);
@@ -263,8 +309,21 @@ static void translate_errors_out(void)
     CHECK(goes_out(0, &nat_udp, &translated) == 0 && source_port(&translated) == 39999);
     GOES_OUT(1, nat_error_of_inside, nat_error_out);
     STAYS_OUT(2, expired, LK_NO_MAPPING);
-    STAYS_OUT(2, wrong, LK_BAD_TRANSPORT);
-    STAYS_OUT(2, redirect, LK_OTHER_PROTOCOL);
+}
+
+static void translate_no_other_errors(void)
+{
+    struct octets translated;
+    begin_nat();
+    CHECK(goes_out(0, &nat_request, &translated) == 0 && goes_out(0, &nat_udp, &translated) == 0);
+    for (size_t i = 0; i < ROWS(not_let_in); i++) {
+        const struct octets error = cut(not_let_in[i].frame, not_let_in[i].len, not_let_in[i].changes);
+        CHECK_ROW(i, comes_in(1, &error, &translated) == not_let_in[i].rejection && is_now(&translated, &error));
+    }
+    for (size_t i = 0; i < ROWS(not_let_out); i++) {
+        const struct octets error = cut(not_let_out[i].frame, not_let_out[i].len, not_let_out[i].changes);
+        CHECK_ROW(i, goes_out(1, &error, &translated) == not_let_out[i].rejection && is_now(&translated, &error));
+    }
 }
 
 static void translate_one_echo(void)
@@ -277,6 +336,8 @@ static void translate_one_echo(void)
     CHECK(translate(&frame, LK_SOURCE, &end) == 0 && frame.at[38] == 0 && frame.at[39] == 0);
     frame = nat_error_in;
     CHECK(translate(&frame, LK_DESTINATION, &outside) == LK_OTHER_PROTOCOL && is_now(&frame, &nat_error_in));
+    frame.at[37]++; /* a wrong checksum */
+    CHECK(translate(&frame, LK_DESTINATION, &outside) == LK_OTHER_PROTOCOL);
 }
 
 void worked_nat(void)
@@ -290,5 +351,6 @@ void worked_nat(void)
     translate_by_table_rejects();
     translate_echoes();
     translate_errors_out();
+    translate_no_other_errors();
     translate_one_echo();
 }

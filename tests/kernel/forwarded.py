@@ -205,7 +205,7 @@ def has_ports(packet):
         return "LK_FRAGMENT"
     if packet.protocol not in (UDP, TCP, ICMP):
         return "LK_OTHER_PROTOCOL"
-    if packet.protocol == ICMP and is_valid(packet) and not is_icmp_error(packet) and packet.payload[:2] not in (b"\0\0", b"\x08\0"):
+    if packet.protocol == ICMP and not is_icmp_error(packet) and packet.payload[:2].ljust(2, b"\0") not in (b"\0\0", b"\x08\0"):
         return "LK_OTHER_PROTOCOL"
     return None if is_valid(packet) else "LK_BAD_TRANSPORT"
 
@@ -268,13 +268,17 @@ def translated(frame, side, addr, port):
 # ---- the packet that an ICMP error quotes (RFC 5508, section 4)
 
 
-def quoted_end(packet, side):
-    """The protocol, address and port of the quoted packet on this side, or None if it cannot be translated."""
+def quotes_enough(packet):
+    """Whether an ICMP error quotes an IPv4 header and 8 bytes after it."""
     quoted = packet.payload[8:]
     header_len = quoted[0] % 16 * 4 if quoted else 0
-    if not quoted or quoted[0] >> 4 != 4 or header_len < 20 or len(quoted) < header_len + 8:
-        return None
-    protocol, body = quoted[9], quoted[header_len:]
+    return header_len >= 20 and quoted[0] >> 4 == 4 and len(quoted) >= header_len + 8
+
+
+def quoted_end(packet, side):
+    """The protocol, address and port of the quoted packet on this side, or None if it has no port there."""
+    quoted = packet.payload[8:]
+    protocol, body = quoted[9], quoted[quoted[0] % 16 * 4 :]
     is_known = protocol in (UDP, TCP) or (protocol == ICMP and body[0] == (8 if side == SOURCE else 0))
     if number(quoted[6:8]) & 0x1FFF or not is_known:
         return None

@@ -17,8 +17,8 @@ import time
 import packets
 import icmp
 from dice import ANY as random
-from forwarded import (DESTINATION, ICMP, SOURCE, Packet, Router, has_ports, is_icmp_error, port_at, port_of, quoted_end, translated,
-                       with_header_checksum, with_quoted)
+from forwarded import (DESTINATION, ICMP, SOURCE, Packet, Router, has_ports, is_icmp_error, port_at, port_of, quoted_end, quotes_enough,
+                       translated, with_header_checksum, with_quoted)
 from client import check, echoed, report, tcp_at_once, tcp_turns, udp_lengths
 from links import ELSEWHERE, SELF, Here, Namespace, Program, WideSide, no_errors, settle, udp_echo
 from router import (ARP, CLAMP, compare_counters, compare_sides, longest_handed, longer_hosts, make_pairs, random_frames,
@@ -104,9 +104,11 @@ class Nat(Router):
 
     def error_passes(self, frame, packet, side):
         """An ICMP error that comes in quotes the source of a mapping, and one that leaves quotes a destination inside."""
+        if not quotes_enough(packet):
+            return "LK_BAD_TRANSPORT", None
         end = quoted_end(packet, side)
         if end is None:
-            return "LK_BAD_TRANSPORT", None
+            return "LK_NO_MAPPING", None
         if side == DESTINATION:
             port = self.ports.get(end)
             return ("LK_NO_MAPPING", None) if port is None else (None, with_quoted(frame, side, self.outside.packed, port))

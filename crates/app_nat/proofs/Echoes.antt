@@ -1,16 +1,21 @@
 -- What ICMP messages parse as, also with another identifier, and that a packet carries one transport.
-use Rattle.std.proofs.Common.{ℕ, ◌≡◌, ◌∙◌, ◌&&◌, ◌↔◌, ◌/◌, ◌%◌, ◌==◌, if◌then◌else◌, Bool, true, false, List, Option, Some, None, Result, Ok, refl, sym, ap, arith}
+use Rattle.std.proofs.Common.{ℕ, ◌≡◌, ◌∙◌, ◌⊎◌, ◌&&◌, ◌≤◌, ◌/◌, ◌%◌, ◌==◌, not, is_some, if◌then◌else◌, inl, inr, Bool, true, false, List, Option, Some, None, length, refl, sym, ap, arith}
+use Rattle.std.proofs.lemmas.Bool.Decides.{nat_tests}
+use Rattle.std.proofs.lemmas.Option.{same_Some}
 use Rattle.ip_wire.proofs.ReadsOnce.{transport-once}
 use Rattle.ip_wire.proofs.Spelled.{AreBytes}
 use Rattle.ip_wire.specs.Field.{field}
 use Rattle.ip_wire.specs.Frame as whole
 use Rattle.ip_wire.specs.Frame.{ReadsTransport, all_checked}
-use Rattle.ip_wire.specs.Types.{Error, Ipv4, Ipv4Repr}
+use Rattle.ip_wire.specs.Types.{Ipv4, Ipv4Repr}
 use Rattle.ip_wire.specs.WordSum.{sum_of_bytes}
 use Rattle.ip_wire.specs.declared.IpAddress.TheVariants as address
 use Rattle.ip_wire.specs.declared.IpProtocol.TheVariants as protocol
 use Rattle.app_nat.proofs.EchoEnds.{IsIdentified}
-use Rattle.app_nat.specs.Nat.{ReadsMessage, ReadsPorts, Rewrites, Transport, datagram, reply, request, segment, with_addr}
+use Rattle.app_nat.specs.Nat.{Describes, ReadsMessage, ReadsPorts, Rewrites, Transport, datagram, echo_kind, reply, request, segment, with_addr}
+use Rattle.app_nat.specs.declared.packet.Kind.{Kind}
+use Rattle.app_nat.specs.declared.packet.Kind.TheVariants as kind
+use Rattle.app_nat.specs.declared.packet.Packet.{Packet}
 use Rattle.app_nat.specs.declared.translation.Side.{Side}
 use Rattle.app_nat.specs.declared.translation.Side.TheVariants.{Source, Destination}
 use Rattle.ip_wire.specs.declared.IpVersion.TheVariants as version
@@ -190,10 +195,71 @@ plain-other v bytes named = (
   refl,
 )
 
--- an echo message that was parsed, with its checksum
-pub read-message : (v : Ipv4Repr) (bytes : List ℕ) (answer : Result IcmpRepr Error) (m : IcmpRepr) → v.next_header ≡ protocol.Icmp → sum_of_bytes bytes ≡ 65535
-    → ((n : IcmpRepr) → (answer ≡ Ok n) ↔ icmp.Reads bytes (address.Ipv4 v.src_addr) (address.Ipv4 v.dst_addr) false n (payload_of bytes))
-    → answer ≡ Ok m → ReadsMessage v bytes m (payload_of bytes)
-read-message v bytes answer m named sum reads is =
-    let r = (reads m).0 is in
-    (named, record { least = r.least; checksum = λ _. sum; message = r.message; body = refl })
+-- ---- messages that are echoes
+
+-- whether a value is an echo
+abbrev pub echo-value : Option IcmpRepr → Bool
+echo-value None = false
+echo-value (Some m) = not (icmp.is_error m)
+
+other-tests : (b c e f : Bool) (code word : ℕ) → echo-value (by_tests false b c false e f code word) ≡ false
+other-tests true c e f code word = refl
+other-tests false true e f code word = refl
+other-tests false false true f code word = refl
+other-tests false false false true code word = refl
+other-tests false false false false code word = refl
+
+-- the type and the code of a message say whether its value is an echo
+echo-by : (type code word : ℕ) → echo-value (message_of version.Ipv4 type code word) ≡ is_some (echo_kind type code)
+echo-by type code word = by (type == 8 && code == 0) (type == 0 && code == 0) refl refl
+  where
+    by : (request reply : Bool) → (type == 8 && code == 0) ≡ request → (type == 0 && code == 0) ≡ reply
+        → echo-value (message_of version.Ipv4 type code word) ≡ is_some (echo_kind type code)
+    by true reply a b =
+        let is : type ≡ 8 = grind (arith, nat_tests) in
+        let no_code : code ≡ 0 = grind (arith, nat_tests) in
+        rw (is, no_code) refl
+    by false true a b =
+        let is : type ≡ 0 = grind (arith, nat_tests) in
+        let no_code : code ≡ 0 = grind (arith, nat_tests) in
+        rw (is, no_code) refl
+    by false false a b = rw (a, b) (other-tests (type == 3 && code == 4) (type == 3) (type == 11) (type == 12) code word)
+
+-- an echo that parses has the type and the code of one
+pub echo-named : (bytes src dst : List ℕ) (verified : Bool) (m : IcmpRepr) (payload : List ℕ) → icmp.Reads bytes (address.Ipv4 src) (address.Ipv4 dst) verified m payload
+    → icmp.is_error m ≡ false → is_some (echo_kind (field bytes 0 8) (field bytes 8 8)) ≡ true
+echo-named bytes src dst verified m payload r echo =
+    sym (echo-by (field bytes 0 8) (field bytes 8 8) (field bytes 32 32)) ∙ ap echo-value r.message ∙ ap not echo
+
+-- the kind of an echo, by the tests of its type and code
+by-kind : (request reply : Bool) (k : Kind) → (if request then Some kind.EchoRequest else (if reply then Some kind.EchoReply else None)) ≡ Some k
+    → (request ≡ true) × (k ≡ kind.EchoRequest) ⊎ (reply ≡ true) × (k ≡ kind.EchoReply)
+by-kind true reply k is = inl (refl, sym (same_Some kind.EchoRequest k is))
+by-kind false true k is = inr (refl, sym (same_Some kind.EchoReply k is))
+by-kind false false k is = absurd (cc)
+
+-- a message of this kind parses, if it is long enough and has its checksum
+pub read-echo : (v : Ipv4Repr) (bytes : List ℕ) (k : Kind) (p : Packet) → AreBytes bytes → v.next_header ≡ protocol.Icmp
+    → echo_kind (field bytes 0 8) (field bytes 8 8) ≡ Some k → 8 ≤ length bytes → sum_of_bytes bytes ≡ 65535
+    → p.src_port ≡ field bytes 32 16 → p.dst_port ≡ field bytes 32 16 → p.kind ≡ k → (t : Transport) × ReadsPorts v bytes t × Describes p t
+read-echo v bytes k p are named is long sum src dst same =
+    let w = field bytes 32 32 in
+    let half = upper-half bytes are in
+    elim (by-kind (field bytes 0 8 == 8 && field bytes 8 8 == 0) (field bytes 0 8 == 0 && field bytes 8 8 == 0) k is) [
+      | inl asks ↦
+          let on = asks.0 in
+          let type : field bytes 0 8 ≡ 8 = grind (arith, nat_tests) in
+          let code : field bytes 8 8 ≡ 0 = grind (arith, nat_tests) in (
+            request (w / 65536) (w % 65536) (payload_of bytes),
+            (named, record { least = long; checksum = λ _. sum; message = rw (type, code) refl; body = refl }),
+            record { src_port = src ∙ sym half; dst_port = dst ∙ sym half; kind = same ∙ asks.1 },
+          )
+      | inr replies ↦
+          let on = replies.0 in
+          let type : field bytes 0 8 ≡ 0 = grind (arith, nat_tests) in
+          let code : field bytes 8 8 ≡ 0 = grind (arith, nat_tests) in (
+            reply (w / 65536) (w % 65536) (payload_of bytes),
+            (named, record { least = long; checksum = λ _. sum; message = rw (type, code) refl; body = refl }),
+            record { src_port = src ∙ sym half; dst_port = dst ∙ sym half; kind = same ∙ replies.1 },
+          )
+    ]

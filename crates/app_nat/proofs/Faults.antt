@@ -1,6 +1,5 @@
 -- Why a frame is rejected.
-use Rattle.std.proofs.Common.{ℕ, ◌≡◌, ◌≢◌, ◌∙◌, ◌≤◌, ◌==◌, ◌&&◌, not, nat_lt, is_some, if◌then◌else◌, Bool, true, false, List, Option, Some, None, Result, Ok, Err, drop, length, refl, sym, ap, arith}
-use Rattle.std.proofs.lemmas.Bool.{le-ltb}
+use Rattle.std.proofs.Common.{ℕ, ◌≡◌, ◌≢◌, ◌∙◌, ◌==◌, ◌&&◌, not, is_some, if◌then◌else◌, Bool, true, false, List, Option, Some, None, Result, Ok, Err, drop, refl, sym, ap, arith}
 use Rattle.std.proofs.lemmas.Bool.Decides.{nat_tests}
 use Rattle.std.specs.Borrow.{Bor}
 use Rattle.std.specs.Option.{option_map, option_map_or, option_or}
@@ -28,16 +27,16 @@ use Rattle.ip_wire.specs.declared.IpProtocol.TheVariants as protocol
 use Rattle.ip_wire.specs.declared.TcpRepr.{TcpRepr}
 use Rattle.ip_wire.specs.declared.frame.transport.Transport.{Transport as Value}
 use Rattle.ip_wire.specs.declared.frame.transport.Transport.TheVariants as parsed
-use Rattle.wire_icmp.proofs.IcmpComputed.{icmp_of_Reads}
 use Rattle.wire_icmp.specs.Icmp as icmp
 use Rattle.wire_icmp.specs.declared.icmp.repr.IcmpRepr.{IcmpRepr}
 use Rattle.wire_icmp.specs.declared.icmp.repr.IcmpRepr.TheVariants.{EchoRequest, EchoReply}
+use Rattle.app_nat.proofs.Echoes.{echo-named}
 use Rattle.app_nat.proofs.Translates.{carried}
-use Rattle.app_nat.specs.Errors.{Quotes, Reports, after_header, end_bit, flow_by, icmp_fault, is_error, is_quoted, message_fault, message_fault_by}
-use Rattle.app_nat.specs.Nat.{Carries, CarriesWhole, IsIpv4Frame, ReadsMessage, ReadsPorts, Transport, addr_at, datagram, echo_fault, frame_fault, is_message, of_header, packet_fault, ports_fault, reply, request, segment, transport_fault, transport_fault_by, whole_fault, whole_fault_by}
+use Rattle.app_nat.specs.Errors.{icmp_fault, is_error, message_fault, message_fault_by, quoted_fault, quotes_enough, quotes_port}
+use Rattle.app_nat.specs.Nat.{Carries, CarriesWhole, IsIpv4Frame, ReadsMessage, ReadsPorts, Transport, datagram, echo_fault, echo_kind, frame_fault, is_message, of_header, packet_fault, ports_fault, reply, request, segment, transport_fault, transport_fault_by, whole_fault, whole_fault_by}
 use Rattle.app_nat.specs.declared.translation.Rejection.{Rejection}
-use Rattle.app_nat.specs.declared.translation.Rejection.TheVariants.{NotIpv4, Fragment, OtherProtocol, BadTransport, ZeroPort}
-use Rattle.app_nat.specs.declared.errors.Quoted.{Quoted}
+use Rattle.app_nat.specs.declared.translation.Rejection.TheVariants.{NotIpv4, Fragment, OtherProtocol, BadTransport, ZeroPort, NoMapping}
+use Rattle.app_nat.specs.declared.packet.Kind.{Kind}
 use Rattle.app_nat.specs.declared.translation.Side.{Side}
 
 -- ---- frames without a whole IPv4 packet
@@ -103,42 +102,29 @@ bad-ports v bytes no_icmp none =
     by-ports v bytes no_icmp
     ∙ ap ports_fault (none_of _ (λ t e. none t (transport-only all_checked v.next_header (address.Ipv4 v.src_addr) (address.Ipv4 v.dst_addr) bytes t e)))
 
--- the fault of an ICMP message, by the test of its length and its checksum
-abbrev tested : Ipv4Repr → List ℕ → Bool → Option Rejection
-tested v bytes test =
-    if test then echo_fault (icmp.icmp_of (address.Ipv4 v.src_addr) (address.Ipv4 v.dst_addr) false bytes) else Some BadTransport
+-- the fault of an ICMP message
+by-echo : (v : Ipv4Repr) (bytes : List ℕ) → v.next_header ≡ protocol.Icmp → transport_fault v bytes ≡ echo_fault bytes
+by-echo v bytes named = ap (λ p. transport_fault_by p v bytes) named
 
--- that of one with its checksum
-by-message : (v : Ipv4Repr) (bytes : List ℕ) (m : Option IcmpRepr) → v.next_header ≡ protocol.Icmp → 8 ≤ length bytes → sum_of_bytes bytes ≡ 65535
-    → icmp.icmp_of (address.Ipv4 v.src_addr) (address.Ipv4 v.dst_addr) false bytes ≡ m → transport_fault v bytes ≡ echo_fault m
-by-message v bytes m named long sum is =
-    let test : is_message bytes ≡ true = grind (arith, nat_tests) in
-    ap (λ p. transport_fault_by p v bytes) named ∙ ap (tested v bytes) test ∙ ap echo_fault is
+-- the kind of an ICMP message, if it is an echo
+abbrev kind-of : List ℕ → Option Kind
+kind-of bytes = echo_kind (field bytes 0 8) (field bytes 8 8)
 
-no-echo : (m : IcmpRepr) → ((ident seq_no : ℕ) → m ≢ EchoRequest ident seq_no) → ((ident seq_no : ℕ) → m ≢ EchoReply ident seq_no)
-    → echo_fault (Some m) ≡ Some OtherProtocol
-no-echo (EchoRequest ident seq_no) no_request no_reply = absurd (no_request ident seq_no refl)
-no-echo (EchoReply ident seq_no) no_request no_reply = absurd (no_reply ident seq_no refl)
-no-echo _ no_request no_reply = refl
+pub no-echo : (v : Ipv4Repr) (bytes : List ℕ) → v.next_header ≡ protocol.Icmp → kind-of bytes ≡ None → transport_fault v bytes ≡ Some OtherProtocol
+no-echo v bytes named none = by-echo v bytes named ∙ (rw none refl)
 
-pub other-message : (v : Ipv4Repr) (bytes : List ℕ) (answer : Result IcmpRepr Error) (m : IcmpRepr) → v.next_header ≡ protocol.Icmp → 8 ≤ length bytes
-    → sum_of_bytes bytes ≡ 65535 → icmp.icmp_of (address.Ipv4 v.src_addr) (address.Ipv4 v.dst_addr) false bytes ≡ result_ok answer → answer ≡ Ok m
-    → ((ident seq_no : ℕ) → m ≢ EchoRequest ident seq_no) → ((ident seq_no : ℕ) → m ≢ EchoReply ident seq_no) → transport_fault v bytes ≡ Some OtherProtocol
-other-message v bytes answer m named long sum found is no_request no_reply =
-    by-message v bytes (Some m) named long sum (found ∙ ap result_ok is) ∙ no-echo m no_request no_reply
-
-pub no-message : (v : Ipv4Repr) (bytes : List ℕ) (answer : Result IcmpRepr Error) (error : Error) → v.next_header ≡ protocol.Icmp → 8 ≤ length bytes
-    → sum_of_bytes bytes ≡ 65535 → icmp.icmp_of (address.Ipv4 v.src_addr) (address.Ipv4 v.dst_addr) false bytes ≡ result_ok answer → answer ≡ Err error
-    → transport_fault v bytes ≡ Some OtherProtocol
-no-message v bytes answer error named long sum found is = by-message v bytes None named long sum (found ∙ ap result_ok is)
+pub bad-echo : (v : Ipv4Repr) (bytes : List ℕ) (k : Kind) → v.next_header ≡ protocol.Icmp → kind-of bytes ≡ Some k → is_message bytes ≡ false
+    → transport_fault v bytes ≡ Some BadTransport
+bad-echo v bytes k named is bad = by-echo v bytes named ∙ (rw (is, bad) refl)
 
 -- ---- no fault
 
-read-message : (v : Ipv4Repr) (bytes : List ℕ) (m : IcmpRepr) (payload : List ℕ) → ReadsMessage v bytes m payload → transport_fault v bytes ≡ echo_fault (Some m)
-read-message v bytes m payload (named, r) =
-    by-message v bytes (Some m) named r.least (r.checksum refl)
-    ((icmp_of_Reads (address.Ipv4 v.src_addr) (address.Ipv4 v.dst_addr) false bytes m).1
-    (record { least = r.least; checksum = λ is. absurd (cc); message = r.message; body = refl }))
+read-message : (v : Ipv4Repr) (bytes : List ℕ) (m : IcmpRepr) (payload : List ℕ) → icmp.is_error m ≡ false → ReadsMessage v bytes m payload → transport_fault v bytes ≡ None
+read-message v bytes m payload echo (named, r) =
+    let least = r.least in
+    let sum : sum_of_bytes bytes ≡ 65535 = r.checksum refl in
+    let test : is_message bytes ≡ true = grind (arith, nat_tests) in
+    by-echo v bytes named ∙ (rw (echo-named bytes v.src_addr v.dst_addr true m payload r echo, test) refl)
 
 read-ports : (v : Ipv4Repr) (bytes : List ℕ) (t : Transport) → ReadsPorts v bytes t → transport_fault v bytes ≡ None
 read-ports v bytes (datagram u payload) r =
@@ -147,8 +133,8 @@ read-ports v bytes (datagram u payload) r =
 read-ports v bytes (segment u payload) r =
     by-ports v bytes (λ is. let differs : protocol.Tcp ≡ protocol.Icmp = sym r.0 ∙ is in cc)
     ∙ ap ports_fault (transport-read all_checked v.next_header (address.Ipv4 v.src_addr) (address.Ipv4 v.dst_addr) bytes (whole.segment u payload) r)
-read-ports v bytes (request ident seq_no payload) r = read-message v bytes (EchoRequest ident seq_no) payload r
-read-ports v bytes (reply ident seq_no payload) r = read-message v bytes (EchoReply ident seq_no) payload r
+read-ports v bytes (request ident seq_no payload) r = read-message v bytes (EchoRequest ident seq_no) payload refl r
+read-ports v bytes (reply ident seq_no payload) r = read-message v bytes (EchoReply ident seq_no) payload refl r
 
 -- a frame that carries one of these transports is rejected for no reason
 pub carries-unrejected : (frame : List ℕ) (link : EthernetRepr) (v : Ipv4Repr) (t : Transport) (r : Rejection) → Carries frame link v t
@@ -165,43 +151,8 @@ carries-unrejected frame link v t r c why =
 
 -- ---- errors
 
-not-true : (b : Bool) → ¬ (b ≡ true) → b ≡ false
-not-true true unless = absurd (unless refl)
-not-true false unless = refl
-
 pub by-icmp : (side : Side) (v : Ipv4Repr) (bytes : List ℕ) → v.next_header ≡ protocol.Icmp → message_fault side v bytes ≡ icmp_fault side bytes
 by-icmp side v bytes named = ap (λ p. message_fault_by side p bytes) named
-
-some-value : {A : Type 0} (o : Option A) → is_some o ≡ true → (a : A) × (o ≡ Some a)
-some-value None h = absurd (cc)
-some-value (Some a) h = (a, refl)
-
--- bytes that an error can quote are quoted as one packet
-quoted-one : (side : Side) (bytes : List ℕ) → is_quoted side bytes ≡ true → (q : Quoted) × Quotes side bytes q
-quoted-one side bytes is =
-    let flows : is_some (flow_by side (protocol_of (field bytes 72 8)) (field (after_header bytes) 0 8)) ≡ true = grind (arith, nat_tests) in
-    let (p, flow) = some-value (flow_by side (protocol_of (field bytes 72 8)) (field (after_header bytes) 0 8)) flows in (
-      record { protocol = p; end = record { addr = addr_at side bytes; port = field (after_header bytes) (end_bit p side) 16 } },
-      record {
-        version = grind (arith, nat_tests);
-        header = grind (arith, nat_tests);
-        room = grind (arith, nat_tests);
-        first = grind (arith, nat_tests);
-        flow = flow;
-        addr = refl;
-        port = refl;
-      },
-    )
-
-pub bad-error : (side : Side) (bytes : List ℕ) → 8 ≤ length bytes → is_error (field bytes 0 8) ≡ true → ((q : Quoted) → ¬ Reports side bytes q)
-    → icmp_fault side bytes ≡ Some BadTransport
-bad-error side bytes long error none =
-    let wrong : (sum_of_bytes bytes == 65535 && is_quoted side (drop 8 bytes)) ≡ false = not-true _ (λ on.
-    let sum : sum_of_bytes bytes ≡ 65535 = grind (arith, nat_tests) in
-    let quoted : is_quoted side (drop 8 bytes) ≡ true = grind (arith, nat_tests) in
-    let (q, quotes) = quoted-one side (drop 8 bytes) quoted in
-    none q (record { error = error; checksum = sum; quotes = quotes })) in
-    rw (le-ltb (length bytes) 8 long, error, wrong) refl
 
 -- ---- no fault is ZeroPort
 
@@ -246,32 +197,34 @@ ports-not_zero (Some (whole.datagram u payload)) = λ is. absurd (cc)
 ports-not_zero (Some (whole.segment u payload)) = λ is. absurd (cc)
 ports-not_zero (Some (whole.other payload)) = λ is. absurd (cc)
 
-echo-not_zero : (m : Option IcmpRepr) → NotZero (echo_fault m)
-echo-not_zero (Some (EchoRequest ident seq_no)) = λ is. absurd (cc)
-echo-not_zero (Some (EchoReply ident seq_no)) = λ is. absurd (cc)
-echo-not_zero _ = λ is. absurd (cc)
-
-test-not_zero : (v : Ipv4Repr) (bytes : List ℕ) (test : Bool) → NotZero (tested v bytes test)
-test-not_zero v bytes true = echo-not_zero (icmp.icmp_of (address.Ipv4 v.src_addr) (address.Ipv4 v.dst_addr) false bytes)
-test-not_zero v bytes false = λ is. absurd (cc)
+echo-not_zero : (echo message : Bool) → NotZero (if not echo then Some OtherProtocol else (if message then None else Some BadTransport))
+echo-not_zero false message = λ is. absurd (cc)
+echo-not_zero true true = λ is. absurd (cc)
+echo-not_zero true false = λ is. absurd (cc)
 
 pub transport-not_zero : (v : Ipv4Repr) (bytes : List ℕ) → transport_fault v bytes ≢ Some ZeroPort
 transport-not_zero v bytes = by v.next_header
   where
     by : (p : IpProtocol) → NotZero (transport_fault_by p v bytes)
-    by protocol.Icmp = test-not_zero v bytes (is_message bytes)
+    by protocol.Icmp = echo-not_zero (is_some (kind-of bytes)) (is_message bytes)
     by p = ports-not_zero (transport_by all_checked p (address.Ipv4 v.src_addr) (address.Ipv4 v.dst_addr) bytes)
 
-icmp-not_zero : (short error right : Bool) → NotZero (if short then Some BadTransport else (if not error then Some OtherProtocol else (if right then None else Some BadTransport)))
-icmp-not_zero true error right = λ is. absurd (cc)
-icmp-not_zero false false right = λ is. absurd (cc)
-icmp-not_zero false true true = λ is. absurd (cc)
-icmp-not_zero false true false = λ is. absurd (cc)
+quoted-not_zero : (enough port : Bool) → NotZero (if not enough then Some BadTransport else (if port then None else Some NoMapping))
+quoted-not_zero false port = λ is. absurd (cc)
+quoted-not_zero true true = λ is. absurd (cc)
+quoted-not_zero true false = λ is. absurd (cc)
+
+icmp-not_zero : (error message : Bool) (quoted : Option Rejection) → NotZero quoted
+    → NotZero (if not error then Some OtherProtocol else (if message then quoted else Some BadTransport))
+icmp-not_zero false message quoted other = λ is. absurd (cc)
+icmp-not_zero true true quoted other = other
+icmp-not_zero true false quoted other = λ is. absurd (cc)
 
 pub message-not_zero : (side : Side) (v : Ipv4Repr) (bytes : List ℕ) → message_fault side v bytes ≢ Some ZeroPort
 message-not_zero side v bytes = by v.next_header
   where
     by : (p : IpProtocol) → NotZero (message_fault_by side p bytes)
     by protocol.Icmp =
-        icmp-not_zero (nat_lt (length bytes) 8) (is_error (field bytes 0 8)) (sum_of_bytes bytes == 65535 && is_quoted side (drop 8 bytes))
+        let quoted = drop 8 bytes in
+        icmp-not_zero (is_error (field bytes 0 8)) (is_message bytes) (quoted_fault side quoted) (quoted-not_zero (quotes_enough quoted) (quotes_port side quoted))
     by _ = λ is. absurd (cc)

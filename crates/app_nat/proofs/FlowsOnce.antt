@@ -7,9 +7,9 @@ use Rattle.app_nat.proofs.Faults.{by-icmp, carries-unrejected, payload-fault}
 use Rattle.app_nat.proofs.Meaning.{port_once, room, table_once}
 use Rattle.app_nat.proofs.NatOnce.{header-of-one, translated-allowed, transport-of-one}
 use Rattle.app_nat.proofs.Tables.{same-end}
-use Rattle.app_nat.specs.Errors.{CarriesError, ErrorComesIn, ErrorGoesOut, IsErrorKeptInside, IsErrorKeptOutside, IsRejectedError, Quotes, Reports, after_header, end_bit, icmp_fault, is_quoted, message_fault, translated_error}
+use Rattle.app_nat.specs.Errors.{CarriesError, ErrorComesIn, ErrorGoesOut, IsErrorKeptInside, IsErrorKeptOutside, IsRejectedError, Quotes, Reports, after_header, end_bit, icmp_fault, message_fault, quoted_fault, quotes_enough, quotes_port, translated_error}
 use Rattle.app_nat.specs.Flows.{AnswerReaches, ComesIn, GoesOut, IsAnswerable, IsKeptInside, IsKeptOutside, IsPacketKeptInside, IsPacketKeptOutside, IsUnanswerable, IsUnmappedFrame, LeadsToZero, PacketComesIn, PacketGoesOut, destination_of, event_by, event_of, flow_protocol, source_of}
-use Rattle.app_nat.specs.Nat.{AllowsPort, IsPacket, IsRejected, Transport, datagram, kind_of, port_of, reply, request, segment, translated}
+use Rattle.app_nat.specs.Nat.{AllowsPort, IsPacket, IsRejected, Transport, datagram, is_message, kind_of, port_of, reply, request, segment, translated}
 use Rattle.app_nat.specs.State.{protocol_of}
 use Rattle.app_nat.specs.Table.{Finds, IsFull, IsTable, IsUnmapped, MapsTo, Opens, mapping_at}
 use Rattle.app_nat.specs.declared.mapping.Ipv4Endpoint.{Ipv4Endpoint}
@@ -62,24 +62,25 @@ header-once : (side : Side) (frame : List ℕ) (v w : Ipv4Repr) (q r : _) → Ca
 header-once side frame v w q r a b =
     let bytes = drop 14 frame in computed-one _ v w ((ipv4_of-Reads true bytes v).1 a.reads.0) ((ipv4_of-Reads true bytes w).1 b.reads.0)
 
-is-quoted : (side : Side) (bytes : List ℕ) (q : _) → Quotes side bytes q → is_quoted side bytes ≡ true
-is-quoted side bytes q a =
+quoted-fault : (side : Side) (bytes : List ℕ) (q : _) → Quotes side bytes q → quoted_fault side bytes ≡ None
+quoted-fault side bytes q a =
     let version = a.version in
     let header = a.header in
     let room = a.room in
     let first = a.first in
     let flow = a.flow in
-    grind (arith, nat_tests)
+    let enough : quotes_enough bytes ≡ true = grind (arith, nat_tests) in
+    let port : quotes_port side bytes ≡ true = grind (arith, nat_tests) in
+    rw (enough, port) refl
 
 no-fault : (side : Side) (bytes : List ℕ) (q : _) → Reports side bytes q → icmp_fault side bytes ≡ None
 no-fault side bytes q a =
     let header = a.quotes.header in
     let room = a.quotes.room in
     let long : 8 ≤ length bytes = omega (arith, length-drop 8 bytes, header, room) in
-    let error = a.error in
     let checksum = a.checksum in
-    let quoted = is-quoted side (drop 8 bytes) q a.quotes in
-    grind (arith, nat_tests)
+    let message : is_message bytes ≡ true = grind (arith, nat_tests) in
+    (rw (a.error, message) refl) ∙ quoted-fault side (drop 8 bytes) q a.quotes
 
 error-unrejected : (side : Side) (frame : List ℕ) (v : Ipv4Repr) (q : _) (r : Rejection) → CarriesError side frame v q → ¬ IsRejectedError side frame r
 error-unrejected side frame v q r a why =

@@ -15,7 +15,7 @@ use Rattle.ip_wire.specs.WordSum.{sum_of_bytes}
 use Rattle.ip_wire.specs.Types.{EthernetRepr, IpProtocol, Ipv4, Ipv4Repr}
 use Rattle.ip_wire.specs.declared.IpProtocol.TheVariants as protocol
 use Rattle.wire_icmp.specs.Icmp as icmp
-use Rattle.app_nat.specs.Nat.{IsIpv4Frame, addr_at, frame_fault, opposite, port_bit, with_addr, with_address, with_tcp_end, with_udp_end}
+use Rattle.app_nat.specs.Nat.{IsIpv4Frame, addr_at, frame_fault, is_message, opposite, port_bit, with_addr, with_address, with_tcp_end, with_udp_end}
 use Rattle.app_nat.specs.declared.errors.Quoted.{Quoted}
 use Rattle.app_nat.specs.declared.translation.Rejection.{Rejection}
 use Rattle.app_nat.specs.declared.translation.Rejection.TheVariants.{OtherProtocol, BadTransport, NoMapping}
@@ -93,20 +93,29 @@ pub record CarriesError (side : Side) (frame : List ℕ) (header : Ipv4Repr) (q 
   pub reports : Reports side (ipv4_payload (drop 14 frame)) q
 
 -- Pinned by: `apps/nat_errors`
--- the bytes begin with a packet that an ICMP error can quote, and that has a port on this side
-abbrev pub is_quoted : Side → List ℕ → Bool
-is_quoted side bytes =
-    field bytes 0 4 == 4 && nat_le 20 (header_len bytes) && nat_le (header_len bytes + 8) (length bytes) && fragment_offset bytes == 0
-    && is_some (flow_by side (protocol_of (field bytes 72 8)) (field (after_header bytes) 0 8))
+-- the bytes begin with an IPv4 header and 8 bytes after it, the least that an ICMP error quotes (RFC 792)
+abbrev pub quotes_enough : List ℕ → Bool
+quotes_enough bytes = field bytes 0 4 == 4 && nat_le 20 (header_len bytes) && nat_le (header_len bytes + 8) (length bytes)
 
 -- Pinned by: `apps/nat_errors`
--- why an ICMP message is no error that quotes such a packet, if it is none: it is too short, another message, has a
--- wrong checksum, or quotes no such packet
+-- the quoted packet is no later fragment, and has a port on this side, so that a mapping can be its own
+abbrev pub quotes_port : Side → List ℕ → Bool
+quotes_port side bytes =
+    fragment_offset bytes == 0 && is_some (flow_by side (protocol_of (field bytes 72 8)) (field (after_header bytes) 0 8))
+
+-- Pinned by: `apps/nat_errors`
+-- why what an ICMP error quotes is not translated: it is less than an IPv4 header and 8 bytes, or another packet
+abbrev pub quoted_fault : Side → List ℕ → Option Rejection
+quoted_fault side bytes =
+    if not (quotes_enough bytes) then Some BadTransport else if quotes_port side bytes then None else Some NoMapping
+
+-- Pinned by: `apps/nat_errors`
+-- why an ICMP message is no error that quotes such a packet, if it is none: it is another message, is too short or has a
+-- wrong checksum, or for what it quotes
 abbrev pub icmp_fault : Side → List ℕ → Option Rejection
 icmp_fault side bytes =
-    if nat_lt (length bytes) 8 then Some BadTransport
-    else if not (is_error (field bytes 0 8)) then Some OtherProtocol
-    else if sum_of_bytes bytes == 65535 && is_quoted side (drop 8 bytes) then None
+    if not (is_error (field bytes 0 8)) then Some OtherProtocol
+    else if is_message bytes then quoted_fault side (drop 8 bytes)
     else Some BadTransport
 
 -- Pinned by: `apps/nat_errors`

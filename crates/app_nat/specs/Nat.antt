@@ -1,5 +1,5 @@
 -- Network address translation of one address and port (RFC 3022, sections 2.2 and 4.1), with updated checksums (RFC 1624).
-use Rattle.std.specs.Prelude.{ℕ, ⊤, ◌≡◌, ◌≢◌, ◌⊎◌, ◌↔◌, ◌++◌, ◌==◌, ◌&&◌, if◌then◌else◌, Bool, false, true, List, [], Option, Some, None, drop, take, slice_range}
+use Rattle.std.specs.Prelude.{ℕ, ⊤, ◌≡◌, ◌≢◌, ◌⊎◌, ◌↔◌, ◌++◌, ◌==◌, ◌&&◌, not, is_some, if◌then◌else◌, Bool, false, true, List, [], Option, Some, None, drop, take, slice_range}
 use Rattle.std.specs.Option.{option_map, option_map_or, option_or}
 use Rattle.ip_wire.specs.Ethernet as ethernet
 use Rattle.ip_wire.specs.Ethernet.{ethernet_of}
@@ -258,23 +258,30 @@ ports_fault None = Some BadTransport
 ports_fault (Some (whole.other bytes)) = Some OtherProtocol
 ports_fault (Some t) = None
 
--- Pinned by: `apps/nat`, `apps/nat_echo`
--- why this ICMP message is not translated: it is no echo
-abbrev pub echo_fault : Option IcmpRepr → Option Rejection
-echo_fault (Some (EchoRequest ident seq_no)) = None
-echo_fault (Some (EchoReply ident seq_no)) = None
-echo_fault _ = Some OtherProtocol
+-- Pinned by: `apps/nat_echo`
+-- the kind of an ICMP message with this type and code, if it is an echo request or an echo reply (RFC 792)
+abbrev pub echo_kind : ℕ → ℕ → Option Kind
+echo_kind type code =
+    if type == 8 && code == 0 then Some kind.EchoRequest else if type == 0 && code == 0 then Some kind.EchoReply else None
 
--- Pinned by: `apps/nat`, `apps/nat_echo`
+-- Pinned by: `apps/nat_echo`, `apps/nat_errors`
 -- the bytes are long enough for an ICMP message over IPv4, and have its checksum
 abbrev pub is_message : List ℕ → Bool
 is_message bytes = icmp.has_header bytes && sum_of_bytes bytes == 65535
 
+-- Pinned by: `apps/nat_echo`
+-- Why this ICMP message is not translated: it is no echo, or it is too short or has a wrong checksum. In a message of less
+-- than 2 bytes, the type and the code count as 0 if they are missing.
+abbrev pub echo_fault : List ℕ → Option Rejection
+echo_fault bytes =
+    if not (is_some (echo_kind (field bytes 0 8) (field bytes 8 8))) then Some OtherProtocol
+    else if is_message bytes then None
+    else Some BadTransport
+
 -- Pinned by: `apps/nat`, `apps/nat_echo`
 -- why the payload of a packet of this protocol, with this header, is not translated
 abbrev pub transport_fault_by : IpProtocol → Ipv4Repr → List ℕ → Option Rejection
-transport_fault_by protocol.Icmp v bytes =
-    if is_message bytes then echo_fault (icmp.icmp_of (address.Ipv4 v.src_addr) (address.Ipv4 v.dst_addr) false bytes) else Some BadTransport
+transport_fault_by protocol.Icmp v bytes = echo_fault bytes
 transport_fault_by p v bytes = ports_fault (transport_by all_checked p (address.Ipv4 v.src_addr) (address.Ipv4 v.dst_addr) bytes)
 
 -- Pinned by: `apps/nat`, `apps/nat_echo`

@@ -1,7 +1,7 @@
 //! ICMP errors over IPv4, and the packet that they quote (RFC 5508, section 4; RFC 3022, section 4.3).
 
-ghost use Rattle.std.specs.Prelude.{◌≡◌, ◌↔◌, ◌+◌, ◌≤◌, IfErr, IfNone, IfOk, IfSome, OnErr, OnOk, Some, drop, length};
-ghost use Rattle.app_nat.specs.Errors.{CarriesError, quoting, ErrorComesIn, ErrorGoesOut, IsErrorKeptInside, IsErrorKeptOutside, IsErrorTranslated, IsRejectedError, Quotes, Reports, end_bit, error_packet, error_with, flow_by, is_error, message_fault, quoted_of, quoted_with, with_quoted_end};
+ghost use Rattle.std.specs.Prelude.{◌≡◌, ◌↔◌, ◌+◌, ◌≤◌, IfErr, IfOk, OnErr, OnOk, Some, drop, length};
+ghost use Rattle.app_nat.specs.Errors.{CarriesError, quoting, ErrorComesIn, ErrorGoesOut, IsErrorKeptInside, IsErrorKeptOutside, IsErrorTranslated, IsRejectedError, Quotes, Reports, end_bit, error_packet, error_with, flow_by, is_error, message_fault, quoted_fault, quoted_of, quoted_with, with_quoted_end};
 ghost use Rattle.app_nat.specs.Nat.{addr_at, opposite, port_bit, with_addr};
 ghost use Rattle.app_nat.specs.declared.errors.Quoted.{Quoted};
 ghost use Rattle.ip_wire.specs.Field.{field, with_field};
@@ -125,49 +125,47 @@ fn parse_message(header: &Ipv4Repr, bytes: &[u8], side: Side) -> Result<Quoted, 
     let IpProtocol::Icmp = header.next_header else {
         return Err(Rejection::OtherProtocol);
     };
+    if !is_error(bytes) {
+        return Err(Rejection::OtherProtocol);
+    }
     let Ok(packet) = IcmpPacket::new_checked(bytes) else {
         return Err(Rejection::BadTransport);
     };
-    if !is_error(packet.msg_type()) {
-        return Err(Rejection::OtherProtocol);
-    }
     let src = IpAddress::Ipv4(header.src_addr);
     if !packet.verify_checksum(&src, &IpAddress::Ipv4(header.dst_addr)) {
         return Err(Rejection::BadTransport);
     }
-    match parse_quoted(packet.payload(), side) {
-        Some(quoted) => Ok(quoted),
-        None => Err(Rejection::BadTransport),
-    }
+    parse_quoted(packet.payload(), side)
 }
 
-// Whether a message of this type reports an error: destination unreachable, time exceeded or parameter problem.
-fn is_error(msg_type: u8) -> bool
-    ensures { result ≡ is_error msg_type }
+// Whether a message has the type of an error: destination unreachable, time exceeded or parameter problem.
+fn is_error(message: &[u8]) -> bool
+    ensures { result ≡ is_error (field message.now 0 8) }
 {
-    matches!(msg_type, 3 | 11 | 12)
+    matches!(message, [3 | 11 | 12, ..])
 }
 
 // The quoted packet, if its header is whole, and 8 bytes follow it. Its checksum is not verified: some routers lower
 // the hop limit and quote the old checksum.
-fn parse_quoted(bytes: &[u8], side: Side) -> Option<Quoted>
-    ensures quotes { IfSome result (Quotes side bytes.now) }
-    ensures none { IfNone result ((q : Quoted) → ¬ Quotes side bytes.now q) }
+fn parse_quoted(bytes: &[u8], side: Side) -> Result<Quoted, Rejection>
+    ensures quotes { IfOk result (Quotes side bytes.now) }
+    ensures rejected { IfErr result (λ reason. quoted_fault side bytes.now ≡ Some reason) }
 {
     if bytes.len() < IPV4_HEADER_LEN {
-        return None;
+        return Err(Rejection::BadTransport);
     }
     let packet = Ipv4Packet::new_unchecked(bytes);
     let len = usize::from(packet.header_len());
     if packet.version() != 4 || len < IPV4_HEADER_LEN || bytes.len() < len + 8 {
-        return None;
+        return Err(Rejection::BadTransport);
     }
     if packet.frag_offset() != 0 {
-        return None;
+        return Err(Rejection::NoMapping);
     }
     let after_header = &bytes[len..];
-    let protocol = protocol_by(side, packet.next_header(), after_header[0])?;
-    Some(Quoted {
+    let protocol = protocol_by(side, packet.next_header(), after_header[0]);
+    let protocol = protocol.ok_or(Rejection::NoMapping)?;
+    Ok(Quoted {
         protocol,
         end: Ipv4Endpoint {
             addr: addr_in(bytes, side),

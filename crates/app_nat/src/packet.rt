@@ -2,19 +2,21 @@
 
 ghost use Rattle.std.specs.Prelude.{◌≡◌, ◌≢◌, ◌↔◌, IfErr, IfOk, IsTrue, OnOk, Some};
 ghost use Rattle.app_nat.specs.Nat as nat;
-ghost use Rattle.app_nat.specs.Nat.{AllowsPort, CarriesWhole, Describes, IsPacket, IsRejected, ReadsPorts, transport_fault, whole_fault, whole_fault_by};
+ghost use Rattle.app_nat.specs.Nat.{AllowsPort, CarriesWhole, Describes, IsPacket, IsRejected, ReadsPorts, echo_kind, transport_fault, whole_fault, whole_fault_by};
 ghost use Rattle.app_nat.specs.Flows.{IsAnswerable, IsUnanswerable, destination_of, event_of, source_of};
+ghost use Rattle.ip_wire.specs.Field.{field};
 ghost use Rattle.ip_wire.specs.Frame.{ReadsPacket, all_checked, ipv4_payload};
 ghost use Rattle.ip_wire.specs.Types.{Ipv4};
 
 use crate::translation::{Rejection, Side};
 use crate::{Event, Ipv4Endpoint};
+use ip_wire::laws::field::bytes_fit;
 use ip_wire::{
     ETHERNET_HEADER_LEN, EthernetFrame, EthernetProtocol, EthernetRepr, IpAddress, IpProtocol,
     IpRepr, Ipv4Packet, Ipv4Repr, TcpControl, Transport, parse_ipv4,
 };
 use net_base::ChecksumCapabilities;
-use wire_icmp::{IcmpPacket, IcmpRepr};
+use wire_icmp::IcmpPacket;
 
 /// What a packet carries, with the control flag of a TCP segment.
 #[derive(Debug, Clone, Copy, PartialEq, Eq)]
@@ -199,28 +201,30 @@ fn parse_echo(header: &Ipv4Repr, payload: &[u8]) -> Result<Packet, Rejection>
     ensures packet { IfOk result (λ p. (transport : nat.Transport) × ReadsPorts header.now payload.now transport × Describes p transport) }
     ensures rejected { IfErr result (λ reason. transport_fault header.now payload.now ≡ Some reason) }
 {
+    bytes_fit(payload);
+    let kind = echo_kind(payload).ok_or(Rejection::OtherProtocol)?;
     let src = IpAddress::Ipv4(header.src_addr);
     let dst = IpAddress::Ipv4(header.dst_addr);
     let message = IcmpPacket::new_unchecked(payload);
     if message.check_len().is_err() || !message.verify_checksum(&src, &dst) {
         return Err(Rejection::BadTransport);
     }
-    match IcmpRepr::parse(&message, &src, &dst, &ChecksumCapabilities::ignored()) {
-        Ok(echo) => match echo {
-            IcmpRepr::EchoRequest { ident, .. } => Ok(Packet {
-                header: *header,
-                src_port: ident,
-                dst_port: ident,
-                kind: Kind::EchoRequest,
-            }),
-            IcmpRepr::EchoReply { ident, .. } => Ok(Packet {
-                header: *header,
-                src_port: ident,
-                dst_port: ident,
-                kind: Kind::EchoReply,
-            }),
-            _ => Err(Rejection::OtherProtocol),
-        },
-        Err(_) => Err(Rejection::OtherProtocol),
+    let ident = message.echo_ident();
+    Ok(Packet {
+        header: *header,
+        src_port: ident,
+        dst_port: ident,
+        kind,
+    })
+}
+
+// The kind of a message with the type and the code of an echo. What is missing in less than 2 bytes counts as 0.
+fn echo_kind(message: &[u8]) -> Option<Kind>
+    ensures { result ≡ echo_kind (field message.now 0 8) (field message.now 8 8) }
+{
+    match message {
+        [8] | [8, 0, ..] => Some(Kind::EchoRequest),
+        [] | [0] | [0, 0, ..] => Some(Kind::EchoReply),
+        _ => None,
     }
 }

@@ -60,17 +60,17 @@ pub enum Rejection {
     WrongChecksum,
     /// The packet is a fragment.
     Fragment,
-    /// The packet carries neither UDP nor TCP, nor an ICMP echo message. `translate_out` and `translate_in`
-    /// also accept ICMP errors.
+    /// The packet carries neither UDP nor TCP, nor an ICMP message with the type and code of an echo, whatever
+    /// its length and checksum are. `translate_out` and `translate_in` also accept the types of ICMP errors.
     OtherProtocol,
     /// The UDP or TCP header does not parse, an ICMP message is shorter than 8 bytes, or the checksum
-    /// is wrong. Of an ICMP error: it does not quote a whole IPv4 header and 8 bytes of UDP, TCP or an echo.
+    /// is wrong. Of an ICMP error: it does not quote a whole IPv4 header and 8 bytes after it.
     BadTransport,
     /// The port to write is 0, and a receiver would reject it. For `translate_out`: the source port is 0.
     ZeroPort,
     /// For `translate_in`: the destination is not the outside address, no live mapping has its port, or
     /// the packet is an echo request. For `translate_out`: the packet is an echo reply. For both: an ICMP
-    /// error quotes a packet without a live mapping.
+    /// error quotes a packet without a live mapping, a later fragment, or another protocol or ICMP message.
     NoMapping,
     /// No outside port is free for the source.
     NoFreePort,

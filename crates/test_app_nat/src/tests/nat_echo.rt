@@ -79,15 +79,30 @@ fn translates_a_reply_of_zeros(rt: HostRuntime) {
     assert!(rt; becomes(&before, Side::Destination, inside(), 0, &after));
 }
 
-/// A timestamp message, an echo with a code, one with a wrong checksum, and one of 7 bytes.
+/// A timestamp and an echo with a code, each with a valid and with a wrong checksum, and a timestamp of 7 bytes and
+/// of 1 byte. Then an echo with a wrong checksum, and echoes of 7, 1 and 0 bytes.
 #[test]
 fn rejects_other_messages(rt: HostRuntime) {
     for (changes, reason) in [
         (&[(34, 0x0d), (36, 0x14)][..], Rejection::OtherProtocol),
         (&[(35, 0x01), (37, 0x26)], Rejection::OtherProtocol),
-        (&[(34, 0x0d)], Rejection::BadTransport),
+        (&[(34, 0x0d)], Rejection::OtherProtocol),
+        (&[(35, 0x01)], Rejection::OtherProtocol),
+        (
+            &[(17, 0x1b), (25, 0xe9), (34, 0x0d)],
+            Rejection::OtherProtocol,
+        ),
+        (
+            &[(17, 0x15), (25, 0xef), (34, 0x0d)],
+            Rejection::OtherProtocol,
+        ),
         (&[(37, 0x28)], Rejection::BadTransport),
-        (&[(17, 0x1b), (25, 0xe9)], Rejection::BadTransport),
+        (
+            &[(17, 0x1b), (25, 0xe9), (36, 0xf7), (37, 0xf8)],
+            Rejection::BadTransport,
+        ),
+        (&[(17, 0x15), (25, 0xef)], Rejection::BadTransport),
+        (&[(17, 0x14), (25, 0xf0)], Rejection::BadTransport),
     ] {
         let mut frame = ECHO;
         change(&mut frame, changes);

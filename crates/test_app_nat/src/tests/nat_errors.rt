@@ -160,7 +160,9 @@ fn keeps_a_wrong_quoted_checksum(rt: HostRuntime) {
     assert!(rt; gives(&nat, &mut mappings, 0, Way::Out, &frame, Ok(()), &expected));
 }
 
-/// A redirect, a wrong checksum of the error, a fragment without ports, GRE, and a packet that the NAT did not send.
+/// A redirect with a valid and with a wrong checksum. An error with a wrong checksum, and one of 7 bytes. Errors that
+/// quote 7 bytes of UDP and of GRE, another version, a short header. Then a fragment without ports, GRE, another ICMP
+/// message, and a packet that the NAT did not send.
 #[test]
 fn rejects_other_errors(rt: HostRuntime) {
     let nat = nat(40000);
@@ -168,9 +170,32 @@ fn rejects_other_errors(rt: HostRuntime) {
     assert!(rt; gives(&nat, &mut mappings, 0, Way::Out, &UDP, Ok(()), &UDP_OUT));
     for (changes, reason) in [
         (&[(34, 0x05), (36, 0xd7)][..], Rejection::OtherProtocol),
+        (&[(34, 0x05)], Rejection::OtherProtocol),
         (&[(37, 0xfb)], Rejection::BadTransport),
-        (&[(49, 0x01), (53, 0xca)], Rejection::BadTransport),
-        (&[(51, 0x2f), (53, 0xad)], Rejection::BadTransport),
+        (
+            &[(17, 0x1b), (25, 0x6a), (36, 0xf4), (37, 0xff)],
+            Rejection::BadTransport,
+        ),
+        (
+            &[(17, 0x37), (25, 0x4e), (36, 0xd2), (37, 0xc9)],
+            Rejection::BadTransport,
+        ),
+        (
+            &[
+                (17, 0x37),
+                (25, 0x4e),
+                (36, 0xd2),
+                (37, 0xc9),
+                (51, 0x2f),
+                (53, 0xad),
+            ],
+            Rejection::BadTransport,
+        ),
+        (&[(36, 0xb1), (42, 0x65)], Rejection::BadTransport),
+        (&[(36, 0xd2), (42, 0x44)], Rejection::BadTransport),
+        (&[(49, 0x01), (53, 0xca)], Rejection::NoMapping),
+        (&[(51, 0x2f), (53, 0xad)], Rejection::NoMapping),
+        (&[(51, 0x01), (53, 0xdb)], Rejection::NoMapping),
     ] {
         let mut frame = UDP_ERROR;
         change(&mut frame, changes);
