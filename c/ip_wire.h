@@ -12,7 +12,8 @@
  *   negative. After a failure `out` is unchanged.
  * - A length above LK_MAX_LEN is never used: a payload of that length is too long, an output has no room, and any other
  *   input counts as empty. The counts of routes, nodes, cells and mappings are such lengths too. Where an empty input is
- *   no failure (lk_answer, lk_emit_icmp_error, lk_index_routes, lk_make_route_table), one of that length is a failure.
+ *   no failure (lk_answer, lk_emit_icmp_error, lk_index_routes, lk_make_route_table, lk_set_bytes), one of that length
+ *   is a failure.
  * - lk_is_.., lk_contains and lk_cpu_supported return 1 for yes and 0 for no.
  * - Fields that an initializer leaves out are 0. A 0 in `version`, in a field `has_..` or in a count means
  *   that there is no such value. A hop limit of 0 is a failure, and so is a port of 0 where receivers reject
@@ -340,9 +341,10 @@ struct lk_frame {
  *   9293 needs them for RST. For a UDP header that is rejected as LK_BAD_LENGTH the verdict is
  *   LK_NO_CHECKSUM, because it does not say which bytes are summed.
  * - After an unknown EtherType or protocol all bytes are payload, and so are IPv6 extension headers. A length of IEEE
- *   802.3 counts as an unknown EtherType: the payload has the padding too.
- *   IPv4 options are skipped. If a source route among them has hops left (RFC 791), the checksum of UDP or TCP is
- *   LK_WRONG, because it covers the last address of the route.
+ *   802.3 counts as an unknown EtherType: the payload has the padding too. IPv4 options are skipped.
+ * - The checksum of UDP or TCP is compared with the destination in the header. If an IPv4 source route has hops left
+ *   (RFC 791), that is the next hop: the right checksum gets LK_WRONG, because it covers the last address of the route,
+ *   and one over the next hop gets LK_RIGHT.
  * - An ICMP message is a packet of protocol 1 over IPv4, or 58 over IPv6, with at least 8 bytes. Its payload begins
  *   after these 8 bytes: it is the data of an echo, or the packet that an error quotes. No type or code is rejected,
  *   and the checksum is LK_RIGHT or LK_WRONG. A shorter message has no transport: all of it is payload. A packet that is
@@ -898,6 +900,7 @@ int lk_clamp_mss(uint8_t *frame, size_t len, uint16_t max_seg_size);
 
 /* Each call of this section writes one field of the packet in an Ethernet frame, in place, and updates the checksums that
  * cover it (RFC 1624): that of the IPv4 header, and that of TCP, UDP, ICMP or ICMPv6. No other byte changes.
+ * Checksums of other protocols are not updated.
  *
  * - A valid checksum stays valid, and a wrong one stays wrong. One that is left to the device (LK_LEFT_TO_DEVICE) stays
  *   so: an address changes it, as part of the pseudo-header, and nothing else does. UDP's 0 over IPv4 stays 0. The
@@ -907,8 +910,8 @@ int lk_clamp_mss(uint8_t *frame, size_t len, uint16_t max_seg_size);
  *   lk_fill_checksum needs the bytes themselves.
  * - Of the Ethernet header only the EtherType is used. For a frame with VLAN tags give `frame + link.offset - 14`, where
  *   `link` is that of lk_read_link. lk_clamp_mss takes these too.
- * - A checksum of TCP or UDP covers the destination of the IP header. If an IPv4 source route has hops left, it covers
- *   another one.
+ * - The checksum of TCP or UDP is updated as one that covers the destination in the header. If an IPv4 source route has
+ *   hops left, it covers the last address of the route: a new destination then makes a valid one wrong.
  * - Any `side` but LK_SOURCE is the destination.
  *
  * Returns 1, or 0 if the packet has no such field; then the frame is unchanged. */
@@ -919,25 +922,37 @@ int lk_set_hop_limit(uint8_t *frame, size_t len, uint8_t hop_limit);
 /* Writes the DSCP, 6 bits (RFC 2474). ECN stays. Returns 0 for numbers above 63. */
 int lk_set_dscp(uint8_t *frame, size_t len, uint8_t dscp);
 
-/* Writes an address. Returns 0 if the packet has another version, and if the checksum of its TCP, UDP or ICMP is not found:
- * it is cut, or after an authentication header or an IPv6 extension header other than one fragment header. */
+/* Writes an address. Returns 0 if the packet has another version, and if a checksum covers the addresses and is not
+ * found:
+ *
+ * - TCP, UDP or ICMP is cut, or the length of UDP is below 8.
+ * - There is an authentication header, or one of these IPv6 extension headers: hop-by-hop options, routing, destination
+ *   options, or a fragment header other than the first header after the IPv6 header.
+ * - It is DCCP (33), OSPF (89), VRRP (112), UDP-Lite (136) or HIP (139), or over IPv6 PIM (103) or Mobility (135).
+ *
+ * Of a fragment that is not the first, only the IP header is updated. */
 int lk_set_addr(uint8_t *frame, size_t len, int side, const struct lk_addr *addr);
 
 /* Writes a port of TCP or UDP. Port 0 is written too. */
 int lk_set_port(uint8_t *frame, size_t len, int side, uint16_t port);
 
 /* Writes the `count` bytes at `ptr` from byte `offset` of the frame on, as an option, an address or payload. Returns 0 if
- * the frame does not have all of them, or if they would replace one of these bytes, or be between two of them:
+ * the frame does not have all of them, or if they would replace one of these bytes:
  *
  * - the Ethernet header,
- * - the version, lengths, fragment fields, protocol and checksum of the IP header,
+ * - the version, lengths, identification, flags, fragment offset, protocol and checksum of the IPv4 header,
+ * - the version, payload length and next header of the IPv6 header, and a fragment header right after it,
  * - the transport checksum, the data offset of TCP, and the length of UDP,
  * - the payload of a fragment that is not the first, whose checksum is in the first one,
- * - all from the addresses on, if lk_set_addr does not find the transport checksum. */
+ * - all from the addresses to the end of the packet, if lk_set_addr does not find the transport checksum.
+ *
+ * Padding after the packet may be written. A `count` of 0 changes nothing: the call returns 0 if `offset` is between two
+ * of these bytes or past the frame, else 1. */
 int lk_set_bytes(uint8_t *frame, size_t len, size_t offset, const uint8_t *ptr, size_t count);
 
 /* Computes the TCP, UDP, ICMP or ICMPv6 checksum anew, as a device does for LK_LEFT_TO_DEVICE, also where UDP has none.
- * Returns 0 for fragments, and for UDP whose length does not fit. */
+ * If an IPv4 source route has hops left, the result covers the next hop, and the last receiver rejects it. Returns 0 for
+ * fragments other than atomic ones, and for UDP whose length does not fit. */
 int lk_fill_checksum(uint8_t *frame, size_t len);
 
 /* ---- routes ---- */

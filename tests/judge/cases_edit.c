@@ -45,6 +45,15 @@ static void set_bytes(size_t len)
     keeps_verdict(both_set_bytes(copy_made(), len, at, bytes, count));
 }
 
+/* Gives the packet the number of a protocol that is not looked into. */
+static void hide_transport(void)
+{
+    static const uint8_t protocols[] = {33, 50, 51, 88, 89, 103, 112, 132, 135, 136, 139, 140};
+    int is_ipv6 = made.octets[12] == 0x86;
+    if (made.len > 34)
+        made.octets[is_ipv6 ? 20 : 23] = protocols[below(sizeof protocols)];
+}
+
 static void edit_one(size_t len)
 {
     static const int sides[] = {LK_SOURCE, LK_DESTINATION, LK_SOURCE, LK_DESTINATION, -1, 256, 0x10000};
@@ -66,6 +75,8 @@ void edit_frame(void)
         make_frame();
     if (one_in(4) && made.octets[12] == 0x08 && made.len > 34)
         made.octets[20] |= 0x20; /* more fragments, mostly after the first */
+    if (one_in(8))
+        hide_transport();
     edit_one(made.len);
     if (one_in(64))
         edit_one(unused_len());

@@ -53,6 +53,7 @@ __attribute__((constructor)) static void choose(void)
         "a range that begins at its second address", "the last range of a table forgotten",
         "a cell read past the end of a table", "no route by a table for IPv6", "no route by a table in too few cells",
         "a martian source accepted by a table",
+        "bytes of a count that is too long written as none", "an address before UDP-Lite written",
     };
     const char *number = getenv("FAULT");
     fault = number ? (enum fault)atoi(number) : NO_FAULT;

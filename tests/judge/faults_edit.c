@@ -28,6 +28,17 @@ int __wrap_lk_set_dscp(uint8_t *frame, size_t len, uint8_t dscp)
     return result;
 }
 
+/* A packet of UDP-Lite is edited as one of EIGRP, whose checksum does not cover the addresses. */
+static int set_addr_of_udp_lite(uint8_t *frame, size_t len, int side, const struct lk_addr *addr)
+{
+    uint8_t *protocol = frame + (frame[12] == 8 ? 23 : 20);
+    int result;
+    *protocol = 88;
+    result = __real_lk_set_addr(frame, len, side, addr);
+    *protocol = 136;
+    return result;
+}
+
 /* A checksum that is left to the device is updated as one that is computed. */
 int __wrap_lk_set_addr(uint8_t *frame, size_t len, int side, const struct lk_addr *addr)
 {
@@ -35,6 +46,8 @@ int __wrap_lk_set_addr(uint8_t *frame, size_t len, int side, const struct lk_add
     size_t at = sum_of(frame, len, &f);
     int result, is_left = fault == LEFT_SUM_COMPLEMENTED && at != 0 && f.transport_checksum == LK_LEFT_TO_DEVICE;
     uint16_t sum = is_left ? (uint16_t)(frame[at] << 8 | frame[at + 1]) : 0;
+    if (fault == UDP_LITE_LEFT && f.network >= LK_IPV4 && f.ip.protocol == 136)
+        return set_addr_of_udp_lite(frame, len, side, addr);
     result = __real_lk_set_addr(frame, len, side, addr);
     if (is_left && result == 1) {
         sum = lk_update_checksum_addr(sum, side == LK_SOURCE ? &f.src.addr : &f.dst.addr, addr);
@@ -66,6 +79,8 @@ int __wrap_lk_set_port(uint8_t *frame, size_t len, int side, uint16_t port)
 int __wrap_lk_set_bytes(uint8_t *frame, size_t len, size_t offset, const uint8_t *ptr, size_t count)
 {
     struct lk_frame f;
+    if (fault == LONG_COUNT_IGNORED && count > LK_MAX_LEN)
+        count = 0;
     lk_read_frame(frame, len, &f);
     if (fault == PROTOCOL_REPLACED && f.network == LK_IPV4 && offset <= 23 && count > 23 - offset && count <= len - offset) {
         memcpy(frame + offset, ptr, count);

@@ -16,6 +16,14 @@ struct parts {
     int is_whole;         /* 1: it covers nothing outside of this frame */
 };
 
+/* Whether a packet of this protocol is not looked into, but has a checksum that covers the addresses. */
+static int hides_sum(unsigned protocol, int is_ipv6)
+{
+    static const uint8_t over_both[] = {33, 51, 89, 112, 136, 139}, over_ipv6[] = {0, 43, 44, 60, 103, 135};
+    return memchr(over_both, (int)protocol, sizeof over_both) != 0 ||
+           (is_ipv6 && memchr(over_ipv6, (int)protocol, sizeof over_ipv6) != 0);
+}
+
 /* Finds the transport checksum of a packet that is no later fragment. */
 static void find_sum(const uint8_t *octets, struct parts *parts, int has_more)
 {
@@ -23,7 +31,7 @@ static void find_sum(const uint8_t *octets, struct parts *parts, int has_more)
     size_t at = protocol == 6 ? 16 : protocol == 17 ? 6 : 2, len = parts->end - parts->start;
     parts->carried = HIDDEN;
     if (protocol != 6 && protocol != 17 && protocol != (parts->is_ipv6 ? 58 : 1)) {
-        if (protocol != 51 && (!parts->is_ipv6 || (protocol != 0 && protocol != 43 && protocol != 44 && protocol != 60)))
+        if (!hides_sum(protocol, parts->is_ipv6))
             parts->carried = OTHER;
         return;
     }
@@ -209,15 +217,15 @@ static int is_free(const struct parts *parts, size_t at)
 int model_set_bytes(uint8_t *octets, size_t len, size_t offset, const uint8_t *ptr, size_t count)
 {
     struct parts parts;
-    size_t used = used_len(len), used_count = used_len(count);
-    if (!find_parts(octets, len, &parts) || offset > used || used_count > used - offset)
+    size_t used = used_len(len);
+    if (!find_parts(octets, len, &parts) || offset > used || count > used - offset)
         return 0;
-    if (used_count == 0 && offset > 0 && !is_free(&parts, offset - 1) && !is_free(&parts, offset))
+    if (count == 0 && offset > 0 && !is_free(&parts, offset - 1) && !is_free(&parts, offset))
         return 0; /* Open: no bytes, between two that stay. */
-    for (size_t i = 0; i < used_count; i++)
+    for (size_t i = 0; i < count; i++)
         if (!is_free(&parts, offset + i))
             return 0;
-    write_bytes(octets, &parts, offset, ptr, used_count);
+    write_bytes(octets, &parts, offset, ptr, count);
     return 1;
 }
 

@@ -44,6 +44,22 @@ static const struct {
     {&ping6, {{0, 0}}, ADDR, 0, "203.0.113.9", 0, {{0, 0}}},
     {&syn_ack_of_1440, {{20, 0}}, ADDR, 1, "2001:db8:1::7", 0, {{0, 0}}}, /* an extension header */
     {&syn, {{23, 51}}, ADDR, 1, "198.51.100.7", 0, {{0, 0}}},            /* an authentication header */
+    {&ping, {{23, 33}}, ADDR, 0, "203.0.113.9", 0, {{0, 0}}},            /* DCCP */
+    {&ping, {{23, 89}}, ADDR, 0, "203.0.113.9", 0, {{0, 0}}},            /* OSPF */
+    {&ping, {{23, 112}}, ADDR, 0, "203.0.113.9", 0, {{0, 0}}},           /* VRRP */
+    {&ping, {{23, 136}}, ADDR, 0, "203.0.113.9", 0, {{0, 0}}},           /* UDP-Lite */
+    {&ping, {{23, 139}}, ADDR, 0, "203.0.113.9", 0, {{0, 0}}},           /* HIP */
+    {&ping6, {{20, 33}}, ADDR, 0, "2001:db8::9", 0, {{0, 0}}},
+    {&ping6, {{20, 89}}, ADDR, 0, "2001:db8::9", 0, {{0, 0}}},
+    {&ping6, {{20, 103}}, ADDR, 0, "2001:db8::9", 0, {{0, 0}}}, /* PIM */
+    {&ping6, {{20, 112}}, ADDR, 0, "2001:db8::9", 0, {{0, 0}}},
+    {&ping6, {{20, 135}}, ADDR, 0, "2001:db8::9", 0, {{0, 0}}}, /* Mobility */
+    {&ping6, {{20, 136}}, ADDR, 0, "2001:db8::9", 0, {{0, 0}}},
+    {&ping6, {{20, 139}}, ADDR, 0, "2001:db8::9", 0, {{0, 0}}},
+    {&ping, {{23, 103}}, ADDR, 0, "203.0.113.9", 0,
+     {{24, 0x1b}, {25, 0x61}, {26, 0xcb}, {28, 0x71}, {29, 0x09}}}, /* PIM over IPv4 sums no address */
+    {&ping6, {{20, 132}}, ADDR, 0, "2001:db8::9", 0, {{37, 0x09}}}, /* nor does SCTP */
+    {&ping, {{39, 0x07}}, ADDR, 0, "203.0.113.9", 0, {{0, 0}}},     /* a UDP length of 7 */
     {&ping, {{0, 0}}, PORT, 0, 0, 5353, {{34, 0x14}, {35, 0xe9}, {40, 0x88}, {41, 0x11}}},
     {&syn, {{0, 0}}, PORT, 1, 0, 8080, {{36, 0x1f}, {37, 0x90}, {50, 0xb9}, {51, 0x7d}}},
     {&ping6, {{0, 0}}, PORT, 1, 0, 7777, {{56, 0x1e}, {57, 0x61}, {60, 0x05}, {61, 0xc8}}},
@@ -63,6 +79,7 @@ static const struct {
     {&tcp4, {{0, 0}}, BYTES, 61, "0102", 0, {{61, 0x01}, {62, 0x02}}}, /* padding */
     {&ping, {{0, 0}}, BYTES, 43, "69", 0, {{43, 0x69}}},
     {&ping, {{0, 0}}, BYTES, 43, "69696969", 0, {{0, 0}}},
+    {&ping6, {{20, 136}}, BYTES, 62, "f1", 0, {{0, 0}}}, /* UDP-Lite */
     {&ping, {{0, 0}}, BYTES, 13, "00", 0, {{0, 0}}},
     {&ping, {{0, 0}}, BYTES, 17, "20", 0, {{0, 0}}},
     {&ping, {{0, 0}}, BYTES, 23, "11", 0, {{0, 0}}},
@@ -110,8 +127,18 @@ static int edits(size_t row, struct octets *frame)
     }
 }
 
+/* A length above LK_MAX_LEN is not that of no bytes. A place after the UDP header has room for none. */
+static void set_too_many_bytes(void)
+{
+    struct octets frame = ping;
+    CHECK(both_set_bytes(frame.at, frame.len, 42, frame.at, 0) == 1);
+    CHECK(both_set_bytes(frame.at, frame.len, 42, frame.at, (size_t)LK_NO_ROOM) == 0);
+    CHECK(both_set_bytes(frame.at, frame.len, 42, frame.at, (size_t)LK_MAX_LEN + 1) == 0);
+}
+
 void worked_edit(void)
 {
+    set_too_many_bytes();
     for (size_t i = 0; i < sizeof edited / sizeof edited[0]; i++) {
         struct octets frame = cut(edited[i].frame, edited[i].frame->len, edited[i].before), expected = frame;
         for (int j = 0; j < MORE_CHANGES && edited[i].after[j].at; j++)

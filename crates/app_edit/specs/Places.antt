@@ -1,5 +1,5 @@
 -- Where the fields of a packet are in its Ethernet frame. All places count from the first byte of the frame.
-use Rattle.std.specs.Prelude.{ℕ, ◌≡◌, ◌≤◌, ◌+◌, ◌%◌, ◌==◌, ◌&&◌, not, nat_le, nat_lt, min, if◌then◌else◌, Bool, true, false, List, Option, None, Some, drop, length, slice_index}
+use Rattle.std.specs.Prelude.{ℕ, ◌≡◌, ◌≤◌, ◌+◌, ◌%◌, ◌==◌, ◌&&◌, ◌||◌, not, nat_le, nat_lt, min, if◌then◌else◌, Bool, true, false, List, Option, None, Some, drop, length, slice_index}
 use Rattle.byteorder.specs.Endian.{big_number}
 use Rattle.ip_wire.specs.Ethernet as ethernet
 use Rattle.ip_wire.specs.Field.{field}
@@ -42,6 +42,16 @@ hides_next over_ipv4 protocol.Ipv6Frag = not over_ipv4
 hides_next over_ipv4 protocol.Ipv6Opts = not over_ipv4
 hides_next over_ipv4 protocol.IpSecAh = true
 hides_next over_ipv4 _ = false
+
+-- Pinned by: `worked/edit`
+-- Whether it is the number of another protocol whose checksum covers the addresses. Over both versions: DCCP (33; RFC
+-- 4340, section 9.1), OSPF version 3 (89; RFC 5340, appendix A.3.1, and RFC 7949 over IPv4), VRRP (112; RFC 5798, section
+-- 5.2.8), UDP-Lite (136; RFC 3828, section 3.2) and HIP (139; RFC 7401, section 5.1.1). Over IPv6: PIM (103; RFC 7761,
+-- section 4.9) and Mobility (135; RFC 6275, section 6.1.1).
+abbrev pub covers_addresses : Bool → IpProtocol → Bool
+covers_addresses over_ipv4 (protocol.Unknown n) =
+    n == 33 || n == 89 || n == 112 || n == 136 || n == 139 || (not over_ipv4 && (n == 103 || n == 135))
+covers_addresses over_ipv4 _ = false
 
 -- Pinned by: `apps/edits`
 -- the offset of the checksum field in a transport header (RFC 9293, RFC 768, RFC 792, RFC 4443)
@@ -87,7 +97,7 @@ segment_at frame p start end whole =
 abbrev pub carried_by : List ℕ → Bool → IpProtocol → ℕ → ℕ → Bool → Carried
 carried_by frame over_ipv4 p start end whole =
     if has_checksum over_ipv4 p then segment_at frame p start end whole
-    else if hides_next over_ipv4 p then carried.Hidden
+    else if hides_next over_ipv4 p || covers_addresses over_ipv4 p then carried.Hidden
     else carried.Other
 
 -- ---- the places in a frame

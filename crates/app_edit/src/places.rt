@@ -2,7 +2,7 @@
 
 ghost use Rattle.std.specs.Prelude.{◌≡◌, ◌≤◌, ◌+◌, ◌%◌, ◌^◌, IfSome, length};
 ghost use Rattle.app_edit.specs.Places as place;
-ghost use Rattle.app_edit.specs.Places.{Holds, HoldsCarried, addresses_end, checksum_offset, checksum_place, has_checksum, hides_next, is_ipv4, places_of};
+ghost use Rattle.app_edit.specs.Places.{Holds, HoldsCarried, addresses_end, checksum_offset, checksum_place, covers_addresses, has_checksum, hides_next, is_ipv4, places_of};
 ghost use Rattle.ip_wire.specs.declared.IpVersion.TheVariants as version;
 
 use byteorder::{ByteOrder, NetworkEndian};
@@ -32,11 +32,12 @@ pub struct Segment {
 pub enum Carried {
     /// A transport packet, or its first fragment.
     Segment(Segment),
-    /// Another protocol. None of its checksums is known.
+    /// Another protocol, whose checksum does not cover the addresses. It is not updated.
     Other,
     /// A fragment that is not the first. The checksum of its bytes is in the first one.
     Fragment,
-    /// A transport packet whose checksum field is not found: it is cut, the length of UDP is below 8, or there is an
+    /// A transport packet whose checksum covers the addresses, and is not found: it is cut, the length of UDP is below 8,
+    /// it is of another protocol (DCCP, OSPF, VRRP, UDP-Lite, HIP, and over IPv6 PIM and Mobility), or there is an
     /// authentication header or an IPv6 extension header before it, other than one fragment header right after the IPv6
     /// header.
     Hidden,
@@ -217,7 +218,7 @@ fn carried_by(
 {
     if has_checksum(version, protocol) {
         segment_at(frame, version, protocol, start, end, is_whole)
-    } else if hides_next(version, protocol) {
+    } else if hides_next(version, protocol) || covers_addresses(version, protocol) {
         Carried::Hidden
     } else {
         Carried::Other
@@ -246,6 +247,18 @@ fn hides_next(version: IpVersion, protocol: IpProtocol) -> bool
         | IpProtocol::Ipv6Frag
         | IpProtocol::Ipv6Opts => !is_ipv4(version),
         IpProtocol::IpSecAh => true,
+        _ => false,
+    }
+}
+
+// Whether it is the number of another protocol whose checksum covers the addresses: DCCP, OSPF, VRRP, UDP-Lite, HIP,
+// and over IPv6 PIM and Mobility.
+fn covers_addresses(version: IpVersion, protocol: IpProtocol) -> bool
+    ensures { result ≡ covers_addresses (is_ipv4 version) protocol }
+{
+    match protocol {
+        IpProtocol::Unknown(33 | 89 | 112 | 136 | 139) => true,
+        IpProtocol::Unknown(103 | 135) => !is_ipv4(version),
         _ => false,
     }
 }

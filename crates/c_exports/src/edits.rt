@@ -46,7 +46,7 @@ pub extern "C" fn lk_set_port(frame: &mut [u8], side: i32, port: u16) -> i32
 /// Writes bytes from this byte of the frame on.
 #[unsafe(no_mangle)]
 pub extern "C" fn lk_set_bytes(frame: &mut [u8], offset: usize, bytes: &[u8]) -> i32
-    ensures { Edits (bytes_set (within frame.old) offset (within bytes.now)) frame.old frame.new result }
+    ensures { Edits (bytes_set (within frame.old) offset bytes.now) frame.old frame.new result }
 {
     set_bytes(frame, offset, bytes)
 }

@@ -10,7 +10,7 @@ ghost use Rattle.c_structs.specs.Addresses.{ip_of};
 ghost use Rattle.c_structs.specs.Written.{flag, within};
 
 use crate::translation::side_of;
-use c_structs::{Addr, MAX_LEN, within};
+use c_structs::{Addr, MAX_LEN};
 
 /// Writes the TTL or hop limit.
 pub fn set_hop_limit(frame: &mut [u8], hop_limit: u8) -> i32
@@ -57,12 +57,12 @@ pub fn set_port(frame: &mut [u8], side: i32, port: u16) -> i32
 
 /// Writes bytes from this byte of the frame on.
 pub fn set_bytes(frame: &mut [u8], offset: usize, bytes: &[u8]) -> i32
-    ensures { Edits (bytes_set (within frame.old) offset (within bytes.now)) frame.old frame.new result }
+    ensures { Edits (bytes_set (within frame.old) offset bytes.now) frame.old frame.new result }
 {
     if frame.len() > MAX_LEN {
         return 0;
     }
-    code(app_edit::set_bytes(frame, offset, within(bytes)))
+    code(app_edit::set_bytes(frame, offset, bytes))
 }
 
 /// Computes the transport checksum.
