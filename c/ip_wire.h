@@ -883,18 +883,29 @@ enum lk_side { LK_SOURCE, LK_DESTINATION };
  * unchanged. The source port of UDP may be 0 (RFC 768), so that it gets no LK_ZERO_PORT. */
 int lk_translate(uint8_t *frame, size_t len, int side, const struct lk_endpoint *end);
 
+/* Whether the TCP or UDP checksum of a frame is left to the device that sends it (checksum offload). No frame says so,
+ * but a virtio header (VIRTIO_NET_HDR_F_NEEDS_CSUM) and a packet socket (TP_STATUS_CSUMNOTREADY) do. LK_GUESS is wrong
+ * for one in 65,536 frames whose checksum is left to the device: the call spoils it. LK_GUESS is also wrong for one in
+ * 65,536 wrong checksums: the call may make them valid. Any other number is LK_GUESS. */
+enum lk_offload {
+    LK_GUESS,     /* unknown: it is, if the field is the sum of the pseudo-header, and is not valid as it is */
+    LK_OFFLOADED, /* it is: the field is the sum of the pseudo-header */
+    LK_COMPLETE   /* it is not */
+};
+
 /* Lowers the maximum segment size of a TCP SYN in an Ethernet frame to `max_seg_size`, in place, and updates the TCP
  * checksum (RFC 1624). A router does so with each frame that comes in or leaves by a link with a smaller MTU: to the MTU
  * less 40 over IPv4, and less 60 over IPv6.
  *
  * - Of several such options the last counts. A SYN without one stays as it is.
- * - A valid TCP checksum stays valid, and a wrong one stays wrong. A field that lk_read_frame calls LK_LEFT_TO_DEVICE is
- *   unchanged, because it does not cover the option.
+ * - A valid TCP checksum stays valid, and a wrong one stays wrong. A field that is left to the device is unchanged,
+ *   because it does not cover the option. lk_clamp_mss guesses which it is (LK_GUESS).
  * - A frame stays as it is if lk_read_frame rejects a header, and if it is a fragment, has a wrong IPv4 header checksum,
  *   or has IPv6 extension headers before TCP.
  *
  * Returns 1 if the size was larger, else 0; then the frame is unchanged. */
 int lk_clamp_mss(uint8_t *frame, size_t len, uint16_t max_seg_size);
+int lk_clamp_mss_as(uint8_t *frame, size_t len, uint16_t max_seg_size, int offload);
 
 /* ---- edits in place ---- */
 
@@ -902,9 +913,11 @@ int lk_clamp_mss(uint8_t *frame, size_t len, uint16_t max_seg_size);
  * cover it (RFC 1624): that of the IPv4 header, and that of TCP, UDP, ICMP or ICMPv6. No other byte changes.
  * Checksums of other protocols are not updated.
  *
- * - A valid checksum stays valid, and a wrong one stays wrong. One that is left to the device (LK_LEFT_TO_DEVICE) stays
- *   so: an address changes it, as part of the pseudo-header, and nothing else does. UDP's 0 over IPv4 stays 0. The
- *   exception is an ICMP message whose other bytes are all 0 (lk_update_checksum).
+ * - A valid checksum stays valid, and a wrong one stays wrong. UDP's 0 over IPv4 stays 0. The exception is an ICMP
+ *   message whose other bytes are all 0 (lk_update_checksum).
+ * - A TCP or UDP checksum that is left to the device stays so: an address changes it, as part of the pseudo-header, and
+ *   nothing else does. lk_set_addr, lk_set_port and lk_set_bytes guess which it is (LK_GUESS). Callers that know it tell
+ *   lk_set_addr_as, lk_set_port_as and lk_set_bytes_as.
  * - lk_read_frame must read the IP header. Of TCP, UDP or ICMP only the bytes up to the checksum field must be there,
  *   also in the first of several fragments. Append zeros to a packet that was cut, up to its length: only
  *   lk_fill_checksum needs the bytes themselves.
@@ -932,23 +945,24 @@ int lk_set_dscp(uint8_t *frame, size_t len, uint8_t dscp);
  *
  * Of a fragment that is not the first, only the IP header is updated. */
 int lk_set_addr(uint8_t *frame, size_t len, int side, const struct lk_addr *addr);
+int lk_set_addr_as(uint8_t *frame, size_t len, int side, const struct lk_addr *addr, int offload);
 
 /* Writes a port of TCP or UDP. Port 0 is written too. */
 int lk_set_port(uint8_t *frame, size_t len, int side, uint16_t port);
+int lk_set_port_as(uint8_t *frame, size_t len, int side, uint16_t port, int offload);
 
-/* Writes the `count` bytes at `ptr` from byte `offset` of the frame on, as an option, an address or payload. Returns 0 if
- * the frame does not have all of them, or if they would replace one of these bytes:
+/* Writes the `count` bytes at `ptr` from byte `offset` of the frame on, as an option, an address, payload or padding.
+ * Returns 0 if the frame does not have all of them, if they would replace one of these bytes, or if `count` is 0 and
+ * `offset` is between two of these bytes:
  *
  * - the Ethernet header,
  * - the version, lengths, identification, flags, fragment offset, protocol and checksum of the IPv4 header,
  * - the version, payload length and next header of the IPv6 header, and a fragment header right after it,
  * - the transport checksum, the data offset of TCP, and the length of UDP,
  * - the payload of a fragment that is not the first, whose checksum is in the first one,
- * - all from the addresses to the end of the packet, if lk_set_addr does not find the transport checksum.
- *
- * Padding after the packet may be written. A `count` of 0 changes nothing: the call returns 0 if `offset` is between two
- * of these bytes or past the frame, else 1. */
+ * - all from the addresses to the end of the packet, if a checksum covers the addresses and is not found (lk_set_addr). */
 int lk_set_bytes(uint8_t *frame, size_t len, size_t offset, const uint8_t *ptr, size_t count);
+int lk_set_bytes_as(uint8_t *frame, size_t len, size_t offset, const uint8_t *ptr, size_t count, int offload);
 
 /* Computes the TCP, UDP, ICMP or ICMPv6 checksum anew, as a device does for LK_LEFT_TO_DEVICE, also where UDP has none.
  * If an IPv4 source route has hops left, the result covers the next hop, and the last receiver rejects it. Returns 0 for

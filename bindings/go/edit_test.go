@@ -42,6 +42,12 @@ func TestEdits(t *testing.T) {
 			ping[:82] + "8c" + "706f6e67"},
 		{"SetBytes", ping, func(b []byte) bool { return SetBytes(b, 43, []byte("pong")) }, ""},
 		{"SetBytes", ping, func(b []byte) bool { return SetBytes(b, -1, []byte("pong")) }, ""},
+		{"SetPortAs", ping, func(b []byte) bool { return SetPortAs(b, Source, 5353, Offloaded) },
+			ping[:68] + "14e9" + ping[72:]},
+		{"SetAddrAs", ping, func(b []byte) bool { return SetAddrAs(b, Source, addr, Complete) },
+			ethernet + "450000202160400040111b61cb007109c0000202" + "a1670007000c818a" + "70696e67"},
+		{"SetBytesAs", ping, func(b []byte) bool { return SetBytesAs(b, 42, []byte("pong"), Offloaded) },
+			ping[:84] + "706f6e67"},
 		{"FillChecksum", offloaded, FillChecksum, offloaded[:80] + "1be0" + offloaded[84:]},
 	} {
 		frame, after := unhex(t, it.before), it.after

@@ -44,8 +44,13 @@ func Forward(frame []byte, src, dst HardwareAddr) error {
 // ClampMSS lowers the maximum segment size of a TCP SYN in an Ethernet frame, in place, and updates the TCP checksum. One
 // that is LeftToDevice is unchanged. It tells whether the size was larger.
 func ClampMSS(frame []byte, maxSegSize uint16) bool {
+	return ClampMSSAs(frame, maxSegSize, Guess)
+}
+
+// ClampMSSAs is ClampMSS of a frame whose checksum is known to be left to the device, or not to be.
+func ClampMSSAs(frame []byte, maxSegSize uint16, offload Offload) bool {
 	ptr, length := memory(frame)
-	return C.lk_clamp_mss(ptr, length, C.uint16_t(maxSegSize)) != 0
+	return C.lk_clamp_mss_as(ptr, length, C.uint16_t(maxSegSize), C.int(offload)) != 0
 }
 
 // Route is a route to the addresses of a block.

@@ -28,6 +28,8 @@ HEADER_ONLY = ("lk_out",)
 # The crates of the structs and calls. The first ones are used without C too, and their structs have other names there.
 OF_LIBRARY = ("app_link", "app_router", "app_nat", "c_structs", "c_icmp", "c_routing", "c_exports")
 STRUCTS = {"Node": "struct lk_route_node", "Mapping": "struct lk_mapping", "Nat": "struct lk_nat"}
+# Enums that are used without C too, and whose doc lines do not name them as C does.
+ENUMS = {"Side": "lk_side", "Offload": "lk_offload"}
 # The fields of this struct are fields of the one around it in C, and then come the bytes that align it.
 INNER = {"FrameFields": 5}
 # The flags of a TCP header, from bit 0 on (RFC 9293, section 3.1).
@@ -85,7 +87,7 @@ class Library:
         everything = [item for crate in crates.values() for module in crate.modules.values() for item in module.items]
         self.items = [item for name in OF_LIBRARY for module in crates[name].modules.values()
                       for item in module.items]
-        self.sides = next(item for item in everything if item.kind == "enum" and item.name == "Side")
+        self.plain_enums = [item for item in everything if item.kind == "enum" and item.name in ENUMS]
         docs = {item.name: " ".join(item.docs) for item in self.items if item.kind == "struct"}
         names = {rust: re.match(r"`(struct lk_\w+)`", doc) for rust, doc in docs.items()}
         self.types = {**NUMBERS, **STRUCTS, **{rust: found.group(1) for rust, found in names.items() if found}}
@@ -131,7 +133,8 @@ class Library:
 
     def enums(self):
         yield "lk_tcp_flag", {"LK_" + flag: 1 << bit for bit, flag in enumerate(TCP_FLAGS)}
-        yield "lk_side", {"LK_" + member.text.upper(): number for number, member in enumerate(self.sides.members)}
+        for item in self.plain_enums:
+            yield ENUMS[item.name], {"LK_" + member.text.upper(): number for number, member in enumerate(item.members)}
         for item in self.items:
             found = re.match(r"`enum (lk_\w+)`", " ".join(item.docs)) if item.kind == "enum" else None
             if found:

@@ -321,6 +321,15 @@ CHANGER(set_port, (uint8_t *frame, size_t len, int side, uint16_t port), (wanted
         (FRAME, NUMBER(side), NUMBER(port)))
 CHANGER(set_bytes, (uint8_t *frame, size_t len, size_t offset, const uint8_t *ptr, size_t count),
         (wanted, len, offset, ptr, count), (FRAME, NUMBER(offset), given("ptr", ptr, used_len(count)), NUMBER(count)))
+CHANGER(clamp_mss_as, (uint8_t *frame, size_t len, uint16_t max_seg_size, int offload),
+        (wanted, len, max_seg_size, offload), (FRAME, NUMBER(max_seg_size), NUMBER(offload)))
+CHANGER(set_addr_as, (uint8_t *frame, size_t len, int side, const struct lk_addr *addr, int offload),
+        (wanted, len, side, addr, offload), (FRAME, NUMBER(side), GIVE(addr), NUMBER(offload)))
+CHANGER(set_port_as, (uint8_t *frame, size_t len, int side, uint16_t port, int offload),
+        (wanted, len, side, port, offload), (FRAME, NUMBER(side), NUMBER(port), NUMBER(offload)))
+CHANGER(set_bytes_as, (uint8_t *frame, size_t len, size_t offset, const uint8_t *ptr, size_t count, int offload),
+        (wanted, len, offset, ptr, count, offload),
+        (FRAME, NUMBER(offset), given("ptr", ptr, used_len(count)), NUMBER(count), NUMBER(offload)))
 CHANGER(fill_checksum, (uint8_t *frame, size_t len), (wanted, len), (FRAME))
 
 /* ---- routes: the model searches those that were indexed last ---- */

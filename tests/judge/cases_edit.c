@@ -43,6 +43,7 @@ static void set_bytes(size_t len)
     if (one_in(64))
         count = unused_len();
     keeps_verdict(both_set_bytes(copy_made(), len, at, bytes, count));
+    both_set_bytes_as(copy_made(), len, at, bytes, count, any_offload());
 }
 
 /* Gives the packet the number of a protocol that is not looked into. */
@@ -59,10 +60,13 @@ static void edit_one(size_t len)
     static const int sides[] = {LK_SOURCE, LK_DESTINATION, LK_SOURCE, LK_DESTINATION, -1, 256, 0x10000};
     struct lk_addr addr = any_addr(one_in(16) ? any_version() : made.octets[12] == 0x86 ? 6 : 4);
     int side = sides[below(7)];
+    uint16_t port = (uint16_t)any_port();
     keeps_verdict(both_set_hop_limit(copy_made(), len, (uint8_t)any()));
     keeps_verdict(both_set_dscp(copy_made(), len, (uint8_t)(one_in(8) ? any() : below(64))));
     keeps_verdict(both_set_addr(copy_made(), len, side, &addr));
-    keeps_verdict(both_set_port(copy_made(), len, side, (uint16_t)any_port()));
+    keeps_verdict(both_set_port(copy_made(), len, side, port));
+    both_set_addr_as(copy_made(), len, side, &addr, any_offload());
+    both_set_port_as(copy_made(), len, side, port, any_offload());
     set_bytes(len);
     both_fill_checksum(copy_made(), len);
 }

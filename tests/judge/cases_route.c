@@ -31,7 +31,9 @@ static void translate_one(size_t len)
 static void clamp_one(size_t len)
 {
     static const uint16_t common[] = {0, 536, 1220, 1460, 65535};
-    both_clamp_mss(copy_made(), len, (uint16_t)(one_in(2) ? any() : common[below(5)]));
+    uint16_t max_seg_size = (uint16_t)(one_in(2) ? any() : common[below(5)]);
+    both_clamp_mss(copy_made(), len, max_seg_size);
+    both_clamp_mss_as(copy_made(), len, max_seg_size, any_offload());
 }
 
 /* Mostly over IPv4, because NAT does not translate others. */

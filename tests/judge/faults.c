@@ -54,6 +54,8 @@ __attribute__((constructor)) static void choose(void)
         "a cell read past the end of a table", "no route by a table for IPv6", "no route by a table in too few cells",
         "a martian source accepted by a table",
         "bytes of a count that is too long written as none", "an address before UDP-Lite written",
+        "LK_OFFLOADED with an address as LK_GUESS", "LK_COMPLETE with a port as LK_GUESS",
+        "an unknown lk_offload as LK_COMPLETE", "LK_OFFLOADED of a clamped SYN as LK_GUESS",
     };
     const char *number = getenv("FAULT");
     fault = number ? (enum fault)atoi(number) : NO_FAULT;

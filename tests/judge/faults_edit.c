@@ -10,6 +10,9 @@ int __real_lk_set_addr(uint8_t *frame, size_t len, int side, const struct lk_add
 int __real_lk_set_port(uint8_t *frame, size_t len, int side, uint16_t port);
 int __real_lk_set_bytes(uint8_t *frame, size_t len, size_t offset, const uint8_t *ptr, size_t count);
 int __real_lk_fill_checksum(uint8_t *frame, size_t len);
+int __real_lk_set_addr_as(uint8_t *frame, size_t len, int side, const struct lk_addr *addr, int offload);
+int __real_lk_set_port_as(uint8_t *frame, size_t len, int side, uint16_t port, int offload);
+int __real_lk_set_bytes_as(uint8_t *frame, size_t len, size_t offset, const uint8_t *ptr, size_t count, int offload);
 
 /* Reads a frame before it is edited, and says where its UDP or TCP checksum is; 0: nowhere. */
 static size_t sum_of(const uint8_t *frame, size_t len, struct lk_frame *f)
@@ -95,4 +98,27 @@ int __wrap_lk_fill_checksum(uint8_t *frame, size_t len)
     struct lk_frame f;
     sum_of(frame, len, &f);
     return fault == LEFT_OUT_NOT_FILLED && f.transport_checksum == LK_LEFT_OUT ? 0 : __real_lk_fill_checksum(frame, len);
+}
+
+/* ---- what the caller says of a checksum ---- */
+
+int __wrap_lk_set_addr_as(uint8_t *frame, size_t len, int side, const struct lk_addr *addr, int offload)
+{
+    if (fault == OFFLOADED_ADDR_GUESSED && offload == LK_OFFLOADED)
+        offload = LK_GUESS;
+    return __real_lk_set_addr_as(frame, len, side, addr, offload);
+}
+
+int __wrap_lk_set_port_as(uint8_t *frame, size_t len, int side, uint16_t port, int offload)
+{
+    if (fault == COMPLETE_PORT_GUESSED && offload == LK_COMPLETE)
+        offload = LK_GUESS;
+    return __real_lk_set_port_as(frame, len, side, port, offload);
+}
+
+int __wrap_lk_set_bytes_as(uint8_t *frame, size_t len, size_t offset, const uint8_t *ptr, size_t count, int offload)
+{
+    if (fault == UNKNOWN_OFFLOAD_COMPLETE && (offload < LK_GUESS || offload > LK_COMPLETE))
+        offload = LK_COMPLETE;
+    return __real_lk_set_bytes_as(frame, len, offset, ptr, count, offload);
 }

@@ -8,6 +8,7 @@
 int __real_lk_forward(uint8_t *frame, size_t len, const uint8_t *src, const uint8_t *dst);
 int __real_lk_translate(uint8_t *frame, size_t len, int side, const struct lk_endpoint *end);
 int __real_lk_clamp_mss(uint8_t *frame, size_t len, uint16_t max_seg_size);
+int __real_lk_clamp_mss_as(uint8_t *frame, size_t len, uint16_t max_seg_size, int offload);
 ptrdiff_t __real_lk_index_routes(const struct lk_route *routes, size_t count, struct lk_route_node *nodes,
                                  size_t node_count);
 int __real_lk_check_source(const struct lk_route *routes, size_t route_count, const struct lk_route_node *nodes,
@@ -64,6 +65,13 @@ int __wrap_lk_clamp_mss(uint8_t *frame, size_t len, uint16_t max_seg_size)
     if (fault == PARTIAL_SUM_UPDATED && result == 1 && f.transport_checksum == LK_LEFT_TO_DEVICE)
         frame[f.transport_offset + 16] ^= 1;
     return result;
+}
+
+int __wrap_lk_clamp_mss_as(uint8_t *frame, size_t len, uint16_t max_seg_size, int offload)
+{
+    if (fault == OFFLOADED_CLAMP_GUESSED && offload == LK_OFFLOADED)
+        offload = LK_GUESS;
+    return __real_lk_clamp_mss_as(frame, len, max_seg_size, offload);
 }
 
 /* Indexes the routes from the last to the first. */

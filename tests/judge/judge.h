@@ -76,7 +76,7 @@ BOTH(rejection_name); BOTH(forward); BOTH(translate); BOTH(clamp_mss); BOTH(inde
 BOTH(check_source); BOTH(make_route_table); BOTH(choose_route_by_table); BOTH(check_source_by_table);
 BOTH(translate_out); BOTH(translate_in); BOTH(set_hop_limit); BOTH(set_dscp); BOTH(set_addr);
 BOTH(set_port); BOTH(set_bytes); BOTH(fill_checksum); BOTH(protocol_name); BOTH(ethertype_name);
-BOTH(tcp_flag_name);
+BOTH(tcp_flag_name); BOTH(clamp_mss_as); BOTH(set_addr_as); BOTH(set_port_as); BOTH(set_bytes_as);
 
 /* The model of NAT has a table of its own: it is empty then. */
 void forget_mappings(void);
@@ -96,6 +96,9 @@ struct lk_host any_host_for(const struct lk_frame *frame);
 
 /* A header of a TCP segment with any options, up to 60 bytes. Returns its length. */
 size_t any_tcp_header(uint8_t *out);
+
+/* What a caller says of a checksum. */
+int any_offload(void);
 
 /* The frame that was made last. */
 struct made {

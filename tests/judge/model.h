@@ -183,6 +183,7 @@ void write_end(uint8_t *octets, const struct lk_frame *frame, int side, const st
 int model_forward(uint8_t *octets, size_t len, const uint8_t *src, const uint8_t *dst);
 int model_translate(uint8_t *octets, size_t len, int side, const struct lk_endpoint *end);
 int model_clamp_mss(uint8_t *octets, size_t len, uint16_t max_seg_size);
+int model_clamp_mss_as(uint8_t *octets, size_t len, uint16_t max_seg_size, int offload);
 
 /* The model has no index and no table: it searches the routes one by one. */
 ptrdiff_t model_index_routes(const struct lk_route *routes, size_t count, size_t node_count);
@@ -200,6 +201,9 @@ int model_set_dscp(uint8_t *octets, size_t len, uint8_t dscp);
 int model_set_addr(uint8_t *octets, size_t len, int side, const struct lk_addr *addr);
 int model_set_port(uint8_t *octets, size_t len, int side, uint16_t port);
 int model_set_bytes(uint8_t *octets, size_t len, size_t offset, const uint8_t *ptr, size_t count);
+int model_set_addr_as(uint8_t *octets, size_t len, int side, const struct lk_addr *addr, int offload);
+int model_set_port_as(uint8_t *octets, size_t len, int side, uint16_t port, int offload);
+int model_set_bytes_as(uint8_t *octets, size_t len, size_t offset, const uint8_t *ptr, size_t count, int offload);
 int model_fill_checksum(uint8_t *octets, size_t len);
 
 /* ---- model_nat.c ---- */

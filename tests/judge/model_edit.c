@@ -102,10 +102,12 @@ static uint16_t sum_of(const uint8_t *octets, const struct parts *parts, int is_
     return pseudo_sum(&src, &dst, parts->protocol, ptr, len, is_pseudo ? 0 : len);
 }
 
-static int is_left_to_device(const uint8_t *octets, const struct parts *parts)
+static int is_left_to_device(const uint8_t *octets, const struct parts *parts, int offload)
 {
-    return parts->is_whole && (parts->protocol == 6 || parts->protocol == 17) && sum_of(octets, parts, 0) != 0xffff &&
-           sum_of(octets, parts, 1) == get_word(octets + parts->sum);
+    if (offload == LK_COMPLETE || (parts->protocol != 6 && parts->protocol != 17))
+        return 0;
+    return offload == LK_OFFLOADED || (parts->is_whole && sum_of(octets, parts, 0) != 0xffff &&
+                                       sum_of(octets, parts, 1) == get_word(octets + parts->sum));
 }
 
 /* Updates a field for those of the bytes from `at` to `end` that it covers: from `first` to `last`. */
@@ -122,11 +124,11 @@ static unsigned updated(unsigned field, int is_udp, size_t first, size_t last, s
 }
 
 static unsigned updated_transport(const uint8_t *octets, const struct parts *parts, size_t at, size_t end,
-                                  const uint8_t *before, const uint8_t *after)
+                                  const uint8_t *before, const uint8_t *after, int offload)
 {
     unsigned field = get_word(octets + parts->sum);
     int is_udp = parts->protocol == 17;
-    if (is_left_to_device(octets, parts))
+    if (is_left_to_device(octets, parts, offload))
         return 0xffff & ~updated(0xffff & ~field, 0, parts->addrs, parts->addrs_end, at, end, before, after);
     if (parts->protocol != 1)
         field = updated(field, is_udp, parts->addrs, parts->addrs_end, at, end, before, after);
@@ -134,7 +136,8 @@ static unsigned updated_transport(const uint8_t *octets, const struct parts *par
 }
 
 /* Writes bytes, and updates both checksums. */
-static void write_bytes(uint8_t *octets, const struct parts *parts, size_t at, const uint8_t *after, size_t len)
+static void write_bytes(uint8_t *octets, const struct parts *parts, size_t at, const uint8_t *after, size_t len,
+                        int offload)
 {
     static uint8_t before[MODEL_ROOM];
     unsigned header = 0, transport = 0;
@@ -142,7 +145,7 @@ static void write_bytes(uint8_t *octets, const struct parts *parts, size_t at, c
     if (!parts->is_ipv6)
         header = updated(get_word(octets + 24), 0, 14, parts->start, at, at + len, before, after);
     if (parts->carried == SEGMENT)
-        transport = updated_transport(octets, parts, at, at + len, before, after);
+        transport = updated_transport(octets, parts, at, at + len, before, after, offload);
     memcpy(octets + at, after, len);
     if (!parts->is_ipv6)
         put_word(octets + 24, header);
@@ -155,7 +158,7 @@ int model_set_hop_limit(uint8_t *octets, size_t len, uint8_t hop_limit)
     struct parts parts;
     if (!find_parts(octets, len, &parts))
         return 0;
-    write_bytes(octets, &parts, parts.is_ipv6 ? 21 : 22, &hop_limit, 1);
+    write_bytes(octets, &parts, parts.is_ipv6 ? 21 : 22, &hop_limit, 1, LK_GUESS);
     return 1;
 }
 
@@ -169,28 +172,39 @@ int model_set_dscp(uint8_t *octets, size_t len, uint8_t dscp)
         put_word(word, (get_word(octets + 14) & 0xf03f) | (unsigned)dscp << 6);
     else
         put_word(word, (get_word(octets + 14) & 0xff03) | (unsigned)dscp << 2);
-    write_bytes(octets, &parts, 14, word, 2);
+    write_bytes(octets, &parts, 14, word, 2, LK_GUESS);
+    return 1;
+}
+
+int model_set_addr_as(uint8_t *octets, size_t len, int side, const struct lk_addr *addr, int offload)
+{
+    struct parts parts;
+    if (!find_parts(octets, len, &parts) || parts.carried == HIDDEN || addr->version != (parts.is_ipv6 ? 6 : 4))
+        return 0;
+    write_bytes(octets, &parts, parts.addrs + (side == LK_SOURCE ? 0 : addr_len(addr)), addr->octets, addr_len(addr),
+                offload);
     return 1;
 }
 
 int model_set_addr(uint8_t *octets, size_t len, int side, const struct lk_addr *addr)
 {
-    struct parts parts;
-    if (!find_parts(octets, len, &parts) || parts.carried == HIDDEN || addr->version != (parts.is_ipv6 ? 6 : 4))
-        return 0;
-    write_bytes(octets, &parts, parts.addrs + (side == LK_SOURCE ? 0 : addr_len(addr)), addr->octets, addr_len(addr));
-    return 1;
+    return model_set_addr_as(octets, len, side, addr, LK_GUESS);
 }
 
-int model_set_port(uint8_t *octets, size_t len, int side, uint16_t port)
+int model_set_port_as(uint8_t *octets, size_t len, int side, uint16_t port, int offload)
 {
     struct parts parts;
     uint8_t word[2];
     if (!find_parts(octets, len, &parts) || parts.carried != SEGMENT || (parts.protocol != 6 && parts.protocol != 17))
         return 0;
     put_word(word, port);
-    write_bytes(octets, &parts, parts.start + (side == LK_SOURCE ? 0 : 2), word, 2);
+    write_bytes(octets, &parts, parts.start + (side == LK_SOURCE ? 0 : 2), word, 2, offload);
     return 1;
+}
+
+int model_set_port(uint8_t *octets, size_t len, int side, uint16_t port)
+{
+    return model_set_port_as(octets, len, side, port, LK_GUESS);
 }
 
 /* Whether one byte of the frame may be replaced. */
@@ -214,7 +228,7 @@ static int is_free(const struct parts *parts, size_t at)
     return parts->protocol == 6 ? in != 12 : parts->protocol == 17 ? in != 4 && in != 5 : 1;
 }
 
-int model_set_bytes(uint8_t *octets, size_t len, size_t offset, const uint8_t *ptr, size_t count)
+int model_set_bytes_as(uint8_t *octets, size_t len, size_t offset, const uint8_t *ptr, size_t count, int offload)
 {
     struct parts parts;
     size_t used = used_len(len);
@@ -225,8 +239,13 @@ int model_set_bytes(uint8_t *octets, size_t len, size_t offset, const uint8_t *p
     for (size_t i = 0; i < count; i++)
         if (!is_free(&parts, offset + i))
             return 0;
-    write_bytes(octets, &parts, offset, ptr, count);
+    write_bytes(octets, &parts, offset, ptr, count, offload);
     return 1;
+}
+
+int model_set_bytes(uint8_t *octets, size_t len, size_t offset, const uint8_t *ptr, size_t count)
+{
+    return model_set_bytes_as(octets, len, offset, ptr, count, LK_GUESS);
 }
 
 int model_fill_checksum(uint8_t *octets, size_t len)

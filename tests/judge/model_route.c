@@ -87,12 +87,13 @@ static uint8_t *max_seg_size_in(uint8_t *options, size_t len)
     return found;
 }
 
-int model_clamp_mss(uint8_t *octets, size_t len, uint16_t max_seg_size)
+int model_clamp_mss_as(uint8_t *octets, size_t len, uint16_t max_seg_size, int offload)
 {
     struct lk_frame frame;
     uint8_t *header, *size;
     size_t options_len;
     uint16_t before;
+    int is_left;
     model_read_frame(octets, used_len(len), &frame);
     if (frame.transport != LK_TCP || frame.ipv4_checksum == LK_WRONG || (frame.tcp.flags & LK_SYN) == 0)
         return 0;
@@ -103,10 +104,16 @@ int model_clamp_mss(uint8_t *octets, size_t len, uint16_t max_seg_size)
         return 0;
     before = model_checksum(header + 20, options_len);
     put_word(size, max_seg_size);
-    if (frame.transport_checksum != LK_LEFT_TO_DEVICE)
+    is_left = offload == LK_OFFLOADED || (offload != LK_COMPLETE && frame.transport_checksum == LK_LEFT_TO_DEVICE);
+    if (!is_left)
         put_word(header + 16, model_update_checksum((uint16_t)get_word(header + 16), before,
                                                     model_checksum(header + 20, options_len)));
     return 1;
+}
+
+int model_clamp_mss(uint8_t *octets, size_t len, uint16_t max_seg_size)
+{
+    return model_clamp_mss_as(octets, len, max_seg_size, LK_GUESS);
 }
 
 /* ---- NAT of one packet ---- */

@@ -6,7 +6,7 @@ enum { HOP_LIMIT, DSCP, ADDR, PORT, BYTES, FILL, MORE_CHANGES = 12 };
 
 /* `before`: changes of the frame. `text`: an address, or the bytes. `after`: what the call changes then; none: it
  * returns 0. */
-static const struct {
+struct edit {
     const struct octets *frame;
     struct change before[CHANGES];
     int field;
@@ -14,7 +14,9 @@ static const struct {
     const char *text;
     unsigned value;
     struct change after[MORE_CHANGES];
-} edited[] = {
+};
+
+static const struct edit edited[] = {
     {&ping, {{0, 0}}, HOP_LIMIT, 0, 0, 1, {{22, 0x01}, {24, 0xd4}}},
     {&syn, {{0, 0}}, HOP_LIMIT, 0, 0, 255, {{22, 0xff}, {24, 0xa3}, {25, 0xfb}}},
     {&ping6, {{0, 0}}, HOP_LIMIT, 0, 0, 0, {{21, 0x00}}},
@@ -101,15 +103,42 @@ static const struct {
     {&arp4, {{0, 0}}, FILL, 0, 0, 0, {{0, 0}}},
 };
 
+/* The field has the sum of the pseudo-header: of a segment that is valid as it is, and of one that is not. */
+#define LOOKS_VALID {{48, 0x4f}, {49, 0x7c}, {50, 0x84}, {51, 0x32}}
+#define LOOKS_LEFT {{50, 0x84}, {51, 0x32}}
+#define NEW_ADDR {24, 0xfa}, {25, 0xc3}, {30, 0xc6}, {31, 0x33}, {32, 0x64}, {33, 0x07}
+
+/* What the caller says of the checksum. LK_GUESS updates one that is left to the device and looks valid, and makes a wrong
+ * one valid that looks left to the device. */
+static const struct {
+    struct edit edit;
+    int offload;
+} told[] = {
+    {{&syn, LOOKS_VALID, PORT, 1, 0, 8080, {{36, 0x1f}, {37, 0x90}}}, LK_OFFLOADED},
+    {{&syn, LOOKS_VALID, PORT, 1, 0, 8080, {{36, 0x1f}, {37, 0x90}, {50, 0x64}, {51, 0xf2}}}, LK_GUESS},
+    {{&syn, LOOKS_VALID, PORT, 1, 0, 8080, {{36, 0x1f}, {37, 0x90}, {50, 0x64}, {51, 0xf2}}}, LK_COMPLETE},
+    {{&syn, LOOKS_VALID, ADDR, 1, "198.51.100.7", 0, {NEW_ADDR, {50, 0xec}, {51, 0x6a}}}, LK_OFFLOADED},
+    {{&syn, LOOKS_VALID, ADDR, 1, "198.51.100.7", 0, {NEW_ADDR, {50, 0x1b}, {51, 0xfa}}}, LK_GUESS},
+    {{&syn, LOOKS_VALID, BYTES, 56, "04ec", 0, {{56, 0x04}, {57, 0xec}}}, LK_OFFLOADED},
+    {{&syn, LOOKS_VALID, BYTES, 56, "04ec", 0, {{50, 0x84}, {51, 0xfa}, {56, 0x04}, {57, 0xec}}}, LK_GUESS},
+    {{&syn, LOOKS_LEFT, PORT, 1, 0, 0x54db, {{36, 0x54}, {37, 0xdb}}}, LK_GUESS}, /* valid */
+    {{&syn, LOOKS_LEFT, PORT, 1, 0, 0x54db, {{36, 0x54}, {37, 0xdb}, {50, 0x2f}, {51, 0xa7}}}, LK_COMPLETE},
+    {{&syn, LOOKS_LEFT, PORT, 1, 0, 0x54db, {{36, 0x54}, {37, 0xdb}}}, 3},
+    {{&syn, LOOKS_LEFT, PORT, 1, 0, 0x54db, {{36, 0x54}, {37, 0xdb}}}, -2},
+    {{&syn, LOOKS_LEFT, ADDR, 1, "198.51.100.7", 0, {NEW_ADDR, {50, 0x1b}, {51, 0xfa}}}, LK_COMPLETE},
+    {{&syn, LOOKS_LEFT, BYTES, 56, "04ec", 0, {{50, 0x84}, {51, 0xfa}, {56, 0x04}, {57, 0xec}}}, LK_COMPLETE},
+    {{&echo_request, {{0, 0}}, BYTES, 38, "4321", 0, {{36, 0xb5}, {37, 0x06}, {38, 0x43}, {39, 0x21}}}, LK_OFFLOADED},
+};
+
 /* Makes the call of a row. */
-static int edits(size_t row, struct octets *frame)
+static int edits(const struct edit *row, struct octets *frame)
 {
-    const char *text = edited[row].text;
-    unsigned value = edited[row].value;
-    int side = (int)edited[row].number;
+    const char *text = row->text;
+    unsigned value = row->value;
+    int side = (int)row->number;
     struct lk_addr to = {{0}, 0};
     struct octets bytes = nothing;
-    switch (edited[row].field) {
+    switch (row->field) {
     case HOP_LIMIT:
         return both_set_hop_limit(frame->at, frame->len, (uint8_t)value);
     case DSCP:
@@ -121,10 +150,36 @@ static int edits(size_t row, struct octets *frame)
         return both_set_port(frame->at, frame->len, side, (uint16_t)value);
     case BYTES:
         bytes = octets(text);
-        return both_set_bytes(frame->at, frame->len, edited[row].number, bytes.at, bytes.len);
+        return both_set_bytes(frame->at, frame->len, row->number, bytes.at, bytes.len);
     default:
         return both_fill_checksum(frame->at, frame->len);
     }
+}
+
+/* The same for a row with the word of the caller. */
+static int edits_as(const struct edit *row, struct octets *frame, int offload)
+{
+    int side = (int)row->number;
+    struct lk_addr to = {{0}, 0};
+    struct octets bytes = nothing;
+    switch (row->field) {
+    case ADDR:
+        to = addr(row->text);
+        return both_set_addr_as(frame->at, frame->len, side, &to, offload);
+    case PORT:
+        return both_set_port_as(frame->at, frame->len, side, (uint16_t)row->value, offload);
+    default:
+        bytes = octets(row->text);
+        return both_set_bytes_as(frame->at, frame->len, row->number, bytes.at, bytes.len, offload);
+    }
+}
+
+static struct octets edited_by(const struct edit *row)
+{
+    struct octets frame = cut(row->frame, row->frame->len, row->before);
+    for (int i = 0; i < MORE_CHANGES && row->after[i].at; i++)
+        frame.at[row->after[i].at] = row->after[i].octet;
+    return frame;
 }
 
 /* A length above LK_MAX_LEN is not that of no bytes. A place after the UDP header has room for none. */
@@ -140,10 +195,15 @@ void worked_edit(void)
 {
     set_too_many_bytes();
     for (size_t i = 0; i < sizeof edited / sizeof edited[0]; i++) {
-        struct octets frame = cut(edited[i].frame, edited[i].frame->len, edited[i].before), expected = frame;
-        for (int j = 0; j < MORE_CHANGES && edited[i].after[j].at; j++)
-            expected.at[edited[i].after[j].at] = edited[i].after[j].octet;
-        CHECK_ROW(i, edits(i, &frame) == (edited[i].after[0].at != 0));
+        struct octets frame = cut(edited[i].frame, edited[i].frame->len, edited[i].before);
+        struct octets expected = edited_by(&edited[i]);
+        CHECK_ROW(i, edits(&edited[i], &frame) == (edited[i].after[0].at != 0));
+        CHECK_ROW(i, memcmp(frame.at, expected.at, frame.len) == 0);
+    }
+    for (size_t i = 0; i < sizeof told / sizeof told[0]; i++) {
+        const struct edit *row = &told[i].edit;
+        struct octets frame = cut(row->frame, row->frame->len, row->before), expected = edited_by(row);
+        CHECK_ROW(i, edits_as(row, &frame, told[i].offload) == (row->after[0].at != 0));
         CHECK_ROW(i, memcmp(frame.at, expected.at, frame.len) == 0);
     }
 }

@@ -103,6 +103,29 @@ static void clamp_mss(void)
     }
 }
 
+/* A SYN whose field has the sum of the pseudo-header, with a limit of 1260 and what the caller says of the checksum. */
+static const struct {
+    struct change before[CHANGES];
+    int offload;
+    struct change after[CHANGES];
+} told[] = {
+    {{{50, 0x84}, {51, 0x32}, {48, 0x4f}, {49, 0x7c}}, LK_OFFLOADED, {{56, 0x04}, {57, 0xec}}},
+    {{{50, 0x84}, {51, 0x32}, {48, 0x4f}, {49, 0x7c}}, LK_COMPLETE, {{51, 0xfa}, {56, 0x04}, {57, 0xec}}},
+    {{{50, 0x84}, {51, 0x32}}, LK_COMPLETE, {{51, 0xfa}, {56, 0x04}, {57, 0xec}}},
+    {{{50, 0x84}, {51, 0x32}}, LK_GUESS, {{56, 0x04}, {57, 0xec}}},
+    {{{50, 0x84}, {51, 0x32}}, 3, {{56, 0x04}, {57, 0xec}}},
+    {{{47, 0x10}}, LK_OFFLOADED, {{0, 0}}}, /* no SYN */
+};
+
+static void clamp_mss_as(void)
+{
+    for (size_t i = 0; i < sizeof told / sizeof told[0]; i++) {
+        struct octets frame = cut(&syn, syn.len, told[i].before), expected = cut(&frame, frame.len, told[i].after);
+        CHECK_ROW(i, both_clamp_mss_as(frame.at, frame.len, 1260, told[i].offload) == (told[i].after[0].at != 0));
+        CHECK_ROW(i, memcmp(frame.at, expected.at, frame.len) == 0);
+    }
+}
+
 /* ---- routes ---- */
 
 /* Blocks in blocks, over both versions. The third one is the first again. */
@@ -275,6 +298,7 @@ void worked_route(void)
 {
     forward();
     clamp_mss();
+    clamp_mss_as();
     choose();
     make_tables();
     choose_by_table();

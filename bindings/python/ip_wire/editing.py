@@ -4,21 +4,26 @@ IPv4 header, and that of TCP, UDP, ICMP or ICMPv6.
 A valid checksum stays valid, a wrong one wrong, and one that is left to the device (checksum offload) is left to it. A
 UDP checksum of 0 over IPv4 stays 0. A frame with VLAN tags is edited as `frame[link.offset - 14:]` of its link.
 
-Each call returns the changed frame. It raises ValueError if the packet has no such field.
+Each call returns the changed frame. It raises ValueError if the packet has no such field. `offload` says whether the
+checksum is left to the device; without it the calls guess.
 """
 from __future__ import annotations
 
 from typing import Any
 
 from ._convert import Address, Data, call, copied, member_of
-from .routing import Side
+from .routing import Offload, Side
 
 
 def _edited(name: str, frame: Data, *values: Any) -> bytes:
     out = copied(frame)
     if not call(name, out, *values):
-        raise ValueError(f"{name[len('lk_'):]}: the packet has no such field")
+        raise ValueError(f"{name[len('lk_'):].replace('_as', '')}: the packet has no such field")
     return bytes(out)
+
+
+def _edited_as(offload: Offload, name: str, frame: Data, *values: Any) -> bytes:
+    return _edited(name, frame, *values, member_of(Offload, offload, "offload"))
 
 
 def set_hop_limit(frame: Data, hop_limit: int) -> bytes:
@@ -31,20 +36,20 @@ def set_dscp(frame: Data, dscp: int) -> bytes:
     return _edited("lk_set_dscp", frame, dscp)
 
 
-def set_addr(frame: Data, side: Side, addr: Address) -> bytes:
-    """The frame with another address of the same version."""
-    return _edited("lk_set_addr", frame, member_of(Side, side, "side"), addr)
+def set_addr(frame: Data, side: Side, addr: Address, *, offload: Offload = Offload.GUESS) -> bytes:
+    """The frame with another address of the same version. Not if another checksum covers it, as that of UDP-Lite."""
+    return _edited_as(offload, "lk_set_addr_as", frame, member_of(Side, side, "side"), addr)
 
 
-def set_port(frame: Data, side: Side, port: int) -> bytes:
+def set_port(frame: Data, side: Side, port: int, *, offload: Offload = Offload.GUESS) -> bytes:
     """The frame with another TCP or UDP port, which may be 0."""
-    return _edited("lk_set_port", frame, member_of(Side, side, "side"), port)
+    return _edited_as(offload, "lk_set_port_as", frame, member_of(Side, side, "side"), port)
 
 
-def set_bytes(frame: Data, offset: int, data: Data) -> bytes:
+def set_bytes(frame: Data, offset: int, data: Data, *, offload: Offload = Offload.GUESS) -> bytes:
     """The frame with other bytes from byte `offset` on, such as an option or payload. Bytes that say where the layers
     are, and checksums, cannot be replaced."""
-    return _edited("lk_set_bytes", frame, offset, data)
+    return _edited_as(offload, "lk_set_bytes_as", frame, offset, data)
 
 
 def fill_checksum(frame: Data) -> bytes:

@@ -30,13 +30,26 @@ def forward(frame: Data, src: bytes, dst: bytes) -> bytes:
     return bytes(out)
 
 
-def clamp_mss(frame: Data, max_seg_size: int) -> bytes:
+class Offload(IntEnum):
+    """Whether the TCP or UDP checksum of a frame is left to the device that sends it (checksum offload). No frame says
+    so, but a virtio header and a packet socket do.
+
+    GUESS: it is left to the device if the field is the sum of the pseudo-header, and is not valid as it is. This is wrong
+    for one in 65,536 frames whose checksum is left to the device, and spoils it.
+    """
+
+    GUESS = 0
+    OFFLOADED = 1
+    COMPLETE = 2
+
+
+def clamp_mss(frame: Data, max_seg_size: int, *, offload: Offload = Offload.GUESS) -> bytes:
     """The Ethernet frame, where the maximum segment size of a TCP SYN is `max_seg_size` at most.
 
-    The TCP checksum is updated. One that is left to the device (`Verdict.LEFT_TO_DEVICE`) is unchanged.
+    The TCP checksum is updated. One that is left to the device is unchanged.
     """
     out = copied(frame)
-    call("lk_clamp_mss", out, max_seg_size)
+    call("lk_clamp_mss_as", out, max_seg_size, member_of(Offload, offload, "offload"))
     return bytes(out)
 
 

@@ -3,7 +3,7 @@ import unittest
 
 import ip_wire
 import model
-from ip_wire import Side, TcpFlag
+from ip_wire import Offload, Side, TcpFlag
 from model import end
 
 ENDS = [
@@ -43,6 +43,27 @@ class Editing(unittest.TestCase):
             self.assertEqual(ip_wire.set_bytes(frame, len(frame) - 4, b"more"), other)
             field = len(frame) - 6
             self.assertEqual(ip_wire.fill_checksum(frame[:field] + b"\xab\xcd" + frame[-4:]), frame)
+
+    def test_offload(self):
+        def left(src, dst, data):
+            """A frame in whose checksum only the pseudo-header is summed."""
+            frame = model.udp_frame(src, dst, data)
+            field = 0xFFFF - model.checksum(model.pseudo(src[0], dst[0], 17, 8 + len(data)))
+            return frame[: -len(data) - 2] + field.to_bytes(2, "big") + data
+
+        for src, dst, other in ENDS:
+            # Payload with which this sum is a valid checksum too.
+            rest = model.checksum(model.pseudo(src[0], dst[0], 17, 12) + left(src, dst, bytes(4))[-12:])
+            data = rest.to_bytes(2, "big") + bytes(2)
+            frame = left(src, dst, data)
+            for edit, wanted in [
+                (lambda **word: ip_wire.set_addr(frame, Side.DESTINATION, other[0], **word), left(src, (other[0], dst[1]), data)),
+                (lambda **word: ip_wire.set_port(frame, Side.DESTINATION, other[1], **word), left(src, (dst[0], other[1]), data)),
+                (lambda **word: ip_wire.set_bytes(frame, len(frame) - 4, b"more", **word), left(src, dst, b"more")),
+            ]:
+                self.assertEqual(edit(offload=Offload.OFFLOADED), wanted)
+                self.assertEqual(edit(offload=Offload.COMPLETE), edit())
+                self.assertNotEqual(edit(), wanted)
 
     def test_no_such_field(self):
         udp = model.udp_frame(*ENDS[0][:2], b"data")

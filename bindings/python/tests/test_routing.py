@@ -5,7 +5,7 @@ from ipaddress import IPv4Address, ip_address, ip_interface, ip_network
 
 import ip_wire
 import model
-from ip_wire import Endpoint, Nat, Rejected, Rejection, Route, Routes, Side, TcpFlag, WireError
+from ip_wire import Endpoint, Nat, Offload, Rejected, Rejection, Route, Routes, Side, TcpFlag, WireError
 from model import CLIENT, SERVER, end
 
 INSIDE, REMOTE, OUTSIDE = end("10.0.0.2", 5000), end("192.0.2.1", 53), end("203.0.113.9", 5000)
@@ -42,6 +42,8 @@ class Forwarding(Case):
         for ends in ENDS:
             for size, limit, left in [(1460, 1260, 1260), (1460, 1460, 1460), (536, 1460, 536), (1460, 0, 0)]:
                 self.assertEqual(ip_wire.clamp_mss(syn(ends, size), limit), syn(ends, left))
+            left = ip_wire.clamp_mss(syn(ends, 1460), 1260, offload=Offload.OFFLOADED)
+            self.assertEqual(left, syn(ends, 1460)[:-2] + b"\x04\xec")
             ack = model.tcp_frame(*ends, 1, 0, TcpFlag.ACK, 9, b"\2\4\5\xb4")
             self.assertEqual(ip_wire.clamp_mss(ack, 1260), ack)
         self.assertEqual(ip_wire.clamp_mss(b"", 0), b"")

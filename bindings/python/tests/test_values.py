@@ -14,15 +14,19 @@ from unittest.mock import patch
 
 import ip_wire
 import model
-from ip_wire import Arp, Endpoint, Ethernet, Headers, Host, Icmp, Interface, Ip, Ndisc, Network, Problem, Reason
+from ip_wire import Arp, Endpoint, Ethernet, Headers, Host, Icmp, Interface, Ip, Ndisc, Network, Offload, Problem, Reason
 from ip_wire import Rejection, Side, Tcp, TcpFlag, TcpOptions, Transport, Verdict
 from ip_wire import _c as c
 
 TOP = os.path.join(os.path.dirname(os.path.abspath(__file__)), "..", "..", "..")
 HEADERS = [os.path.join(TOP, folder, "ip_wire.h") for folder in ("c", "include")]
 HEADER = os.environ.get("IP_WIRE_HEADER") or next(filter(os.path.exists, HEADERS), HEADERS[0])
-# The calls of the header that the package lacks. A table saves less time than a call from Python takes.
-UNBOUND = ["lk_check_source_by_table", "lk_choose_route_by_table", "lk_make_route_table"]
+# The calls of the header that the package lacks. A table saves less time than a call from Python takes. The last four are
+# those with `_as` and LK_GUESS.
+UNBOUND = [
+    "lk_check_source_by_table", "lk_choose_route_by_table", "lk_make_route_table", "lk_clamp_mss", "lk_set_addr", "lk_set_bytes",
+    "lk_set_port",
+]  # fmt: skip
 
 
 class Declarations(unittest.TestCase):
@@ -61,7 +65,7 @@ class Declarations(unittest.TestCase):
     def test_numbers(self):
         enums = {"lk_reason": (Reason, 1), "lk_network": (Network, 1), "lk_transport": (Transport, 1),
                  "lk_verdict": (Verdict, 0), "lk_problem": (Problem, 1), "lk_rejection": (Rejection, 1),
-                 "lk_side": (Side, 0)}  # fmt: skip
+                 "lk_side": (Side, 0), "lk_offload": (Offload, 0)}  # fmt: skip
         for name, (enum, first) in enums.items():
             words = re.findall(r"LK_(\w+)", re.search(rf"enum {name} {{(.*?)}}", self.header, re.S).group(1))
             self.assertEqual([member.name for member in enum], words[first:])

@@ -63,10 +63,41 @@ pub fn translate(frame: &mut [u8], side: Side, end: SocketAddrV4) -> Result<(), 
     Rejection::check(unsafe { library().lk_translate(ptr, len, side.number(), &end.into()) })
 }
 
+/// Whether the TCP or UDP checksum of a frame is left to the device that sends it (checksum offload). No frame says so,
+/// but a virtio header and a packet socket do.
+#[derive(Clone, Copy, Debug, Default, PartialEq, Eq, Hash)]
+pub enum Offload {
+    /// Unknown: it is left to the device if the field is the sum of the pseudo-header, and is not valid as it is. This is
+    /// wrong for one in 65,536 frames whose checksum is left to the device, and spoils it.
+    #[default]
+    Guess,
+    /// It is left to the device: the field is the sum of the pseudo-header.
+    Offloaded,
+    /// It is not left to the device.
+    Complete,
+}
+
+impl Offload {
+    pub(crate) fn number(self) -> c_int {
+        match self {
+            Self::Guess => 0,
+            Self::Offloaded => 1,
+            Self::Complete => 2,
+        }
+    }
+}
+
 /// Lowers the maximum segment size of a TCP SYN in an Ethernet frame to `max_seg_size`, and updates the TCP checksum.
-/// One that is left to the device ([`Verdict::LeftToDevice`](crate::Verdict::LeftToDevice)) is unchanged. Returns `false`
-/// if there is no larger size. Then the frame is unchanged.
+/// One that is left to the device ([`Offload::Guess`]) is unchanged. Returns `false` if there is no larger size. Then the
+/// frame is unchanged.
 pub fn clamp_mss(frame: &mut [u8], max_seg_size: u16) -> bool {
     // SAFETY: there are `len` bytes at `frame`.
     unsafe { library().lk_clamp_mss(frame.as_mut_ptr(), frame.len(), max_seg_size) != 0 }
+}
+
+/// [`clamp_mss`] of a frame whose checksum is known to be left to the device, or not to be.
+pub fn clamp_mss_as(frame: &mut [u8], max_seg_size: u16, offload: Offload) -> bool {
+    let (ptr, len) = (frame.as_mut_ptr(), frame.len());
+    // SAFETY: there are `len` bytes at `frame`.
+    unsafe { library().lk_clamp_mss_as(ptr, len, max_seg_size, offload.number()) != 0 }
 }

@@ -79,7 +79,7 @@ pub use emit::rebuild;
 pub use error::{Defect, Error, Network, Reason, Rejection, Transport, Verdict};
 pub use frame::Frame;
 pub use headers::{ethertype_name, protocol_name, Arp, Ethernet, Headers, Icmp, Ip};
-pub use hop::{clamp_mss, forward, translate, Side};
+pub use hop::{clamp_mss, clamp_mss_as, forward, translate, Offload, Side};
 pub use host::Host;
 pub use icmp::{AdvertFlags, Interface, Ndisc, Problem};
 pub use ipv6::{Ipv6Header, Ipv6Headers};

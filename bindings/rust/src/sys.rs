@@ -346,11 +346,21 @@ calls! {
     fn lk_forward(frame: *mut u8, len: usize, src: *const u8, dst: *const u8) -> c_int;
     fn lk_translate(frame: *mut u8, len: usize, side: c_int, end: &Endpoint) -> c_int;
     fn lk_clamp_mss(frame: *mut u8, len: usize, max_seg_size: u16) -> c_int;
+    fn lk_clamp_mss_as(frame: *mut u8, len: usize, max_seg_size: u16, offload: c_int) -> c_int;
     fn lk_set_hop_limit(frame: *mut u8, len: usize, hop_limit: u8) -> c_int;
     fn lk_set_dscp(frame: *mut u8, len: usize, dscp: u8) -> c_int;
     fn lk_set_addr(frame: *mut u8, len: usize, side: c_int, addr: &Addr) -> c_int;
+    fn lk_set_addr_as(
+        frame: *mut u8, len: usize, side: c_int, addr: &Addr, offload: c_int
+    ) -> c_int;
     fn lk_set_port(frame: *mut u8, len: usize, side: c_int, port: u16) -> c_int;
+    fn lk_set_port_as(
+        frame: *mut u8, len: usize, side: c_int, port: u16, offload: c_int
+    ) -> c_int;
     fn lk_set_bytes(frame: *mut u8, len: usize, offset: usize, ptr: *const u8, count: usize) -> c_int;
+    fn lk_set_bytes_as(
+        frame: *mut u8, len: usize, offset: usize, ptr: *const u8, count: usize, offload: c_int
+    ) -> c_int;
     fn lk_fill_checksum(frame: *mut u8, len: usize) -> c_int;
     fn lk_index_routes(
         routes: *const Route, count: usize, nodes: *mut RouteNode, node_count: usize

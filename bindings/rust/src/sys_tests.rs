@@ -1,7 +1,7 @@
 //! Compares the declarations with `ip_wire.h`, by a C compiler.
 
 use super::{Addr, Endpoint, CALLS, STRUCTS};
-use crate::{Error, Network, Problem, Reason, Rejection, Side, Transport, Verdict};
+use crate::{Error, Network, Offload, Problem, Reason, Rejection, Side, Transport, Verdict};
 use core::ffi::{c_char, c_int, CStr};
 use core::net::{IpAddr, SocketAddr};
 use std::fmt::{Debug, Write};
@@ -115,8 +115,10 @@ fn own_numbers() -> String {
         Problem::Prohibited,
     ];
     let sides = [Side::Source, Side::Destination];
+    let offloads = [Offload::Guess, Offload::Offloaded, Offload::Complete];
     assert_numbers(problems.map(|problem| (c_name(problem), problem.number())))
         + &assert_numbers(sides.map(|side| (c_name(side), side.number())))
+        + &assert_numbers(offloads.map(|offload| (c_name(offload), offload.number())))
 }
 
 #[test]

@@ -2,7 +2,7 @@
 
 mod worked;
 
-use ip_wire::{edit, Side};
+use ip_wire::{clamp_mss_as, edit, Offload, Side};
 use std::net::IpAddr;
 use worked::{changed, frame};
 
@@ -46,6 +46,30 @@ fn other_bytes_are_written() {
     edits("ping", |bytes| edit::set_bytes(bytes, 42, b"pong"), &[(41, 0x8c), (43, 0x6f)]);
     edits("ping", |bytes| edit::set_bytes(bytes, 43, b"pong"), &[]);
     edits("ping", |bytes| edit::set_bytes(bytes, 23, &[6]), &[]);
+}
+
+/// Makes an edit of a SYN whose checksum is the sum of the pseudo-header, and valid as it is.
+fn edits_both(edit: impl Fn(&mut [u8]) -> bool, changes: &[(usize, u8)]) {
+    let both = [(48, 0x4f), (49, 0x7c), (50, 0x84), (51, 0x32)];
+    let mut bytes = changed("syn", &both);
+    assert!(edit(&mut bytes));
+    assert_eq!(bytes, changed("syn", &[&both, changes].concat()));
+}
+
+#[test]
+fn checksums_are_left_as_the_caller_says() {
+    let (to, new) = (Side::Destination, addr("198.51.100.7"));
+    let ip = [(24, 0xfa), (25, 0xc3), (30, 0xc6), (31, 0x33), (32, 0x64), (33, 0x07)];
+    let after = [&ip[..], &[(50, 0xec), (51, 0x6a)]].concat();
+    edits_both(|bytes| edit::set_addr_as(bytes, to, new, Offload::Offloaded), &after);
+    let after = [(36, 0x1f), (37, 0x90)];
+    edits_both(|bytes| edit::set_port_as(bytes, to, 8080, Offload::Offloaded), &after);
+    let after = [(36, 0x1f), (37, 0x90), (50, 0x64), (51, 0xf2)];
+    edits_both(|bytes| edit::set_port_as(bytes, to, 8080, Offload::Complete), &after);
+    edits_both(|bytes| edit::set_port(bytes, to, 8080), &after);
+    let after = [(56, 0x04), (57, 0xec)];
+    edits_both(|bytes| edit::set_bytes_as(bytes, 56, &[0x04, 0xec], Offload::Offloaded), &after);
+    edits_both(|bytes| clamp_mss_as(bytes, 1260, Offload::Offloaded), &after);
 }
 
 #[test]

@@ -16,6 +16,7 @@ use Rattle.app_edit.specs.declared.places.Carried.{Carried}
 use Rattle.app_edit.specs.declared.places.Carried.TheVariants as carried
 use Rattle.app_edit.specs.declared.places.Places.{Places}
 use Rattle.app_edit.specs.declared.places.Segment.{Segment}
+use Rattle.app_edit.specs.declared.replace.Offload.{Offload}
 
 pub offset-even : (q : IpProtocol) → checksum_offset q % 2 ≡ 0
 offset-even protocol.Tcp = omega arith
@@ -56,20 +57,20 @@ is-edit p s xs bytes at h is are room apart =
     }
 
 -- the edited frame, for a packet whose checksum is not left to the device
-edited-is : (p : Places) (s : Segment) (xs bytes : List ℕ) (at : ℕ) → p.carried ≡ carried.Segment s → is_left p.version s xs ≡ false
-    → edited p xs at bytes ≡ made p.version (checksum_place s) xs bytes at (header_checksum p.version p.start xs at bytes) (field_by s.protocol p.version s (checksum_place s) xs bytes at)
-edited-is p s xs bytes at is here =
+edited-is : (o : Offload) (p : Places) (s : Segment) (xs bytes : List ℕ) (at : ℕ) → p.carried ≡ carried.Segment s → is_left o p.version s xs ≡ false
+    → edited o p xs at bytes ≡ made p.version (checksum_place s) xs bytes at (header_checksum p.version p.start xs at bytes) (field_by s.protocol p.version s (checksum_place s) xs bytes at)
+edited-is o p s xs bytes at is here =
     let h = with_header_checksum p.version (written xs at bytes) (header_checksum p.version p.start xs at bytes) in
-    ap (λ k. with_transport_checksum k h (transport_checksum k p.version xs at bytes)) is
+    ap (λ k. with_transport_checksum k h (transport_checksum o k p.version xs at bytes)) is
     ∙ ap (λ (b : Bool). with_word h (checksum_place s) (if b
     then 65535 - updated_over updated (65535 - word_at xs (checksum_place s)) (addresses_start p.version) (addresses_end p.version) at (slice_range xs at (at + length bytes)) bytes
     else field_by s.protocol p.version s (checksum_place s) xs bytes at)) here
 
-pub segment-stays : (p : Places) (s : Segment) (xs bytes : List ℕ) (at : ℕ) → Holds p xs → p.carried ≡ carried.Segment s → AreBytes xs → at + length bytes ≤ length xs
-    → IsApart at (length bytes) (checksum_place s) (checksum_place s + 2) → is_left p.version s xs ≡ false → (s.protocol ≡ protocol.Udp → word_at xs (checksum_place s) ≢ 0)
-    → segment_sum p.version s (edited p xs at bytes) % 65535 ≡ segment_sum p.version s xs % 65535
-segment-stays p s xs bytes at h is are room apart here some =
-    ap (λ l. segment_sum p.version s l % 65535) (edited-is p s xs bytes at is here)
+pub segment-stays : (o : Offload) (p : Places) (s : Segment) (xs bytes : List ℕ) (at : ℕ) → Holds p xs → p.carried ≡ carried.Segment s → AreBytes xs → at + length bytes ≤ length xs
+    → IsApart at (length bytes) (checksum_place s) (checksum_place s + 2) → is_left o p.version s xs ≡ false → (s.protocol ≡ protocol.Udp → word_at xs (checksum_place s) ≢ 0)
+    → segment_sum p.version s (edited o p xs at bytes) % 65535 ≡ segment_sum p.version s xs % 65535
+segment-stays o p s xs bytes at h is are room apart here some =
+    ap (λ l. segment_sum p.version s l % 65535) (edited-is o p s xs bytes at is here)
     ∙ stays s.protocol p.version s (checksum_place s) xs bytes at (header_checksum p.version p.start xs at bytes) (is-edit p s xs bytes at h is are room apart) some
 
 -- ---- the IPv4 header
@@ -84,9 +85,9 @@ transport-apart carried.Fragment v ys xs start f long h least room = refl
 transport-apart carried.Hidden v ys xs start f long h least room = refl
 
 -- the sum of an IPv4 header after an edit beside its checksum field
-pub header-stays : (p : Places) (xs bytes : List ℕ) (at : ℕ) → Holds p xs → p.version ≡ version.Ipv4 → AreBytes xs → at + length bytes ≤ length xs
-    → IsApart at (length bytes) 24 26 → sum_of_bytes (slice_range (edited p xs at bytes) 14 p.start) % 65535 ≡ sum_of_bytes (slice_range xs 14 p.start) % 65535
-header-stays p xs bytes at h is are room apart =
+pub header-stays : (o : Offload) (p : Places) (xs bytes : List ℕ) (at : ℕ) → Holds p xs → p.version ≡ version.Ipv4 → AreBytes xs → at + length bytes ≤ length xs
+    → IsApart at (length bytes) 24 26 → sum_of_bytes (slice_range (edited o p xs at bytes) 14 p.start) % 65535 ≡ sum_of_bytes (slice_range xs 14 p.start) % 65535
+header-stays o p xs bytes at h is are room apart =
     let new = written xs at bytes in
     let n = header_checksum p.version p.start xs at bytes in
     let field = word_at xs 24 in
@@ -99,12 +100,12 @@ header-stays p xs bytes at h is are room apart =
     let long = written-length xs bytes at room in
     let head : with_header_checksum p.version new n ≡ with_word new 24 plain = ap₂ (λ v k. with_header_checksum v new k) is same_field in
     let head_long = written-length new (big_bytes 2 plain) 24 (omega (arith, long, least, whole)) in
-    let carried_apart = transport-apart p.carried p.version (with_word new 24 plain) xs p.start (transport_checksum p.carried p.version xs at bytes)
+    let carried_apart = transport-apart p.carried p.version (with_word new 24 plain) xs p.start (transport_checksum o p.carried p.version xs at bytes)
     (head_long ∙ long) h.carried (omega (arith, least)) whole
     in
     let cover = covered updated xs bytes at 14 p.start field (omega arith) (omega (arith, least)) whole room (updated-keeps field fits) in
     let word = sum-word new 24 plain 14 p.start (omega arith) (omega arith) (omega arith) (omega (arith, least)) (omega (arith, long, whole)) small in
     let kept = word-apart xs bytes at 24 room apart in
-    ap (λ l. sum_of_bytes (slice_range (with_transport_checksum p.carried l (transport_checksum p.carried p.version xs at bytes)) 14 p.start) % 65535) head
-    ∙ residue-mod (sum_over (with_transport_checksum p.carried (with_word new 24 plain) (transport_checksum p.carried p.version xs at bytes)) 14 p.start)
+    ap (λ l. sum_of_bytes (slice_range (with_transport_checksum p.carried l (transport_checksum o p.carried p.version xs at bytes)) 14 p.start) % 65535) head
+    ∙ residue-mod (sum_over (with_transport_checksum p.carried (with_word new 24 plain) (transport_checksum o p.carried p.version xs at bytes)) 14 p.start)
     ∙ omega (arith, carried_apart, cover, word, kept) ∙ sym (residue-mod (sum_over xs 14 p.start))

@@ -14,11 +14,13 @@ use Rattle.app_edit.proofs.Kept.{is-edit}
 use Rattle.app_edit.proofs.Stays.{IsEdit, addresses-even, addresses-order, dst-even, field_by, first_field, header-length, least-end, made, made-addresses, made-length, src-even, sum-addresses}
 use Rattle.app_edit.proofs.Sums.{IsApart, residue-least, updated-below, word-fits, word-written}
 use Rattle.app_edit.proofs.Totals.{sum-joined, sum-of_number, written-length}
-use Rattle.app_edit.specs.Edited.{can_be_left, dst_of, edited, header_checksum, is_left, pseudo_header_sum, segment_sum, src_of, transport_checksum, with_header_checksum, with_transport_checksum, with_word, word_at, written}
+use Rattle.app_edit.specs.Edited.{can_be_left, dst_of, edited, header_checksum, is_left, looks_left, pseudo_header_sum, segment_sum, src_of, transport_checksum, with_header_checksum, with_transport_checksum, with_word, word_at, written}
 use Rattle.app_edit.specs.Places.{Holds, addresses_end, addresses_start, checksum_place}
 use Rattle.app_edit.specs.declared.places.Carried.TheVariants as carried
 use Rattle.app_edit.specs.declared.places.Places.{Places}
 use Rattle.app_edit.specs.declared.places.Segment.{Segment}
+use Rattle.app_edit.specs.declared.replace.Offload.{Offload}
+use Rattle.app_edit.specs.declared.replace.Offload.TheVariants as offload
 
 -- the words of a pseudo-header
 pseudo-header-words : (src dst : List ℕ) (q : IpProtocol) (len : ℕ) → length src % 2 ≡ 0 → length dst % 2 ≡ 0
@@ -36,14 +38,14 @@ pseudo-is v s xs room =
 number-some : (q : IpProtocol) → can_be_left q ≡ true → 0 < number_of q
 number-some q h = grind arith
 
-left-is : (v : IpVersion) (s : Segment) (xs : List ℕ) → is_left v s xs ≡ true → word_at xs (checksum_place s) ≡ pseudo_header_sum v s xs
-left-is v s xs h = parts s.is_whole (can_be_left s.protocol) (word_at xs (checksum_place s)) (pseudo_header_sum v s xs) (segment_sum v s xs) h
+looks-partial : (v : IpVersion) (s : Segment) (xs : List ℕ) → looks_left v s xs ≡ true → word_at xs (checksum_place s) ≡ pseudo_header_sum v s xs
+looks-partial v s xs h = parts s.is_whole (can_be_left s.protocol) (word_at xs (checksum_place s)) (pseudo_header_sum v s xs) (segment_sum v s xs) h
   where
     parts : (a b : Bool) (m n k : ℕ) → (a && b && m == n && not (k == 65535)) ≡ true → m ≡ n
     parts a b m n k h = grind (arith, nat_tests)
 
-left-protocol : (v : IpVersion) (s : Segment) (xs : List ℕ) → is_left v s xs ≡ true → can_be_left s.protocol ≡ true
-left-protocol v s xs h = parts s.is_whole (can_be_left s.protocol) (word_at xs (checksum_place s) == pseudo_header_sum v s xs) (not (segment_sum v s xs == 65535)) h
+looks-protocol : (v : IpVersion) (s : Segment) (xs : List ℕ) → looks_left v s xs ≡ true → can_be_left s.protocol ≡ true
+looks-protocol v s xs h = parts s.is_whole (can_be_left s.protocol) (word_at xs (checksum_place s) == pseudo_header_sum v s xs) (not (segment_sum v s xs == 65535)) h
   where
     parts : (a b d e : Bool) → (a && b && d && e) ≡ true → b ≡ true
     parts true true true true h = refl
@@ -52,15 +54,29 @@ left-protocol v s xs h = parts s.is_whole (can_be_left s.protocol) (word_at xs (
     parts true false d e h = h
     parts false b d e h = absurd (cc)
 
+-- what the caller says of the field, or a guess
+abbrev IsPartial : Offload → IpVersion → Segment → List ℕ → Type 0
+IsPartial o v s xs = o ≡ offload.Offloaded → word_at xs (checksum_place s) ≡ pseudo_header_sum v s xs
+
+left-is : (o : Offload) (v : IpVersion) (s : Segment) (xs : List ℕ) → is_left o v s xs ≡ true → IsPartial o v s xs → word_at xs (checksum_place s) ≡ pseudo_header_sum v s xs
+left-is offload.Guess v s xs h said = looks-partial v s xs h
+left-is offload.Offloaded v s xs h said = said refl
+left-is offload.Complete v s xs h said = absurd (cc)
+
+left-protocol : (o : Offload) (v : IpVersion) (s : Segment) (xs : List ℕ) → is_left o v s xs ≡ true → can_be_left s.protocol ≡ true
+left-protocol offload.Guess v s xs h = looks-protocol v s xs h
+left-protocol offload.Offloaded v s xs h = h
+left-protocol offload.Complete v s xs h = absurd (cc)
+
 -- the field, as a number
 left-number : (was now k f u r j i : ℕ) → f ≤ 65535 → u < 65535 → 1 ≤ r → r ≤ 65535 → was + k ≡ f + 65535 * j → now + k ≡ r + 65535 * i
     → (now + u) % 65535 ≡ (was + (65535 - f)) % 65535 → 65535 - u ≡ r
 left-number was now k f u r j i a b c d p q h = omega (arith, a, b, c, d, p, q, h)
 
-pub left-stays : (p : Places) (s : Segment) (xs bytes : List ℕ) (at : ℕ) → Holds p xs → p.carried ≡ carried.Segment s → AreBytes xs → at + length bytes ≤ length xs
-    → IsApart at (length bytes) (checksum_place s) (checksum_place s + 2) → is_left p.version s xs ≡ true
-    → word_at (edited p xs at bytes) (checksum_place s) ≡ pseudo_header_sum p.version s (edited p xs at bytes)
-left-stays p s xs bytes at h is are room apart left =
+pub left-stays : (o : Offload) (p : Places) (s : Segment) (xs bytes : List ℕ) (at : ℕ) → Holds p xs → p.carried ≡ carried.Segment s → AreBytes xs → at + length bytes ≤ length xs
+    → IsApart at (length bytes) (checksum_place s) (checksum_place s + 2) → is_left o p.version s xs ≡ true → IsPartial o p.version s xs
+    → word_at (edited o p xs at bytes) (checksum_place s) ≡ pseudo_header_sum p.version s (edited o p xs at bytes)
+left-stays o p s xs bytes at h is are room apart left said =
     ap (λ l. word_at l c) (edited-is) ∙ number ∙ sym (ap (pseudo_header_sum v s) edited-is)
   where
     v : IpVersion
@@ -81,10 +97,10 @@ left-stays p s xs bytes at h is are room apart left =
     new : List ℕ
     new = made p.version (checksum_place s) xs bytes at n (65535 - u)
 
-    edited-is : edited p xs at bytes ≡ new
+    edited-is : edited o p xs at bytes ≡ new
     edited-is =
         let head = with_header_checksum p.version (written xs at bytes) n in
-        ap (λ k. with_transport_checksum k head (transport_checksum k p.version xs at bytes)) is
+        ap (λ k. with_transport_checksum k head (transport_checksum o k p.version xs at bytes)) is
         ∙ ap (λ (b : Bool). with_word head c (if b then 65535 - u else field_by s.protocol p.version s c xs bytes at)) left
 
     number : word_at new c ≡ pseudo_header_sum v s new
@@ -98,8 +114,8 @@ left-stays p s xs bytes at h is are room apart left =
         let k = number_of s.protocol + (s.end - s.start) % 65536 in
         let was = sum_over xs (addresses_start v) (addresses_end v) in
         let now = sum_over (written xs at bytes) (addresses_start v) (addresses_end v) in
-        let some = number-some s.protocol (left-protocol v s xs left) in
-        let is_sum : field ≡ residue (was + k) = left-is v s xs left ∙ pseudo-is v s xs fits in
+        let some = number-some s.protocol (left-protocol o v s xs left) in
+        let is_sum : field ≡ residue (was + k) = left-is o v s xs left said ∙ pseudo-is v s xs fits in
         let positive = residue-least (was + k) (omega (arith, some)) in
         let j = residue-quotient (was + k) in
         let i = residue-quotient (now + k) in

@@ -18,6 +18,8 @@ use Rattle.app_edit.specs.declared.places.Carried.{Carried}
 use Rattle.app_edit.specs.declared.places.Carried.TheVariants as carried
 use Rattle.app_edit.specs.declared.places.Places.{Places}
 use Rattle.app_edit.specs.declared.places.Segment.{Segment}
+use Rattle.app_edit.specs.declared.replace.Offload.{Offload}
+use Rattle.app_edit.specs.declared.replace.Offload.TheVariants as offload
 
 -- ---- bytes and words of a frame
 
@@ -81,12 +83,19 @@ can_be_left protocol.Udp = true
 can_be_left _ = false
 
 -- Pinned by: `apps/edits`
--- whether the checksum is left to the device that sends the frame: the field is the sum of the pseudo-header, and the
+-- whether the checksum looks left to the device that sends the frame: the field is the sum of the pseudo-header, and the
 -- checksum is not valid as it is
-abbrev pub is_left : IpVersion → Segment → List ℕ → Bool
-is_left v s frame =
+abbrev pub looks_left : IpVersion → Segment → List ℕ → Bool
+looks_left v s frame =
     s.is_whole && can_be_left s.protocol && word_at frame (checksum_place s) == pseudo_header_sum v s frame
     && not (segment_sum v s frame == 65535)
+
+-- Pinned by: `apps/edits`, `worked/edit`
+-- whether the checksum counts as left to the device: as the caller says of TCP and UDP, or as it looks
+abbrev pub is_left : Offload → IpVersion → Segment → List ℕ → Bool
+is_left offload.Guess v s frame = looks_left v s frame
+is_left offload.Offloaded v s frame = can_be_left s.protocol
+is_left offload.Complete v s frame = false
 
 -- ---- checksums
 
@@ -115,17 +124,17 @@ over_addresses p v field at before after = updated_over (updated_by p) field (ad
 -- Pinned by: `apps/edits`
 -- The field of a transport checksum after the bytes `before` from byte `at` on became `after`. One that is left to the
 -- device is the sum of the pseudo-header, and not its complement.
-abbrev pub updated_checksum : IpVersion → Segment → List ℕ → ℕ → List ℕ → List ℕ → ℕ
-updated_checksum v s frame at before after =
+abbrev pub updated_checksum : Offload → IpVersion → Segment → List ℕ → ℕ → List ℕ → List ℕ → ℕ
+updated_checksum o v s frame at before after =
     let field = word_at frame (checksum_place s) in
-    if is_left v s frame then 65535 - updated_over updated (65535 - field) (addresses_start v) (addresses_end v) at before after
+    if is_left o v s frame then 65535 - updated_over updated (65535 - field) (addresses_start v) (addresses_end v) at before after
     else updated_over (updated_by s.protocol) (over_addresses s.protocol v field at before after) s.start s.end at before after
 
 -- Pinned by: `apps/edits`
 -- the checksum of what a packet carries, after bytes from byte `at` on were replaced; 0 without one
-abbrev pub transport_checksum : Carried → IpVersion → List ℕ → ℕ → List ℕ → ℕ
-transport_checksum (carried.Segment s) v frame at bytes = updated_checksum v s frame at (slice_range frame at (at + length bytes)) bytes
-transport_checksum _ v frame at bytes = 0
+abbrev pub transport_checksum : Offload → Carried → IpVersion → List ℕ → ℕ → List ℕ → ℕ
+transport_checksum o (carried.Segment s) v frame at bytes = updated_checksum o v s frame at (slice_range frame at (at + length bytes)) bytes
+transport_checksum o _ v frame at bytes = 0
 
 -- Pinned by: `apps/edits`
 -- the checksum of an IP header that ends at `end`, after bytes from byte `at` on were replaced; 0 for IPv6
@@ -149,11 +158,11 @@ with_transport_checksum _ frame n = frame
 
 -- Pinned by: `apps/edits`
 -- the frame with these bytes from byte `at` on, and the checksums that cover them updated
-abbrev pub edited : Places → List ℕ → ℕ → List ℕ → List ℕ
-edited p frame at bytes =
+abbrev pub edited : Offload → Places → List ℕ → ℕ → List ℕ → List ℕ
+edited o p frame at bytes =
     with_transport_checksum p.carried
     (with_header_checksum p.version (written frame at bytes) (header_checksum p.version p.start frame at bytes))
-    (transport_checksum p.carried p.version frame at bytes)
+    (transport_checksum o p.carried p.version frame at bytes)
 
 -- Pinned by: `apps/edits`
 -- the place of the TTL or hop limit
@@ -162,9 +171,9 @@ hop_limit_place version.Ipv4 = 22
 hop_limit_place version.Ipv6 = 21
 
 -- Pinned by: `apps/edits`
--- the frame with another TTL or hop limit
+-- the frame with another TTL or hop limit, which no transport checksum covers
 unfoldable pub hop_limit_set : List ℕ → ℕ → Option (List ℕ)
-hop_limit_set frame n = option_map (λ p. edited p frame (hop_limit_place p.version) (n ∷ [])) (places_of frame)
+hop_limit_set frame n = option_map (λ p. edited offload.Complete p frame (hop_limit_place p.version) (n ∷ [])) (places_of frame)
 
 -- Pinned by: `apps/edits`
 -- the first two bytes of an IP header with another DSCP (RFC 2474, section 3); the traffic class of IPv6 has the ECN in
@@ -174,11 +183,11 @@ with_dscp version.Ipv4 bytes n = with_field bytes 8 6 n
 with_dscp version.Ipv6 bytes n = with_field bytes 4 8 (4 * n + field bytes 4 8 % 4)
 
 -- Pinned by: `apps/edits`
--- the frame with another DSCP, of 6 bits
+-- the frame with another DSCP, of 6 bits, which no transport checksum covers
 unfoldable pub dscp_set : List ℕ → ℕ → Option (List ℕ)
 dscp_set frame n =
     if nat_lt 63 n then None
-    else option_map (λ p. edited p frame 14 (with_dscp p.version (slice_range frame 14 16) n)) (places_of frame)
+    else option_map (λ p. edited offload.Complete p frame 14 (with_dscp p.version (slice_range frame 14 16) n)) (places_of frame)
 
 -- Pinned by: `apps/edits`
 -- the place of an address
@@ -209,9 +218,9 @@ takes_address p a = takes_by p.carried p.version a
 
 -- Pinned by: `apps/edits`
 -- the frame with another source or destination address
-unfoldable pub addr_set : List ℕ → Side → IpAddress → Option (List ℕ)
-addr_set frame side a =
-    option_and_then (λ p. if takes_address p a then Some (edited p frame (address_place side p.version) (address_bytes a)) else None) (places_of frame)
+unfoldable pub addr_set : Offload → List ℕ → Side → IpAddress → Option (List ℕ)
+addr_set o frame side a =
+    option_and_then (λ p. if takes_address p a then Some (edited o p frame (address_place side p.version) (address_bytes a)) else None) (places_of frame)
 
 -- Pinned by: `apps/edits`
 -- the place of a port, if a packet carries TCP or UDP
@@ -222,9 +231,9 @@ port_place _ _ = None
 
 -- Pinned by: `apps/edits`
 -- the frame with another source or destination port
-unfoldable pub port_set : List ℕ → Side → ℕ → Option (List ℕ)
-port_set frame side n =
-    option_and_then (λ p. option_map (λ at. edited p frame at (big_bytes 2 n)) (port_place side p.carried)) (places_of frame)
+unfoldable pub port_set : Offload → List ℕ → Side → ℕ → Option (List ℕ)
+port_set o frame side n =
+    option_and_then (λ p. option_map (λ at. edited o p frame at (big_bytes 2 n)) (port_place side p.carried)) (places_of frame)
 
 -- ---- bytes that may not be replaced
 
@@ -264,8 +273,8 @@ allows p at end = keeps_header p.version p.start at end && keeps_carried p.carri
 
 -- Pinned by: `apps/edits`
 -- the frame with these bytes from byte `at` on, if they fit and all bytes there may be replaced
-unfoldable pub bytes_set : List ℕ → ℕ → List ℕ → Option (List ℕ)
-bytes_set frame at bytes =
+unfoldable pub bytes_set : Offload → List ℕ → ℕ → List ℕ → Option (List ℕ)
+bytes_set o frame at bytes =
     if nat_le (at + length bytes) (length frame)
-    then option_and_then (λ p. if allows p at (at + length bytes) then Some (edited p frame at bytes) else None) (places_of frame)
+    then option_and_then (λ p. if allows p at (at + length bytes) then Some (edited o p frame at bytes) else None) (places_of frame)
     else None

@@ -7,7 +7,7 @@ ghost use Rattle.app_edit.specs.Places.{Holds, carried_start};
 ghost use Rattle.ip_wire.specs.IpAddress.{address_bytes};
 
 use crate::places::{Carried, Places};
-use crate::replace::can_be_left;
+use crate::replace::{Offload, can_be_left};
 use app_nat::Side;
 use ip_wire::{IpAddress, IpProtocol, IpVersion, Ipv4PacketMut, Ipv6PacketMut};
 
@@ -20,7 +20,8 @@ pub fn set_hop_limit(frame: &mut [u8], hop_limit: u8) -> bool
     let Some(places) = Places::of(frame) else {
         return false;
     };
-    places.replace(frame, hop_limit_place(places.version), &[hop_limit]);
+    let at = hop_limit_place(places.version);
+    places.replace(frame, at, &[hop_limit], Offload::Complete);
     true
 }
 
@@ -49,7 +50,7 @@ pub fn set_dscp(frame: &mut [u8], dscp: u8) -> bool
     let mut bytes = [0; 2];
     bytes.copy_from_slice(&frame[14..16]);
     write_dscp(places.version, &mut bytes, dscp);
-    places.replace(frame, 14, &bytes);
+    places.replace(frame, 14, &bytes, Offload::Complete);
     true
 }
 
@@ -72,9 +73,9 @@ fn write_dscp(version: IpVersion, bytes: &mut [u8], dscp: u8)
 /// Writes the source or destination address. Rejected: an address of the other version, and a packet whose transport
 /// checksum covers it and is not found (`Carried::Hidden`). Of a later fragment only the IP header is updated.
 #[tactic(auto, unfolding(crate::specs::Edited::addr_set))]
-pub fn set_addr(frame: &mut [u8], side: Side, addr: &IpAddress) -> bool
-    ensures done { result ≡ is_some (addr_set frame.old side addr.now) }
-    ensures bytes { frame.new ≡ unwrap_or (addr_set frame.old side addr.now) frame.old }
+pub fn set_addr(frame: &mut [u8], side: Side, addr: &IpAddress, offload: Offload) -> bool
+    ensures done { result ≡ is_some (addr_set offload frame.old side addr.now) }
+    ensures bytes { frame.new ≡ unwrap_or (addr_set offload frame.old side addr.now) frame.old }
 {
     let Some(places) = Places::of(frame) else {
         return false;
@@ -82,7 +83,7 @@ pub fn set_addr(frame: &mut [u8], side: Side, addr: &IpAddress) -> bool
     if !takes_address(&places, addr) {
         return false;
     }
-    write_address(&places, frame, side, addr);
+    write_address(&places, frame, side, addr, offload);
     true
 }
 
@@ -112,30 +113,30 @@ fn address_place(side: Side, version: IpVersion) -> usize
 }
 
 // Writes an address that the packet can have, and updates the checksums.
-fn write_address(places: &Places, frame: &mut [u8], side: Side, addr: &IpAddress)
+fn write_address(places: &Places, frame: &mut [u8], side: Side, addr: &IpAddress, offload: Offload)
     requires places { Holds places.now frame.old }
     requires takes { takes_address places.now addr.now ≡ true }
-    ensures { frame.new ≡ edited places.now frame.old (address_place side places.now.version) (address_bytes addr.now) }
+    ensures { frame.new ≡ edited offload places.now frame.old (address_place side places.now.version) (address_bytes addr.now) }
 {
     let at = address_place(side, places.version);
     match addr {
-        IpAddress::Ipv4(addr) => places.replace(frame, at, &addr.octets()),
-        IpAddress::Ipv6(addr) => places.replace(frame, at, &addr.octets()),
+        IpAddress::Ipv4(addr) => places.replace(frame, at, &addr.octets(), offload),
+        IpAddress::Ipv6(addr) => places.replace(frame, at, &addr.octets(), offload),
     }
 }
 
 /// Writes the source or destination port of TCP or UDP, also in a first fragment. Any port is allowed.
 #[tactic(auto, unfolding(crate::specs::Edited::port_set))]
-pub fn set_port(frame: &mut [u8], side: Side, port: u16) -> bool
-    ensures done { result ≡ is_some (port_set frame.old side port) }
-    ensures bytes { frame.new ≡ unwrap_or (port_set frame.old side port) frame.old }
+pub fn set_port(frame: &mut [u8], side: Side, port: u16, offload: Offload) -> bool
+    ensures done { result ≡ is_some (port_set offload frame.old side port) }
+    ensures bytes { frame.new ≡ unwrap_or (port_set offload frame.old side port) frame.old }
 {
     let Some(places) = Places::of(frame) else {
         return false;
     };
     match port_place(side, places.carried) {
         Some(at) => {
-            places.replace(frame, at, &port.to_be_bytes());
+            places.replace(frame, at, &port.to_be_bytes(), offload);
             true
         }
         None => false,
@@ -169,9 +170,9 @@ fn port_place(side: Side, carried: Carried) -> Option<usize>
 ///
 /// No bytes are rejected too, if `at` is between two of these.
 #[tactic(auto, unfolding(crate::specs::Edited::bytes_set))]
-pub fn set_bytes(frame: &mut [u8], at: usize, bytes: &[u8]) -> bool
-    ensures done { result ≡ is_some (bytes_set frame.old at bytes.now) }
-    ensures bytes { frame.new ≡ unwrap_or (bytes_set frame.old at bytes.now) frame.old }
+pub fn set_bytes(frame: &mut [u8], at: usize, bytes: &[u8], offload: Offload) -> bool
+    ensures done { result ≡ is_some (bytes_set offload frame.old at bytes.now) }
+    ensures bytes { frame.new ≡ unwrap_or (bytes_set offload frame.old at bytes.now) frame.old }
 {
     if at > frame.len() || bytes.len() > frame.len() - at {
         return false;
@@ -182,7 +183,7 @@ pub fn set_bytes(frame: &mut [u8], at: usize, bytes: &[u8]) -> bool
     if !places.allows(at, at + bytes.len()) {
         return false;
     }
-    places.replace(frame, at, bytes);
+    places.replace(frame, at, bytes, offload);
     true
 }
 

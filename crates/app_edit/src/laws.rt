@@ -7,6 +7,8 @@ ghost use Rattle.app_edit.specs.Places.{checksum_place, places_of};
 ghost use Rattle.app_edit.specs.declared.places.Carried.TheVariants.{Segment as OfSegment};
 ghost use Rattle.app_edit.specs.declared.places.Places.{Places as PlacesOf};
 ghost use Rattle.app_edit.specs.declared.places.Segment.{Segment as SegmentOf};
+ghost use Rattle.app_edit.specs.declared.replace.Offload.{Offload as OffloadOf};
+ghost use Rattle.app_edit.specs.declared.replace.Offload.TheVariants.{Offloaded};
 ghost use Rattle.ip_wire.specs.WordSum.{sum_of_bytes};
 ghost use Rattle.ip_wire.specs.declared.IpProtocol.TheVariants.{Udp};
 ghost use Rattle.ip_wire.specs.declared.IpVersion.TheVariants.{Ipv4};
@@ -19,21 +21,22 @@ use ip_wire::laws::field::bytes_fit;
 pub fn header_sum_stays(frame: &[u8], at: usize, bytes: &[u8])
     requires room { at + length bytes.now ≤ length frame.now }
     requires apart { (at + length bytes.now ≤ 24) ⊎ (26 ≤ at) }
-    ensures { (p : PlacesOf) → places_of frame.now ≡ Some p → p.version ≡ Ipv4
-        → sum_of_bytes (slice_range (edited p frame.now at bytes.now) 14 p.start) % 65535 ≡ sum_of_bytes (slice_range frame.now 14 p.start) % 65535 }
+    ensures { (o : OffloadOf) (p : PlacesOf) → places_of frame.now ≡ Some p → p.version ≡ Ipv4
+        → sum_of_bytes (slice_range (edited o p frame.now at bytes.now) 14 p.start) % 65535 ≡ sum_of_bytes (slice_range frame.now 14 p.start) % 65535 }
 {
     bytes_fit(frame);
     let _ = Places::of(frame);
 }
 
 /// An edit that does not touch the transport checksum keeps the sum of the pseudo-header and the transport packet,
-/// modulo 65535, also if it writes an address. The checksum is not left to the device, and that of UDP is not 0.
+/// modulo 65535, also if it writes an address. The checksum does not count as left to the device, as `Offload::Complete`
+/// says of any packet, and that of UDP is not 0.
 pub fn segment_sum_stays(frame: &[u8], at: usize, bytes: &[u8])
     requires room { at + length bytes.now ≤ length frame.now }
-    ensures { (p : PlacesOf) (s : SegmentOf) → places_of frame.now ≡ Some p → p.carried ≡ OfSegment s
+    ensures { (o : OffloadOf) (p : PlacesOf) (s : SegmentOf) → places_of frame.now ≡ Some p → p.carried ≡ OfSegment s
         → (at + length bytes.now ≤ checksum_place s) ⊎ (checksum_place s + 2 ≤ at)
-        → is_left p.version s frame.now ≡ false → (s.protocol ≡ Udp → word_at frame.now (checksum_place s) ≢ 0)
-        → segment_sum p.version s (edited p frame.now at bytes.now) % 65535 ≡ segment_sum p.version s frame.now % 65535 }
+        → is_left o p.version s frame.now ≡ false → (s.protocol ≡ Udp → word_at frame.now (checksum_place s) ≢ 0)
+        → segment_sum p.version s (edited o p frame.now at bytes.now) % 65535 ≡ segment_sum p.version s frame.now % 65535 }
 {
     bytes_fit(frame);
     let _ = Places::of(frame);
@@ -47,12 +50,14 @@ pub fn filled_sum_verifies(frame: &[u8])
     let _ = Places::of(frame);
 }
 
-/// A checksum that is left to the device is the sum of the pseudo-header, also after an edit that does not touch it.
+/// A checksum that counts as left to the device, as `Offload::Offloaded` says of TCP and UDP, stays the sum of the
+/// pseudo-header after an edit that does not touch it.
 pub fn pseudo_header_sum_stays(frame: &[u8], at: usize, bytes: &[u8])
     requires room { at + length bytes.now ≤ length frame.now }
-    ensures { (p : PlacesOf) (s : SegmentOf) → places_of frame.now ≡ Some p → p.carried ≡ OfSegment s
-        → (at + length bytes.now ≤ checksum_place s) ⊎ (checksum_place s + 2 ≤ at) → is_left p.version s frame.now ≡ true
-        → word_at (edited p frame.now at bytes.now) (checksum_place s) ≡ pseudo_header_sum p.version s (edited p frame.now at bytes.now) }
+    ensures { (o : OffloadOf) (p : PlacesOf) (s : SegmentOf) → places_of frame.now ≡ Some p → p.carried ≡ OfSegment s
+        → (at + length bytes.now ≤ checksum_place s) ⊎ (checksum_place s + 2 ≤ at) → is_left o p.version s frame.now ≡ true
+        → (o ≡ Offloaded → word_at frame.now (checksum_place s) ≡ pseudo_header_sum p.version s frame.now)
+        → word_at (edited o p frame.now at bytes.now) (checksum_place s) ≡ pseudo_header_sum p.version s (edited o p frame.now at bytes.now) }
 {
     bytes_fit(frame);
     let _ = Places::of(frame);

@@ -11,3 +11,4 @@ mod replace;
 pub use edits::{set_addr, set_bytes, set_dscp, set_hop_limit, set_port};
 pub use fill::fill_checksum;
 pub use places::{Carried, Places, Segment};
+pub use replace::Offload;

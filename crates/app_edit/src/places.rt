@@ -201,6 +201,7 @@ fn fragment_carried(frame: &[u8], end: usize) -> Carried
 }
 
 // What a packet of this protocol carries from `start` up to `end`, if it is no later fragment.
+#[inline(always)]
 fn carried_by(
     frame: &[u8],
     version: IpVersion,
@@ -257,8 +258,10 @@ fn covers_addresses(version: IpVersion, protocol: IpProtocol) -> bool
     ensures { result ≡ covers_addresses (is_ipv4 version) protocol }
 {
     match protocol {
-        IpProtocol::Unknown(33 | 89 | 112 | 136 | 139) => true,
-        IpProtocol::Unknown(103 | 135) => !is_ipv4(version),
+        IpProtocol::Unknown(number) => {
+            matches!(number, 33 | 89 | 112 | 136 | 139)
+                || !is_ipv4(version) && matches!(number, 103 | 135)
+        }
         _ => false,
     }
 }

@@ -3,7 +3,7 @@
 ghost use Rattle.std.specs.Prelude.{◌≡◌, ◌≤◌, ◌+◌, ◌^◌, length};
 ghost use Rattle.ip_wire.specs.IpAddress.{version_of};
 ghost use Rattle.ip_wire.specs.WordSum.{updated};
-ghost use Rattle.app_edit.specs.Edited.{can_be_left, dst_of, edited, header_checksum, is_left, pseudo_header_sum, segment_sum, src_of, transport_checksum, updated_by, updated_checksum, updated_over, with_header_checksum, with_transport_checksum, with_word, word_at, written};
+ghost use Rattle.app_edit.specs.Edited.{can_be_left, dst_of, edited, header_checksum, is_left, looks_left, pseudo_header_sum, segment_sum, src_of, transport_checksum, updated_by, updated_checksum, updated_over, with_header_checksum, with_transport_checksum, with_word, word_at, written};
 ghost use Rattle.app_edit.specs.Filled.{filled};
 ghost use Rattle.app_edit.specs.Places.{Holds, InFrame, addresses_end, addresses_start};
 
@@ -17,15 +17,27 @@ const HEADER: usize = 14;
 
 const HEADER_CHECKSUM: usize = 24;
 
+/// Whether the checksum of a TCP or UDP packet is left to the device that sends the frame (checksum offload). The frame
+/// does not say it, but the headers before it in virtio and in captures do.
+#[derive(Debug, Clone, Copy, PartialEq, Eq)]
+pub enum Offload {
+    /// Not known: it is left to the device if the field is the sum of the pseudo-header, and is not valid as it is.
+    Guess,
+    /// It is left to the device, and the field is the sum of the pseudo-header.
+    Offloaded,
+    /// It is not.
+    Complete,
+}
+
 impl Places {
     // Writes bytes from byte `at` on, and updates the checksums that cover them.
-    pub(crate) fn replace(&self, frame: &mut [u8], at: usize, bytes: &[u8])
+    pub(crate) fn replace(&self, frame: &mut [u8], at: usize, bytes: &[u8], offload: Offload)
         requires places { Holds self.now frame.old }
         requires room { at + length bytes.now ≤ length frame.old }
-        ensures { frame.new ≡ edited self.now frame.old at bytes.now }
+        ensures { frame.new ≡ edited offload self.now frame.old at bytes.now }
     {
         let header = self.header_checksum(frame, at, bytes);
-        let transport = self.transport_checksum(frame, at, bytes);
+        let transport = self.transport_checksum(frame, at, bytes, offload);
         write_at(frame, at, bytes);
         self.write_header_checksum(frame, header);
         self.write_transport_checksum(frame, transport);
@@ -48,15 +60,15 @@ impl Places {
     }
 
     // The checksum of the transport packet after these bytes are written; 0 if there is none.
-    fn transport_checksum(&self, frame: &[u8], at: usize, bytes: &[u8]) -> u16
+    fn transport_checksum(&self, frame: &[u8], at: usize, bytes: &[u8], offload: Offload) -> u16
         requires places { Holds self.now frame.now }
         requires room { at + length bytes.now ≤ length frame.now }
-        ensures { result ≡ transport_checksum self.now.carried self.now.version frame.now at bytes.now }
+        ensures { result ≡ transport_checksum offload self.now.carried self.now.version frame.now at bytes.now }
     {
         match self.carried {
             Carried::Segment(segment) => {
                 let before = &frame[at..at + bytes.len()];
-                segment.updated_checksum(self.version, frame, at, before, bytes)
+                segment.updated_checksum(self.version, frame, at, before, bytes, offload)
             }
             _ => 0,
         }
@@ -103,15 +115,16 @@ impl Segment {
         at: usize,
         before: &[u8],
         after: &[u8],
+        offload: Offload,
     ) -> u16
         requires inside { InFrame version self.now frame.now }
         requires before { length before.now ≡ length after.now }
         requires room { at + length after.now ≤ 2 ^ 63 }
-        ensures { result ≡ updated_checksum version self.now frame.now at before.now after.now }
+        ensures { result ≡ updated_checksum offload version self.now frame.now at before.now after.now }
     {
         let field = word_at(frame, self.checksum());
         let (first, last) = addresses(version);
-        if self.is_left(version, frame) {
+        if self.is_left(version, frame, offload) {
             return !update_over(!field, first, last, at, before, after);
         }
         let field = match self.protocol {
@@ -129,10 +142,22 @@ impl Segment {
         )
     }
 
-    // Whether the checksum is left to the device that sends the frame.
-    fn is_left(&self, version: IpVersion, frame: &[u8]) -> bool
+    // Whether the checksum counts as left to the device.
+    fn is_left(&self, version: IpVersion, frame: &[u8], offload: Offload) -> bool
         requires { InFrame version self.now frame.now }
-        ensures { result ≡ is_left version self.now frame.now }
+        ensures { result ≡ is_left offload version self.now frame.now }
+    {
+        match offload {
+            Offload::Guess => self.looks_left(version, frame),
+            Offload::Offloaded => can_be_left(self.protocol),
+            Offload::Complete => false,
+        }
+    }
+
+    // Whether the checksum looks left to the device.
+    fn looks_left(&self, version: IpVersion, frame: &[u8]) -> bool
+        requires { InFrame version self.now frame.now }
+        ensures { result ≡ looks_left version self.now frame.now }
     {
         self.is_whole
             && can_be_left(self.protocol)

@@ -2,6 +2,7 @@
 use Rattle.std.proofs.Common.{ℕ, ℤ, pos, ◌≡◌, ◌≢◌, ◌∙◌, ◌≤◌, ◌++◌, List, Some, inl, inr, drop, length, take, ap, subst, sym}
 use Rattle.std.proofs.lemmas.Bool.{cases_eq}
 use Rattle.std.proofs.lemmas.Option.{none-some, same_Some}
+use Rattle.app_edit.specs.declared.replace.Offload.{Offload}
 use Rattle.app_nat.proofs.NatOnce.{translated-unrejected, untranslated-once}
 use Rattle.app_nat.specs.Nat.{IsTranslated, IsUntranslated, segment}
 use Rattle.app_nat.specs.declared.Rejection.{Rejection as NatRejection}
@@ -71,15 +72,15 @@ header-of frame limit a b =
     (frame-once _ frame _ _ _ _ a.carries b.carries).1
     in cc
 
-clamped-once : (old new other : List ℕ) (limit : ℕ) → IsClamped old new limit → IsClamped old other limit → new ≡ other
-clamped-once old new other limit a b =
-    a.bytes ∙ ap (λ h. take 14 old ++ clamped h (drop 14 old) limit) (header-of old limit a.before b.before) ∙ sym b.bytes
+clamped-once : (o : Offload) (old new other : List ℕ) (limit : ℕ) → IsClamped o old new limit → IsClamped o old other limit → new ≡ other
+clamped-once o old new other limit a b =
+    a.bytes ∙ ap (λ h. take 14 old ++ clamped o h (drop 14 old) limit) (header-of old limit a.before b.before) ∙ sym b.bytes
 
-unclamped : (old new : List ℕ) (limit : ℕ) → length old ≤ max_len → IsClamped old new limit → IsTooLarge (within old) limit
-unclamped old new limit short a = subst (λ l. IsTooLarge l limit) (sym (within-is old short)) a.before
+unclamped : (o : Offload) (old new : List ℕ) (limit : ℕ) → length old ≤ max_len → IsClamped o old new limit → IsTooLarge (within old) limit
+unclamped o old new limit short a = subst (λ l. IsTooLarge l limit) (sym (within-is old short)) a.before
 
-pub clamps_once : (old new other : List ℕ) (limit : ℕ) (a b : ℤ) → Clamps old new limit a → Clamps old other limit b → (a ≡ b) × (new ≡ other)
-clamps_once old new other limit a b (inl (one, short, t)) (inl (also, fits, u)) = (one ∙ sym also, clamped-once old new other limit t u)
-clamps_once old new other limit a b (inl (one, short, t)) (inr (zero, small, stays)) = absurd (small (unclamped old new limit short t))
-clamps_once old new other limit a b (inr (zero, small, stays)) (inl (one, short, t)) = absurd (small (unclamped old other limit short t))
-clamps_once old new other limit a b (inr (zero, small, stays)) (inr (also, none, same)) = (zero ∙ sym also, stays ∙ sym same)
+pub clamps_once : (o : Offload) (old new other : List ℕ) (limit : ℕ) (a b : ℤ) → Clamps o old new limit a → Clamps o old other limit b → (a ≡ b) × (new ≡ other)
+clamps_once o old new other limit a b (inl (one, short, t)) (inl (also, fits, u)) = (one ∙ sym also, clamped-once o old new other limit t u)
+clamps_once o old new other limit a b (inl (one, short, t)) (inr (zero, small, stays)) = absurd (small (unclamped o old new limit short t))
+clamps_once o old new other limit a b (inr (zero, small, stays)) (inl (one, short, t)) = absurd (small (unclamped o old other limit short t))
+clamps_once o old new other limit a b (inr (zero, small, stays)) (inr (also, none, same)) = (zero ∙ sym also, stays ∙ sym same)

@@ -6,6 +6,8 @@ use Rattle.c_structs.specs.Written.{max_len}
 use Rattle.app_nat.proofs.Headers.{reads-inner, same-inner}
 use Rattle.app_nat.proofs.Payloads.{drop-front, range-len, range-part, range-same}
 use Rattle.app_nat.proofs.Translates.{inner-payload, link-stays}
+use Rattle.app_edit.specs.declared.replace.Offload.{Offload}
+use Rattle.app_edit.specs.declared.replace.Offload.TheVariants as offload
 use Rattle.app_short.specs.Clamp.{IsAbove}
 use Rattle.ip_wire.proofs.Cells.{cells-all}
 use Rattle.ip_wire.proofs.ReadsOnce.{computed-one, frame-once}
@@ -138,12 +140,12 @@ even-ends choice bytes (Ipv6 v) r =
     (omega (arith, src), omega (arith, dst))
 
 -- the segment that was clamped is read in its packet
-pub packet-clamped : (choice : Checksum) (bytes part new : List ℕ) (header : IpRepr) (v : TcpHeader) (payload : List ℕ) (limit : ℕ)
+pub packet-clamped : (o : Offload) (choice : Checksum) (bytes part new : List ℕ) (header : IpRepr) (v : TcpHeader) (payload : List ℕ) (limit : ℕ)
     → new ≡ with_segment header bytes part → length part ≡ length (packet_payload header bytes)
-    → ((verified : Bool) → IsEven (src_addr_of header) → IsEven (dst_addr_of header) → Reads (packet_payload header bytes) (src_addr_of header) (dst_addr_of header) verified v payload
+    → ((verified : Bool) → (o ≡ offload.Offloaded → verified ≡ false) → IsEven (src_addr_of header) → IsEven (dst_addr_of header) → Reads (packet_payload header bytes) (src_addr_of header) (dst_addr_of header) verified v payload
     → Reads part (src_addr_of header) (dst_addr_of header) verified (with_size limit v) payload)
-    → ReadsSegment choice bytes header v payload → ReadsSegment choice new header (with_size limit v) payload
-packet-clamped choice bytes part new header v payload limit is e lowered r =
+    → (o ≡ offload.Offloaded → verifies choice ≡ false) → ReadsSegment choice bytes header v payload → ReadsSegment choice new header (with_size limit v) payload
+packet-clamped o choice bytes part new header v payload limit is e lowered said r =
     let even = even-ends choice bytes header r.0 in
     let src = src_addr_of header in
     let dst = dst_addr_of header in
@@ -153,15 +155,15 @@ packet-clamped choice bytes part new header v payload limit is e lowered r =
       (
         r.1.0,
         subst (λ (l : List ℕ). Reads l src dst (verifies choice) (with_size limit v) payload) (sym placed)
-            (lowered (verifies choice) even.0 even.1 r.1.1),
+            (lowered (verifies choice) said even.0 even.1 r.1.1),
       ),
     )
 
-pub packet-bytes : (header : IpRepr) (bytes part : List ℕ) (limit : ℕ) (done : Bool) → ReadsHeader bytes true header
-    → part ≡ (if done then resized (src_addr_of header) (dst_addr_of header) (packet_payload header bytes) limit else packet_payload header bytes)
-    → with_segment header bytes part ≡ (if done then clamped header bytes limit else bytes)
-packet-bytes header bytes part limit true r is = ap (with_segment header bytes) is
-packet-bytes header bytes part limit false r is =
+pub packet-bytes : (o : Offload) (header : IpRepr) (bytes part : List ℕ) (limit : ℕ) (done : Bool) → ReadsHeader bytes true header
+    → part ≡ (if done then resized o (src_addr_of header) (dst_addr_of header) (packet_payload header bytes) limit else packet_payload header bytes)
+    → with_segment header bytes part ≡ (if done then clamped o header bytes limit else bytes)
+packet-bytes o header bytes part limit true r is = ap (with_segment header bytes) is
+packet-bytes o header bytes part limit false r is =
     ap (with_segment header bytes) (is ∙ payload-range bytes header)
     ∙ range-same bytes (segment_start header bytes) (segment_end header bytes) (range-order bytes header r)
 
@@ -170,33 +172,41 @@ packet-bytes header bytes part limit false r is =
 pub is-syn : (bytes : List ℕ) (src dst : IpAddress) (verified : Bool) (v : TcpHeader) (payload : List ℕ) (limit : ℕ) → IsAbove limit v → Reads bytes src dst verified v payload → field bytes 110 1 ≡ 1
 is-syn bytes src dst verified v payload limit above r = let flags : HasControl bytes control.Syn = subst (HasControl bytes) above.syn r.control in flags.syn
 
-pub left-partial : (src dst : IpAddress) (bytes : List ℕ) → field bytes 128 16 ≡ tcp.pseudo_header_sum src dst bytes → ¬ Verifies src dst bytes → is_left_to_device src dst bytes ≡ true
+pub left-partial : (src dst : IpAddress) (bytes : List ℕ) → field bytes 128 16 ≡ tcp.pseudo_header_sum src dst bytes → ¬ Verifies src dst bytes → is_left_to_device offload.Guess src dst bytes ≡ true
 left-partial src dst bytes partial wrong = grind (arith, nat_tests)
 
-pub not-partial : (src dst : IpAddress) (bytes : List ℕ) → field bytes 128 16 ≢ tcp.pseudo_header_sum src dst bytes → is_left_to_device src dst bytes ≡ false
+pub not-partial : (src dst : IpAddress) (bytes : List ℕ) → field bytes 128 16 ≢ tcp.pseudo_header_sum src dst bytes → is_left_to_device offload.Guess src dst bytes ≡ false
 not-partial src dst bytes other = grind (arith, nat_tests)
 
-pub valid-stays : (src dst : IpAddress) (bytes : List ℕ) → Verifies src dst bytes → is_left_to_device src dst bytes ≡ false
+pub valid-stays : (src dst : IpAddress) (bytes : List ℕ) → Verifies src dst bytes → is_left_to_device offload.Guess src dst bytes ≡ false
 valid-stays src dst bytes valid = grind (arith, nat_tests)
 
-pub some-left : (src dst : IpAddress) (bytes part : List ℕ) (sum limit : ℕ) → part ≡ with_max_seg_size bytes limit → sum ≡ field bytes 128 16
-    → is_left_to_device src dst bytes ≡ true → with_field part 128 16 sum ≡ resized src dst bytes limit
-some-left src dst bytes part sum limit is same left =
+-- one that counts as left to the device is not verified
+left-unverified : (o : Offload) (src dst : IpAddress) (bytes : List ℕ) (verified : Bool) → (o ≡ offload.Offloaded → verified ≡ false) → is_left_to_device o src dst bytes ≡ true
+    → (verified ≡ true → Verifies src dst bytes) → verified ≢ true
+left-unverified offload.Guess src dst bytes verified said left valid on = let other = valid-stays src dst bytes (valid on) in absurd (cc)
+left-unverified offload.Offloaded src dst bytes verified said left valid on = let off = said refl in absurd (cc)
+left-unverified offload.Complete src dst bytes verified said left valid on = absurd (cc)
+
+pub some-left : (o : Offload) (src dst : IpAddress) (bytes part : List ℕ) (sum limit : ℕ) → part ≡ with_max_seg_size bytes limit → sum ≡ field bytes 128 16
+    → is_left_to_device o src dst bytes ≡ true → with_field part 128 16 sum ≡ resized o src dst bytes limit
+some-left o src dst bytes part sum limit is same left =
     let new = with_max_seg_size bytes limit in
     (λ i. with_field (is i) 128 16 (same i)) ∙ sym (ap (λ (b : Bool). if b then with_field new 128 16 (field bytes 128 16) else new) left)
 
-pub none-left : (src dst : IpAddress) (bytes part : List ℕ) (limit : ℕ) → part ≡ with_max_seg_size bytes limit
-    → is_left_to_device src dst bytes ≡ false → part ≡ resized src dst bytes limit
-none-left src dst bytes part limit is other =
+pub none-left : (o : Offload) (src dst : IpAddress) (bytes part : List ℕ) (limit : ℕ) → part ≡ with_max_seg_size bytes limit
+    → is_left_to_device o src dst bytes ≡ false → part ≡ resized o src dst bytes limit
+none-left o src dst bytes part limit is other =
     let new = with_max_seg_size bytes limit in
     is ∙ sym (ap (λ (b : Bool). if b then with_field new 128 16 (field bytes 128 16) else new) other)
 
 -- the segment is still read when its old checksum is put back, which was not valid
-pub put-back : (src dst : IpAddress) (bytes part new : List ℕ) (sum : ℕ) (verified : Bool) (v w : TcpHeader) (payload : List ℕ) → new ≡ with_field part 128 16 sum
-    → is_left_to_device src dst bytes ≡ true → Reads bytes src dst verified v payload → Reads part src dst verified w payload → Reads new src dst verified w payload
-put-back src dst bytes part new sum verified v w payload is left before r =
+pub put-back : (o : Offload) (src dst : IpAddress) (bytes part new : List ℕ) (sum : ℕ) (verified : Bool) (v w : TcpHeader) (payload : List ℕ) → new ≡ with_field part 128 16 sum
+    → (o ≡ offload.Offloaded → verified ≡ false) → is_left_to_device o src dst bytes ≡ true → Reads bytes src dst verified v payload → Reads part src dst verified w payload
+    → Reads new src dst verified w payload
+put-back o src dst bytes part new sum verified v w payload is said left before r =
     reads-summed part new sum src dst src dst verified verified w payload is r
-    (λ on. let other = valid-stays src dst bytes (before.checksum on) in absurd (cc))
+    (λ on. absurd (left-unverified o src dst bytes verified said left before.checksum on))
 
 -- ---- a frame with another packet
 
@@ -258,42 +268,42 @@ unparsed caps frame result error same-caps found reads is l h v payload carried 
 -- ---- what C gets
 
 -- the frame is clamped, as its packet
-pub clamps : (old new body : List ℕ) (link : EthernetRepr) (header : IpRepr) (v : TcpHeader) (payload : List ℕ) (limit : ℕ) (answer : ℤ) → answer ≡ pos 1
-    → length old ≤ max_len → CarriesSegment checksum.None old link header v payload → IsAbove limit v → new ≡ take 14 old ++ body → body ≡ clamped header (drop 14 old) limit
-    → ((choice : Checksum) → ReadsSegment choice (drop 14 old) header v payload → ReadsSegment choice body header (with_size limit v) payload)
-    → Clamps old new limit answer
-clamps old new body link header v payload limit answer one fits before above at is step =
-    let done : IsClamped old new limit =
+pub clamps : (o : Offload) (old new body : List ℕ) (link : EthernetRepr) (header : IpRepr) (v : TcpHeader) (payload : List ℕ) (limit : ℕ) (answer : ℤ) → answer ≡ pos 1
+    → length old ≤ max_len → CarriesSegment checksum.None old link header v payload → IsAbove limit v → new ≡ take 14 old ++ body → body ≡ clamped o header (drop 14 old) limit
+    → ((choice : Checksum) → (o ≡ offload.Offloaded → verifies choice ≡ false) → ReadsSegment choice (drop 14 old) header v payload → ReadsSegment choice body header (with_size limit v) payload)
+    → Clamps o old new limit answer
+clamps o old new body link header v payload limit answer one fits before above at is step =
+    let done : IsClamped o old new limit =
     record {
       before = record { link = link; header = header; v = v; payload = payload; carries = before; above = above };
-      after = λ choice r. carries choice old new body link header (with_size limit v) payload at before.reads_header before.reads_carried.0 (step choice (r.reads_carried.1, r.reads_carried.2));
+      after = λ choice said r. carries choice old new body link header (with_size limit v) payload at before.reads_header before.reads_carried.0 (step choice said (r.reads_carried.1, r.reads_carried.2));
       bytes = at ∙ ap (λ (l : List ℕ). take 14 old ++ l) is;
     } in
     inl (one, fits, done)
 
-stays : (frame new : List ℕ) (limit : ℕ) (answer : ℤ) → answer ≡ pos 0 → length frame ≤ max_len → ¬ IsTooLarge frame limit → new ≡ frame → Clamps frame new limit answer
-stays frame new limit answer zero fits small is = inr (zero, subst (λ (l : List ℕ). ¬ IsTooLarge l limit) (sym (within-itself frame fits)) small, is)
+stays : (o : Offload) (frame new : List ℕ) (limit : ℕ) (answer : ℤ) → answer ≡ pos 0 → length frame ≤ max_len → ¬ IsTooLarge frame limit → new ≡ frame → Clamps o frame new limit answer
+stays o frame new limit answer zero fits small is = inr (zero, subst (λ (l : List ℕ). ¬ IsTooLarge l limit) (sym (within-itself frame fits)) small, is)
 
 -- the segment is the only one that the frame carries, so the frame is not clamped if it is not above the limit
-pub not-above : (frame new : List ℕ) (link : EthernetRepr) (header : IpRepr) (v : TcpHeader) (payload : List ℕ) (limit : ℕ) (answer : ℤ) → answer ≡ pos 0
-    → length frame ≤ max_len → CarriesSegment checksum.None frame link header v payload → ¬ IsAbove limit v → new ≡ frame → Clamps frame new limit answer
-not-above frame new link header v payload limit answer zero fits carried small is =
+pub not-above : (o : Offload) (frame new : List ℕ) (link : EthernetRepr) (header : IpRepr) (v : TcpHeader) (payload : List ℕ) (limit : ℕ) (answer : ℤ) → answer ≡ pos 0
+    → length frame ≤ max_len → CarriesSegment checksum.None frame link header v payload → ¬ IsAbove limit v → new ≡ frame → Clamps o frame new limit answer
+not-above o frame new link header v payload limit answer zero fits carried small is =
     let none : ¬ IsTooLarge frame limit =
     λ large.
     let same : packet large.header (segment large.v large.payload) ≡ packet header (segment v payload) =
     (frame-once (tcp_as checksum.None) frame large.link link _ _ large.carries carried).1 in
     let values : large.v ≡ v = cc in
     small (subst (IsAbove limit) values large.above) in
-    stays frame new limit answer zero fits none is
+    stays o frame new limit answer zero fits none is
 
 -- a frame without a segment is not clamped
-pub no-segment : (frame new : List ℕ) (limit : ℕ) (answer : ℤ) → answer ≡ pos 0 → length frame ≤ max_len
+pub no-segment : (o : Offload) (frame new : List ℕ) (limit : ℕ) (answer : ℤ) → answer ≡ pos 0 → length frame ≤ max_len
     → ((link : EthernetRepr) (header : IpRepr) (v : TcpHeader) (payload : List ℕ) → ¬ CarriesSegment checksum.None frame link header v payload)
-    → new ≡ frame → Clamps frame new limit answer
-no-segment frame new limit answer zero fits none is = stays frame new limit answer zero fits (λ large. none large.link large.header large.v large.payload large.carries) is
+    → new ≡ frame → Clamps o frame new limit answer
+no-segment o frame new limit answer zero fits none is = stays o frame new limit answer zero fits (λ large. none large.link large.header large.v large.payload large.carries) is
 
 -- a frame that is too long is no frame
-pub too-long : (frame : List ℕ) (limit : ℕ) (answer : ℤ) → answer ≡ pos 0 → max_len < length frame → Clamps frame frame limit answer
-too-long frame limit answer zero long =
+pub too-long : (o : Offload) (frame : List ℕ) (limit : ℕ) (answer : ℤ) → answer ≡ pos 0 → max_len < length frame → Clamps o frame frame limit answer
+too-long o frame limit answer zero long =
     let none : ¬ IsTooLarge [] limit = λ large. let whole = large.carries.reads_header.whole in absurd (omega (arith, whole)) in
     inr (zero, subst (λ (l : List ℕ). ¬ IsTooLarge l limit) (sym (within-nothing frame long)) none, refl)

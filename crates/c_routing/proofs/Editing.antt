@@ -7,6 +7,7 @@ use Rattle.std.specs.Option.{option_and_then, unwrap_or}
 use Rattle.app_edit.specs.Edited.{addr_set, bytes_set, dscp_set, hop_limit_set, port_set}
 use Rattle.app_edit.specs.Filled.{checksum_filled}
 use Rattle.app_edit.specs.Places.{places_of}
+use Rattle.app_edit.specs.declared.replace.Offload.{Offload}
 use Rattle.app_nat.specs.declared.translation.Side.{Side}
 use Rattle.ip_wire.specs.Types.{IpAddress}
 use Rattle.c_structs.specs.Written.{flag, max_len, within}
@@ -41,22 +42,22 @@ pub no-dscp : (n : ℕ) → dscp_set [] n ≡ None
 unfolding dscp_set
 no-dscp n = grind (arith, nat_tests, no-places)
 
-pub no-addr : (side : Side) (a : IpAddress) → addr_set [] side a ≡ None
+pub no-addr : (o : Offload) (side : Side) (a : IpAddress) → addr_set o [] side a ≡ None
 unfolding addr_set
-no-addr side a = search no-places
+no-addr o side a = search no-places
 
-pub no-port : (side : Side) (n : ℕ) → port_set [] side n ≡ None
+pub no-port : (o : Offload) (side : Side) (n : ℕ) → port_set o [] side n ≡ None
 unfolding port_set
-no-port side n = search no-places
+no-port o side n = search no-places
 
-pub no-bytes : (at : ℕ) (bytes : List ℕ) → bytes_set [] at bytes ≡ None
+pub no-bytes : (o : Offload) (at : ℕ) (bytes : List ℕ) → bytes_set o [] at bytes ≡ None
 unfolding bytes_set
-no-bytes at bytes = grind (arith, nat_tests, no-places)
+no-bytes o at bytes = grind (arith, nat_tests, no-places)
 
 pub no-checksum : checksum_filled [] ≡ None
 unfolding checksum_filled
 no-checksum = search no-places
 
-pub no-addr_of : (side : Side) (o : Option IpAddress) → option_and_then (addr_set [] side) o ≡ None
-no-addr_of side None = refl
-no-addr_of side (Some a) = no-addr side a
+pub no-addr_of : (o : Offload) (side : Side) (found : Option IpAddress) → option_and_then (addr_set o [] side) found ≡ None
+no-addr_of o side None = refl
+no-addr_of o side (Some a) = no-addr o side a

@@ -1,5 +1,7 @@
 -- What the call that clamps the maximum segment size of a frame returns and writes.
-use Rattle.std.specs.Prelude.{ℕ, ℤ, pos, ◌≡◌, ◌≤◌, ◌==◌, ◌++◌, ◌⊎◌, if◌then◌else◌, Bool, List, Some, drop, length, take}
+use Rattle.std.specs.Prelude.{ℕ, ℤ, pos, ◌≡◌, ◌≤◌, ◌==◌, ◌++◌, ◌⊎◌, if◌then◌else◌, Bool, true, false, List, Some, drop, length, take}
+use Rattle.app_edit.specs.declared.replace.Offload.{Offload}
+use Rattle.app_edit.specs.declared.replace.Offload.TheVariants as offload
 use Rattle.app_short.specs.Clamp.{IsAbove}
 use Rattle.ip_wire.specs.Field.{field, with_field, with_range}
 use Rattle.ip_wire.specs.Frame.{ReadsFrame, ReadsPacket, ReadsTransport, all_checked, packet, packet_payload, segment}
@@ -9,6 +11,7 @@ use Rattle.ip_wire.specs.Ipv6 as ipv6
 use Rattle.ip_wire.specs.TcpRepr.{TcpHeader}
 use Rattle.ip_wire.specs.TcpSegmentSize.{with_max_seg_size}
 use Rattle.ip_wire.specs.Types.{EthernetRepr, IpAddress, IpRepr, Ipv4, Ipv6}
+use Rattle.net_base.specs.Checksum.{verifies}
 use Rattle.net_base.specs.declared.Checksum.{Checksum}
 use Rattle.net_base.specs.declared.Checksum.TheVariants as checksum
 use Rattle.net_base.specs.declared.ChecksumCapabilities.{ChecksumCapabilities}
@@ -56,23 +59,26 @@ abbrev pub with_segment : IpRepr → List ℕ → List ℕ → List ℕ
 with_segment header bytes part = with_range bytes (segment_start header bytes) (segment_end header bytes) part
 
 -- Pinned by: `worked/route`
--- the TCP checksum of a segment between two addresses is left to the device, as `lk_read_frame` says
-abbrev pub is_left_to_device : IpAddress → IpAddress → List ℕ → Bool
-is_left_to_device src dst bytes = verdict_code (tcp_verdict src dst bytes) == verdict_code verdict.LeftToDevice
+-- the TCP checksum of a segment between two addresses counts as left to the device: as the caller says, or as
+-- `lk_read_frame` says
+abbrev pub is_left_to_device : Offload → IpAddress → IpAddress → List ℕ → Bool
+is_left_to_device offload.Guess src dst bytes = verdict_code (tcp_verdict src dst bytes) == verdict_code verdict.LeftToDevice
+is_left_to_device offload.Offloaded src dst bytes = true
+is_left_to_device offload.Complete src dst bytes = false
 
 -- Pinned by: `worked/route`
 -- the bytes of a segment between two addresses with this maximum segment size and an updated checksum; one that is left
 -- to the device stays
-abbrev pub resized : IpAddress → IpAddress → List ℕ → ℕ → List ℕ
-resized src dst bytes size =
+abbrev pub resized : Offload → IpAddress → IpAddress → List ℕ → ℕ → List ℕ
+resized o src dst bytes size =
     let new = with_max_seg_size bytes size in
-    if is_left_to_device src dst bytes then with_field new 128 16 (field bytes 128 16) else new
+    if is_left_to_device o src dst bytes then with_field new 128 16 (field bytes 128 16) else new
 
 -- Pinned by: `worked/route`
 -- the bytes of a packet with this header, whose segment has this maximum segment size
-abbrev pub clamped : IpRepr → List ℕ → ℕ → List ℕ
-clamped header bytes size =
-    with_segment header bytes (resized (src_addr_of header) (dst_addr_of header) (packet_payload header bytes) size)
+abbrev pub clamped : Offload → IpRepr → List ℕ → ℕ → List ℕ
+clamped o header bytes size =
+    with_segment header bytes (resized o (src_addr_of header) (dst_addr_of header) (packet_payload header bytes) size)
 
 -- Pinned by: `worked/route`
 -- the frame carries a SYN with a larger maximum segment size, whether or not its TCP checksum is valid
@@ -85,17 +91,17 @@ pub record IsTooLarge (frame : List ℕ) (limit : ℕ) : Type 0 where
   pub above : IsAbove limit v
 
 -- Pinned by: `worked/route`
--- The old frame carries a SYN with a larger maximum segment size. The new one carries the same values with the limit,
--- and a TCP checksum that was valid is still valid. One that is left to the device stays. These are all the bytes.
-pub record IsClamped (old new : List ℕ) (limit : ℕ) : Type 0 where
+-- The old frame carries a SYN with a larger maximum segment size, and the new one the same values with the limit. A TCP
+-- checksum that was valid is still valid, unless the caller says that it is left to the device. These are all the bytes.
+pub record IsClamped (o : Offload) (old new : List ℕ) (limit : ℕ) : Type 0 where
   pub before : IsTooLarge old limit
-  pub after : (choice : Checksum) → CarriesSegment choice old before.link before.header before.v before.payload
+  pub after : (choice : Checksum) → (o ≡ offload.Offloaded → verifies choice ≡ false) → CarriesSegment choice old before.link before.header before.v before.payload
       → CarriesSegment choice new before.link before.header (with_size limit before.v) before.payload
-  pub bytes : new ≡ take 14 old ++ clamped before.header (drop 14 old) limit
+  pub bytes : new ≡ take 14 old ++ clamped o before.header (drop 14 old) limit
 
 -- Pinned by: `worked/route`
 -- 1 is returned, and the maximum segment size is now the limit; or 0, it was not larger, and the frame is unchanged
-abbrev pub Clamps : List ℕ → List ℕ → ℕ → ℤ → Type 0
-Clamps old new limit answer =
-    ((answer ≡ pos 1) × (length old ≤ max_len) × IsClamped old new limit)
+abbrev pub Clamps : Offload → List ℕ → List ℕ → ℕ → ℤ → Type 0
+Clamps o old new limit answer =
+    ((answer ≡ pos 1) × (length old ≤ max_len) × IsClamped o old new limit)
     ⊎ ((answer ≡ pos 0) × (¬ IsTooLarge (within old) limit) × (new ≡ old))

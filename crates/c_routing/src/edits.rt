@@ -4,12 +4,13 @@ ghost use Rattle.std.specs.Prelude.{◌≡◌, pos};
 ghost use Rattle.std.specs.Option.{option_and_then};
 ghost use Rattle.app_edit.specs.Edited.{addr_set, bytes_set, dscp_set, hop_limit_set, port_set};
 ghost use Rattle.app_edit.specs.Filled.{checksum_filled};
-ghost use Rattle.c_routing.specs.Edited.{Edits};
+ghost use Rattle.c_routing.specs.Edited.{Edits, offload_of};
 ghost use Rattle.c_routing.specs.Translated.{side_of};
 ghost use Rattle.c_structs.specs.Addresses.{ip_of};
 ghost use Rattle.c_structs.specs.Written.{flag, within};
 
 use crate::translation::side_of;
+use app_edit::Offload;
 use c_structs::{Addr, MAX_LEN};
 
 /// Writes the TTL or hop limit.
@@ -33,36 +34,37 @@ pub fn set_dscp(frame: &mut [u8], dscp: u8) -> i32
 }
 
 /// Writes the source or destination address.
-pub fn set_addr(frame: &mut [u8], side: i32, addr: &Addr) -> i32
-    ensures { Edits (option_and_then (addr_set (within frame.old) (side_of side)) (ip_of addr.now)) frame.old frame.new result }
+#[inline(always)]
+pub fn set_addr(frame: &mut [u8], side: i32, addr: &Addr, offload: Offload) -> i32
+    ensures { Edits (option_and_then (addr_set offload (within frame.old) (side_of side)) (ip_of addr.now)) frame.old frame.new result }
 {
     if frame.len() > MAX_LEN {
         return 0;
     }
     match addr.ip() {
-        Some(addr) => code(app_edit::set_addr(frame, side_of(side), &addr)),
+        Some(addr) => code(app_edit::set_addr(frame, side_of(side), &addr, offload)),
         None => 0,
     }
 }
 
 /// Writes the source or destination port of TCP or UDP.
-pub fn set_port(frame: &mut [u8], side: i32, port: u16) -> i32
-    ensures { Edits (port_set (within frame.old) (side_of side) port) frame.old frame.new result }
+pub fn set_port(frame: &mut [u8], side: i32, port: u16, offload: Offload) -> i32
+    ensures { Edits (port_set offload (within frame.old) (side_of side) port) frame.old frame.new result }
 {
     if frame.len() > MAX_LEN {
         return 0;
     }
-    code(app_edit::set_port(frame, side_of(side), port))
+    code(app_edit::set_port(frame, side_of(side), port, offload))
 }
 
 /// Writes bytes from this byte of the frame on.
-pub fn set_bytes(frame: &mut [u8], offset: usize, bytes: &[u8]) -> i32
-    ensures { Edits (bytes_set (within frame.old) offset bytes.now) frame.old frame.new result }
+pub fn set_bytes(frame: &mut [u8], offset: usize, bytes: &[u8], offload: Offload) -> i32
+    ensures { Edits (bytes_set offload (within frame.old) offset bytes.now) frame.old frame.new result }
 {
     if frame.len() > MAX_LEN {
         return 0;
     }
-    code(app_edit::set_bytes(frame, offset, bytes))
+    code(app_edit::set_bytes(frame, offset, bytes, offload))
 }
 
 /// Computes the transport checksum.
@@ -73,6 +75,19 @@ pub fn fill_checksum(frame: &mut [u8]) -> i32
         return 0;
     }
     code(app_edit::fill_checksum(frame))
+}
+
+/// What the caller says of a checksum by this number. Any other number is a guess.
+pub fn offload_of(number: i32) -> Offload
+    ensures { result ≡ offload_of number }
+{
+    if number == 1 {
+        Offload::Offloaded
+    } else if number == 2 {
+        Offload::Complete
+    } else {
+        Offload::Guess
+    }
 }
 
 // The number that C gets.

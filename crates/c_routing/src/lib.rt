@@ -12,7 +12,9 @@ mod sources;
 mod translation;
 
 pub use clamping::clamp_frame;
-pub use edits::{fill_checksum, set_addr, set_bytes, set_dscp, set_hop_limit, set_port};
+pub use edits::{
+    fill_checksum, offload_of, set_addr, set_bytes, set_dscp, set_hop_limit, set_port,
+};
 pub use forwarding::forward_frame;
 pub use nat::{translate_in, translate_out};
 pub use rejections::Rejection;

@@ -1,17 +1,21 @@
 //! Needs the contracts and laws of the edits of a field.
 
 ghost use Rattle.std.specs.Prelude.{◌≡◌, ◌≢◌, ◌≤◌, ◌+◌, ◌%◌, Some, false, length, slice_range, true};
-ghost use Rattle.app_edit.specs.Edited.{edited, is_left, pseudo_header_sum, segment_sum, word_at};
+ghost use Rattle.app_edit.specs.Edited.{can_be_left, edited, is_left, pseudo_header_sum, segment_sum, word_at};
 ghost use Rattle.app_edit.specs.Filled.{filled};
 ghost use Rattle.app_edit.specs.Places.{checksum_place, places_of};
 ghost use Rattle.app_edit.specs.declared.places.Carried.TheVariants.{Segment as OfSegment};
 ghost use Rattle.app_edit.specs.declared.places.Places.{Places as PlacesOf};
 ghost use Rattle.app_edit.specs.declared.places.Segment.{Segment as SegmentOf};
+ghost use Rattle.app_edit.specs.declared.replace.Offload.{Offload as OffloadOf};
+ghost use Rattle.app_edit.specs.declared.replace.Offload.TheVariants.{Complete, Guess, Offloaded};
 ghost use Rattle.ip_wire.specs.WordSum.{sum_of_bytes};
 ghost use Rattle.ip_wire.specs.declared.IpProtocol.TheVariants.{Tcp, Udp};
 ghost use Rattle.ip_wire.specs.declared.IpVersion.TheVariants.{Ipv4};
 
-use app_edit::{fill_checksum, laws, set_addr, set_bytes, set_dscp, set_hop_limit, set_port};
+use app_edit::{
+    Offload, fill_checksum, laws, set_addr, set_bytes, set_dscp, set_hop_limit, set_port,
+};
 use app_nat::Side;
 use ip_wire::IpAddress;
 
@@ -26,38 +30,65 @@ fn edit_once(frame: &mut [u8], other: &mut [u8], number: u8) -> (bool, bool)
 }
 
 /// An address is written in one way, or not at all.
-fn address_once(frame: &mut [u8], other: &mut [u8], side: Side, addr: &IpAddress) -> (bool, bool)
+fn address_once(
+    frame: &mut [u8],
+    other: &mut [u8],
+    side: Side,
+    addr: &IpAddress,
+    offload: Offload,
+) -> (bool, bool)
     requires { frame.old ≡ other.old }
     ensures returned { result.0 ≡ result.1 }
     ensures written { frame.new ≡ other.new }
 {
-    (set_addr(frame, side, addr), set_addr(other, side, addr))
+    (
+        set_addr(frame, side, addr, offload),
+        set_addr(other, side, addr, offload),
+    )
 }
 
 /// A port is written in one way, or not at all. So is a checksum.
-fn port_once(frame: &mut [u8], other: &mut [u8], side: Side, port: u16) -> (bool, bool)
+fn port_once(
+    frame: &mut [u8],
+    other: &mut [u8],
+    side: Side,
+    port: u16,
+    offload: Offload,
+) -> (bool, bool)
     requires { frame.old ≡ other.old }
     ensures returned { result.0 ≡ result.1 }
     ensures written { frame.new ≡ other.new }
 {
-    let _ = (set_port(frame, side, port), set_port(other, side, port));
+    let _ = (
+        set_port(frame, side, port, offload),
+        set_port(other, side, port, offload),
+    );
     (fill_checksum(frame), fill_checksum(other))
 }
 
 /// Bytes are written in one way, or not at all.
-fn bytes_once(frame: &mut [u8], other: &mut [u8], at: usize, bytes: &[u8]) -> (bool, bool)
+fn bytes_once(
+    frame: &mut [u8],
+    other: &mut [u8],
+    at: usize,
+    bytes: &[u8],
+    offload: Offload,
+) -> (bool, bool)
     requires { frame.old ≡ other.old }
     ensures returned { result.0 ≡ result.1 }
     ensures written { frame.new ≡ other.new }
 {
-    (set_bytes(frame, at, bytes), set_bytes(other, at, bytes))
+    (
+        set_bytes(frame, at, bytes, offload),
+        set_bytes(other, at, bytes, offload),
+    )
 }
 
 /// Two bytes up to the checksum of a header are written.
 fn header_sum_stays_before(frame: &[u8], bytes: &[u8; 2])
     requires { 24 ≤ length frame.now }
-    ensures { (p : PlacesOf) → places_of frame.now ≡ Some p → p.version ≡ Ipv4
-        → sum_of_bytes (slice_range (edited p frame.now 22 bytes.now) 14 p.start) % 65535 ≡ sum_of_bytes (slice_range frame.now 14 p.start) % 65535 }
+    ensures { (o : OffloadOf) (p : PlacesOf) → places_of frame.now ≡ Some p → p.version ≡ Ipv4
+        → sum_of_bytes (slice_range (edited o p frame.now 22 bytes.now) 14 p.start) % 65535 ≡ sum_of_bytes (slice_range frame.now 14 p.start) % 65535 }
 {
     laws::header_sum_stays(frame, 22, bytes);
 }
@@ -65,34 +96,34 @@ fn header_sum_stays_before(frame: &[u8], bytes: &[u8; 2])
 /// Two bytes right after it are written.
 fn header_sum_stays_after(frame: &[u8], bytes: &[u8; 2])
     requires { 28 ≤ length frame.now }
-    ensures { (p : PlacesOf) → places_of frame.now ≡ Some p → p.version ≡ Ipv4
-        → sum_of_bytes (slice_range (edited p frame.now 26 bytes.now) 14 p.start) % 65535 ≡ sum_of_bytes (slice_range frame.now 14 p.start) % 65535 }
+    ensures { (o : OffloadOf) (p : PlacesOf) → places_of frame.now ≡ Some p → p.version ≡ Ipv4
+        → sum_of_bytes (slice_range (edited o p frame.now 26 bytes.now) 14 p.start) % 65535 ≡ sum_of_bytes (slice_range frame.now 14 p.start) % 65535 }
 {
     laws::header_sum_stays(frame, 26, bytes);
 }
 
-/// Bytes up to the checksum of a TCP segment are written, or right after it.
+/// Bytes up to the checksum of a TCP segment are written, or right after that of UDP.
 fn segment_sum_stays(frame: &[u8], at: usize, bytes: &[u8])
     requires { at + length bytes.now ≤ length frame.now }
     ensures before { (p : PlacesOf) (s : SegmentOf) → places_of frame.now ≡ Some p → p.carried ≡ OfSegment s → s.protocol ≡ Tcp
-        → is_left p.version s frame.now ≡ false → at + length bytes.now ≡ checksum_place s
-        → segment_sum p.version s (edited p frame.now at bytes.now) % 65535 ≡ segment_sum p.version s frame.now % 65535 }
-    ensures after { (p : PlacesOf) (s : SegmentOf) → places_of frame.now ≡ Some p → p.carried ≡ OfSegment s → s.protocol ≡ Udp
-        → is_left p.version s frame.now ≡ false → word_at frame.now (checksum_place s) ≢ 0 → at ≡ checksum_place s + 2
-        → segment_sum p.version s (edited p frame.now at bytes.now) % 65535 ≡ segment_sum p.version s frame.now % 65535 }
+        → at + length bytes.now ≡ checksum_place s
+        → segment_sum p.version s (edited Complete p frame.now at bytes.now) % 65535 ≡ segment_sum p.version s frame.now % 65535 }
+    ensures after { (o : OffloadOf) (p : PlacesOf) (s : SegmentOf) → places_of frame.now ≡ Some p → p.carried ≡ OfSegment s → s.protocol ≡ Udp
+        → is_left o p.version s frame.now ≡ false → word_at frame.now (checksum_place s) ≢ 0 → at ≡ checksum_place s + 2
+        → segment_sum p.version s (edited o p frame.now at bytes.now) % 65535 ≡ segment_sum p.version s frame.now % 65535 }
 {
     laws::segment_sum_stays(frame, at, bytes);
 }
 
-/// Bytes up to a checksum that is left to the device are written, or right after it.
+/// Bytes up to a checksum that is left to the device are written, or right after one that looks so.
 fn pseudo_header_sum_stays(frame: &[u8], at: usize, bytes: &[u8])
     requires { at + length bytes.now ≤ length frame.now }
-    ensures before { (p : PlacesOf) (s : SegmentOf) → places_of frame.now ≡ Some p → p.carried ≡ OfSegment s
-        → is_left p.version s frame.now ≡ true → at + length bytes.now ≡ checksum_place s
-        → word_at (edited p frame.now at bytes.now) (checksum_place s) ≡ pseudo_header_sum p.version s (edited p frame.now at bytes.now) }
+    ensures before { (p : PlacesOf) (s : SegmentOf) → places_of frame.now ≡ Some p → p.carried ≡ OfSegment s → can_be_left s.protocol ≡ true
+        → word_at frame.now (checksum_place s) ≡ pseudo_header_sum p.version s frame.now → at + length bytes.now ≡ checksum_place s
+        → word_at (edited Offloaded p frame.now at bytes.now) (checksum_place s) ≡ pseudo_header_sum p.version s (edited Offloaded p frame.now at bytes.now) }
     ensures after { (p : PlacesOf) (s : SegmentOf) → places_of frame.now ≡ Some p → p.carried ≡ OfSegment s
-        → is_left p.version s frame.now ≡ true → at ≡ checksum_place s + 2
-        → word_at (edited p frame.now at bytes.now) (checksum_place s) ≡ pseudo_header_sum p.version s (edited p frame.now at bytes.now) }
+        → is_left Guess p.version s frame.now ≡ true → at ≡ checksum_place s + 2
+        → word_at (edited Guess p frame.now at bytes.now) (checksum_place s) ≡ pseudo_header_sum p.version s (edited Guess p frame.now at bytes.now) }
 {
     laws::pseudo_header_sum_stays(frame, at, bytes);
 }

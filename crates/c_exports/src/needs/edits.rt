@@ -3,7 +3,8 @@
 ghost use Rattle.std.specs.Prelude.{◌≡◌};
 
 use crate::edits::{
-    lk_fill_checksum, lk_set_addr, lk_set_bytes, lk_set_dscp, lk_set_hop_limit, lk_set_port,
+    lk_fill_checksum, lk_set_addr, lk_set_addr_as, lk_set_bytes, lk_set_bytes_as, lk_set_dscp,
+    lk_set_hop_limit, lk_set_port, lk_set_port_as,
 };
 use c_structs::Addr;
 
@@ -61,6 +62,54 @@ fn set_bytes(frame: &mut [u8], other: &mut [u8], offset: usize, bytes: &[u8]) ->
     (
         lk_set_bytes(frame, offset, bytes),
         lk_set_bytes(other, offset, bytes),
+    )
+}
+
+// An address is written in one way, as the caller says, or not at all.
+fn set_addr_as(
+    frame: &mut [u8],
+    other: &mut [u8],
+    side: i32,
+    addr: &Addr,
+    offload: i32,
+) -> (i32, i32)
+    requires { frame.old ≡ other.old }
+    ensures returned { result.0 ≡ result.1 }
+    ensures written { frame.new ≡ other.new }
+{
+    (
+        lk_set_addr_as(frame, side, addr, offload),
+        lk_set_addr_as(other, side, addr, offload),
+    )
+}
+
+// A port is written in one way, as the caller says, or not at all.
+fn set_port_as(frame: &mut [u8], other: &mut [u8], side: i32, port: u16, offload: i32) -> (i32, i32)
+    requires { frame.old ≡ other.old }
+    ensures returned { result.0 ≡ result.1 }
+    ensures written { frame.new ≡ other.new }
+{
+    (
+        lk_set_port_as(frame, side, port, offload),
+        lk_set_port_as(other, side, port, offload),
+    )
+}
+
+// Bytes are written in one way, as the caller says, or not at all.
+fn set_bytes_as(
+    frame: &mut [u8],
+    other: &mut [u8],
+    offset: usize,
+    bytes: &[u8],
+    offload: i32,
+) -> (i32, i32)
+    requires { frame.old ≡ other.old }
+    ensures returned { result.0 ≡ result.1 }
+    ensures written { frame.new ≡ other.new }
+{
+    (
+        lk_set_bytes_as(frame, offset, bytes, offload),
+        lk_set_bytes_as(other, offset, bytes, offload),
     )
 }
 

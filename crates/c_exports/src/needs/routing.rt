@@ -2,7 +2,7 @@
 
 ghost use Rattle.std.specs.Prelude.{◌≡◌};
 
-use crate::routing::{lk_clamp_mss, lk_forward, lk_translate};
+use crate::routing::{lk_clamp_mss, lk_clamp_mss_as, lk_forward, lk_translate};
 use c_structs::Endpoint;
 
 // A frame is forwarded in one way, or rejected for one reason.
@@ -36,5 +36,17 @@ fn clamp_mss(frame: &mut [u8], other: &mut [u8], max_seg_size: u16) -> (i32, i32
     (
         lk_clamp_mss(frame, max_seg_size),
         lk_clamp_mss(other, max_seg_size),
+    )
+}
+
+// A frame is clamped in one way, as the caller says, or not at all.
+fn clamp_mss_as(frame: &mut [u8], other: &mut [u8], max_seg_size: u16, offload: i32) -> (i32, i32)
+    requires { frame.old ≡ other.old }
+    ensures returned { result.0 ≡ result.1 }
+    ensures written { frame.new ≡ other.new }
+{
+    (
+        lk_clamp_mss_as(frame, max_seg_size, offload),
+        lk_clamp_mss_as(other, max_seg_size, offload),
     )
 }

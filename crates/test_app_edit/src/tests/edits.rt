@@ -1,6 +1,6 @@
 //! Edits of single fields, on frames that are listed byte by byte. The expected checksums are computed anew.
 
-use app_edit::{fill_checksum, set_addr, set_bytes, set_dscp, set_hop_limit, set_port};
+use app_edit::{Offload, fill_checksum, set_addr, set_bytes, set_dscp, set_hop_limit, set_port};
 use app_nat::Side;
 use ip_wire::IpAddress;
 use test_support::bytes::change;
@@ -52,7 +52,7 @@ fn sets_the_dscp(rt: HostRuntime) {
 fn sets_an_address(rt: HostRuntime) {
     let addr = IpAddress::v4(203, 0, 113, 7);
     let mut frame = SYN;
-    assert!(rt; set_addr(&mut frame, Side::Source, &addr));
+    assert!(rt; set_addr(&mut frame, Side::Source, &addr, Offload::Guess));
     assert!(rt;
         differs(
             &frame,
@@ -69,7 +69,7 @@ fn sets_an_address(rt: HostRuntime) {
         )
     );
     let mut frame = FRAME;
-    assert!(rt; set_addr(&mut frame, Side::Destination, &addr));
+    assert!(rt; set_addr(&mut frame, Side::Destination, &addr, Offload::Guess));
     assert!(rt;
         differs(
             &frame,
@@ -90,7 +90,8 @@ fn sets_an_address(rt: HostRuntime) {
         !set_addr(
             &mut frame,
             Side::Source,
-            &IpAddress::v6(0x2001, 0xdb8, 0, 0, 0, 0, 0, 7)
+            &IpAddress::v6(0x2001, 0xdb8, 0, 0, 0, 0, 0, 7),
+            Offload::Guess
         )
     );
 }
@@ -99,7 +100,7 @@ fn sets_an_address(rt: HostRuntime) {
 fn sets_an_address_of_ipv6(rt: HostRuntime) {
     let addr = IpAddress::v6(0x2001, 0xdb8, 0, 0, 0, 0, 0, 7);
     let mut frame = IPV6_FRAME;
-    assert!(rt; set_addr(&mut frame, Side::Source, &addr));
+    assert!(rt; set_addr(&mut frame, Side::Source, &addr, Offload::Guess));
     assert!(rt;
         differs(
             &frame,
@@ -116,7 +117,7 @@ fn sets_an_address_of_ipv6(rt: HostRuntime) {
         )
     );
     let mut frame = IPV6_FRAME;
-    assert!(rt; set_addr(&mut frame, Side::Destination, &addr));
+    assert!(rt; set_addr(&mut frame, Side::Destination, &addr, Offload::Guess));
     assert!(rt;
         differs(
             &frame,
@@ -135,14 +136,14 @@ fn sets_an_address_of_ipv6(rt: HostRuntime) {
     // Hop-by-hop options hide the UDP packet.
     let mut frame = IPV6_FRAME;
     change(&mut frame, &[(20, 0)]);
-    assert!(rt; !set_addr(&mut frame, Side::Source, &addr));
+    assert!(rt; !set_addr(&mut frame, Side::Source, &addr, Offload::Guess));
     assert!(rt; set_hop_limit(&mut frame, 63));
 }
 
 #[test]
 fn sets_a_port(rt: HostRuntime) {
     let mut frame = SYN;
-    assert!(rt; set_port(&mut frame, Side::Source, 0x1234));
+    assert!(rt; set_port(&mut frame, Side::Source, 0x1234, Offload::Guess));
     assert!(rt;
         differs(
             &frame,
@@ -151,15 +152,15 @@ fn sets_a_port(rt: HostRuntime) {
         )
     );
     let mut frame = FRAME;
-    assert!(rt; set_port(&mut frame, Side::Destination, 0));
+    assert!(rt; set_port(&mut frame, Side::Destination, 0, Offload::Guess));
     assert!(rt; differs(&frame, &FRAME, &[(37, 0x00), (41, 0x82)]));
     let mut frame = IPV6_FRAME;
-    assert!(rt; set_port(&mut frame, Side::Destination, 53));
+    assert!(rt; set_port(&mut frame, Side::Destination, 53, Offload::Guess));
     assert!(rt; differs(&frame, &IPV6_FRAME, &[(57, 0x35), (61, 0x1b)]));
     // In UDP 0 means that there is no checksum.
     let mut frame = FRAME;
     change(&mut frame, &[(40, 0), (41, 0)]);
-    assert!(rt; set_port(&mut frame, Side::Destination, 0));
+    assert!(rt; set_port(&mut frame, Side::Destination, 0, Offload::Guess));
     assert!(rt; differs(&frame, &FRAME, &[(37, 0), (40, 0), (41, 0)]));
 }
 
@@ -167,7 +168,7 @@ fn sets_a_port(rt: HostRuntime) {
 fn sets_ports_of_first_fragments(rt: HostRuntime) {
     let mut frame = SYN;
     change(&mut frame, &[(20, 0x20)]);
-    assert!(rt; set_port(&mut frame, Side::Source, 0x1234));
+    assert!(rt; set_port(&mut frame, Side::Source, 0x1234, Offload::Guess));
     assert!(rt;
         differs(
             &frame,
@@ -177,24 +178,24 @@ fn sets_ports_of_first_fragments(rt: HostRuntime) {
     );
     let mut frame = SYN;
     change(&mut frame, &[(20, 0x20), (21, 0x01)]);
-    assert!(rt; !set_port(&mut frame, Side::Source, 0x1234));
-    assert!(rt; !set_bytes(&mut frame, 34, &[1]));
+    assert!(rt; !set_port(&mut frame, Side::Source, 0x1234, Offload::Guess));
+    assert!(rt; !set_bytes(&mut frame, 34, &[1], Offload::Guess));
     assert!(rt; !fill_checksum(&mut frame));
-    assert!(rt; set_bytes(&mut frame, 34, &[]));
+    assert!(rt; set_bytes(&mut frame, 34, &[], Offload::Guess));
     assert!(rt; differs(&frame, &SYN, &[(20, 0x20), (21, 0x01)]));
 }
 
 #[test]
 fn sets_bytes(rt: HostRuntime) {
     let mut frame = DATA;
-    assert!(rt; set_bytes(&mut frame, 67, &[0x65, 0x6c, 0x70]));
+    assert!(rt; set_bytes(&mut frame, 67, &[0x65, 0x6c, 0x70], Offload::Guess));
     assert!(rt; differs(&frame, &DATA, &[(51, 0xf3), (69, 0x70)]));
     let mut frame = DATA;
-    assert!(rt; set_bytes(&mut frame, 70, &[0x21]));
+    assert!(rt; set_bytes(&mut frame, 70, &[0x21], Offload::Guess));
     assert!(rt; differs(&frame, &DATA, &[(50, 0x01), (51, 0xf8), (70, 0x21)]));
     // Both addresses, of which a half each is written; the maximum segment size.
     let mut frame = SYN;
-    assert!(rt; set_bytes(&mut frame, 29, &[0x63, 0x0a]));
+    assert!(rt; set_bytes(&mut frame, 29, &[0x63, 0x0a], Offload::Guess));
     assert!(rt;
         differs(
             &frame,
@@ -210,7 +211,7 @@ fn sets_bytes(rt: HostRuntime) {
         )
     );
     let mut frame = SYN;
-    assert!(rt; set_bytes(&mut frame, 56, &[0x05, 0x00]));
+    assert!(rt; set_bytes(&mut frame, 56, &[0x05, 0x00], Offload::Guess));
     assert!(rt; differs(&frame, &SYN, &[(50, 0xd9), (51, 0x71), (57, 0x00)]));
 }
 
@@ -218,17 +219,17 @@ fn sets_bytes(rt: HostRuntime) {
 fn keeps_bytes_that_say_where_the_layers_are(rt: HostRuntime) {
     for at in [0, 13, 14, 16, 21, 23, 25, 46, 50, 51, 74] {
         let mut frame = SYN;
-        assert!(rt; !set_bytes(&mut frame, at, &[0xff]), "{at}");
+        assert!(rt; !set_bytes(&mut frame, at, &[0xff], Offload::Guess), "{at}");
         assert!(rt; frame == SYN, "{at}");
     }
     for at in [15, 22, 26, 34, 45, 47, 49, 52, 73] {
         let mut frame = SYN;
-        assert!(rt; set_bytes(&mut frame, at, &[0xff]), "{at}");
+        assert!(rt; set_bytes(&mut frame, at, &[0xff], Offload::Guess), "{at}");
     }
     let mut frame = SYN;
-    assert!(rt; !set_bytes(&mut frame, usize::MAX, &[1, 2]));
-    assert!(rt; !set_bytes(&mut frame, 5, &[]));
-    assert!(rt; set_bytes(&mut frame, 74, &[]));
+    assert!(rt; !set_bytes(&mut frame, usize::MAX, &[1, 2], Offload::Guess));
+    assert!(rt; !set_bytes(&mut frame, 5, &[], Offload::Guess));
+    assert!(rt; set_bytes(&mut frame, 74, &[], Offload::Guess));
     assert!(rt; frame == SYN);
 }
 
@@ -238,10 +239,17 @@ fn keeps_a_checksum_left_to_the_device(rt: HostRuntime) {
     let mut left = SYN;
     change(&mut left, &[(50, 0x84), (51, 0x32)]);
     let mut frame = left;
-    assert!(rt; set_port(&mut frame, Side::Source, 0x1234));
+    assert!(rt; set_port(&mut frame, Side::Source, 0x1234, Offload::Guess));
     assert!(rt; differs(&frame, &left, &[(34, 0x12), (35, 0x34)]));
     let mut frame = left;
-    assert!(rt; set_addr(&mut frame, Side::Source, &IpAddress::v4(203, 0, 113, 7)));
+    assert!(rt;
+        set_addr(
+            &mut frame,
+            Side::Source,
+            &IpAddress::v4(203, 0, 113, 7),
+            Offload::Guess
+        )
+    );
     assert!(rt;
         differs(
             &frame,
@@ -261,6 +269,37 @@ fn keeps_a_checksum_left_to_the_device(rt: HostRuntime) {
     let mut frame = left;
     assert!(rt; fill_checksum(&mut frame));
     assert!(rt; frame == SYN);
+}
+
+#[test]
+fn believes_what_the_caller_says_of_a_checksum(rt: HostRuntime) {
+    // The field is the sum of the pseudo-header, and by the urgent pointer the segment is valid as it is.
+    let mut both = SYN;
+    change(&mut both, &[(48, 0x4f), (49, 0x7c), (50, 0x84), (51, 0x32)]);
+    let mut frame = both;
+    assert!(rt; set_port(&mut frame, Side::Destination, 8080, Offload::Offloaded));
+    assert!(rt; differs(&frame, &both, &[(36, 0x1f), (37, 0x90)]));
+    let mut frame = both;
+    assert!(rt; set_port(&mut frame, Side::Destination, 8080, Offload::Complete));
+    assert!(rt;
+        differs(
+            &frame,
+            &both,
+            &[(36, 0x1f), (37, 0x90), (50, 0x64), (51, 0xf2)]
+        )
+    );
+    // The field is this sum, and wrong.
+    let mut wrong = SYN;
+    change(&mut wrong, &[(50, 0x84), (51, 0x32)]);
+    let mut frame = wrong;
+    assert!(rt; set_bytes(&mut frame, 56, &[0x04, 0xec], Offload::Complete));
+    assert!(rt;
+        differs(
+            &frame,
+            &wrong,
+            &[(50, 0x84), (51, 0xfa), (56, 0x04), (57, 0xec)]
+        )
+    );
 }
 
 #[test]
@@ -287,7 +326,7 @@ fn fills_checksums(rt: HostRuntime) {
 fn updates_icmp(rt: HostRuntime) {
     // Over IPv4 the checksum covers no address, over IPv6 it does.
     let mut frame = PING;
-    assert!(rt; set_bytes(&mut frame, 38, &[0x43, 0x21]));
+    assert!(rt; set_bytes(&mut frame, 38, &[0x43, 0x21], Offload::Guess));
     assert!(rt;
         differs(
             &frame,
@@ -296,7 +335,14 @@ fn updates_icmp(rt: HostRuntime) {
         )
     );
     let mut frame = PING;
-    assert!(rt; set_addr(&mut frame, Side::Source, &IpAddress::v4(203, 0, 113, 7)));
+    assert!(rt;
+        set_addr(
+            &mut frame,
+            Side::Source,
+            &IpAddress::v4(203, 0, 113, 7),
+            Offload::Guess
+        )
+    );
     assert!(rt;
         differs(
             &frame,
@@ -309,13 +355,14 @@ fn updates_icmp(rt: HostRuntime) {
         set_addr(
             &mut frame,
             Side::Source,
-            &IpAddress::v6(0x2001, 0xdb8, 0, 0, 0, 0, 0, 7)
+            &IpAddress::v6(0x2001, 0xdb8, 0, 0, 0, 0, 0, 7),
+            Offload::Guess
         )
     );
     assert!(rt; differs(&frame, &PING_6, &[(37, 0x07), (57, 0xc7)]));
-    assert!(rt; !set_port(&mut frame, Side::Source, 1));
+    assert!(rt; !set_port(&mut frame, Side::Source, 1, Offload::Guess));
     let mut frame = PING_6;
-    assert!(rt; set_bytes(&mut frame, 63, &[0x7f]));
+    assert!(rt; set_bytes(&mut frame, 63, &[0x7f], Offload::Guess));
     assert!(rt; differs(&frame, &PING_6, &[(57, 0xb7), (63, 0x7f)]));
     change(&mut frame, &[(57, 0)]);
     assert!(rt; fill_checksum(&mut frame));
@@ -335,10 +382,10 @@ const FRAGMENT: [u8; 74] = [
 fn updates_fragments_of_ipv6(rt: HostRuntime) {
     let addr = IpAddress::v6(0x2001, 0xdb8, 0, 0, 0, 0, 0, 7);
     let mut frame = FRAGMENT;
-    assert!(rt; set_port(&mut frame, Side::Destination, 53));
+    assert!(rt; set_port(&mut frame, Side::Destination, 53, Offload::Guess));
     assert!(rt; differs(&frame, &FRAGMENT, &[(65, 0x35), (69, 0x1b)]));
     let mut frame = FRAGMENT;
-    assert!(rt; set_addr(&mut frame, Side::Destination, &addr));
+    assert!(rt; set_addr(&mut frame, Side::Destination, &addr, Offload::Guess));
     assert!(rt;
         differs(
             &frame,
@@ -355,13 +402,13 @@ fn updates_fragments_of_ipv6(rt: HostRuntime) {
         )
     );
     assert!(rt; !fill_checksum(&mut frame));
-    assert!(rt; !set_bytes(&mut frame, 61, &[1]));
+    assert!(rt; !set_bytes(&mut frame, 61, &[1], Offload::Guess));
     // A later fragment has no checksum.
     let mut frame = FRAGMENT;
     change(&mut frame, &[(57, 0x09)]);
-    assert!(rt; !set_port(&mut frame, Side::Destination, 53));
-    assert!(rt; !set_bytes(&mut frame, 70, &[1]));
-    assert!(rt; set_addr(&mut frame, Side::Destination, &addr));
+    assert!(rt; !set_port(&mut frame, Side::Destination, 53, Offload::Guess));
+    assert!(rt; !set_bytes(&mut frame, 70, &[1], Offload::Guess));
+    assert!(rt; set_addr(&mut frame, Side::Destination, &addr, Offload::Guess));
     assert!(rt;
         differs(
             &frame,
@@ -379,7 +426,7 @@ fn updates_fragments_of_ipv6(rt: HostRuntime) {
     // A second fragment header hides the transport packet.
     let mut frame = FRAGMENT;
     change(&mut frame, &[(54, 44)]);
-    assert!(rt; !set_addr(&mut frame, Side::Destination, &addr));
-    assert!(rt; !set_bytes(&mut frame, 22, &[1]));
-    assert!(rt; set_bytes(&mut frame, 16, &[1]));
+    assert!(rt; !set_addr(&mut frame, Side::Destination, &addr, Offload::Guess));
+    assert!(rt; !set_bytes(&mut frame, 22, &[1], Offload::Guess));
+    assert!(rt; set_bytes(&mut frame, 16, &[1], Offload::Guess));
 }

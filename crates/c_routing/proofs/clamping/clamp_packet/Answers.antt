@@ -36,12 +36,12 @@ returns-clause-when c v payload r =
     (rw (placed c) at c.clamp_segment.ensures.when) v payload r.1.1
 
 pub returns-clause-after : goal.returns-clause-after
-returns-clause-after c choice v payload above r =
-    packet-clamped choice c.args.packet.now c.clamp_segment.new.segment _ c.args.header.now v payload c.args.limit (joined c)
-    (c.clamp_segment.auto.segment ∙ ap length (placed c)) (λ verified s d q. (rw (placed c) at c.clamp_segment.ensures.lowered) verified v payload s d q above) r
+returns-clause-after c choice v payload said above r =
+    packet-clamped c.args.offload choice c.args.packet.now c.clamp_segment.new.segment _ c.args.header.now v payload c.args.limit (joined c)
+    (c.clamp_segment.auto.segment ∙ ap length (placed c)) (λ verified told s d q. (rw (placed c) at c.clamp_segment.ensures.lowered) verified v payload told s d q above) said r
 
 pub returns-clause-bytes : goal.returns-clause-bytes
 returns-clause-bytes c =
     joined c
-    ∙ packet-bytes c.args.header.now c.args.packet.now c.clamp_segment.new.segment c.args.limit c.clamp_segment.result
+    ∙ packet-bytes c.args.offload c.args.header.now c.args.packet.now c.clamp_segment.new.segment c.args.limit c.clamp_segment.result
     (header-read checksum.None c.args.packet.now c.args.header.now c.requires.2.0) (rw (placed c) at c.clamp_segment.ensures.bytes)
