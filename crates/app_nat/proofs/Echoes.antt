@@ -213,9 +213,9 @@ other-tests false false false false code word = refl
 echo-by : (type code word : ℕ) → echo-value (message_of version.Ipv4 type code word) ≡ is_some (echo_kind type code)
 echo-by type code word = by (type == 8 && code == 0) (type == 0 && code == 0) refl refl
   where
-    by : (request reply : Bool) → (type == 8 && code == 0) ≡ request → (type == 0 && code == 0) ≡ reply
+    by : (asks replies : Bool) → (type == 8 && code == 0) ≡ asks → (type == 0 && code == 0) ≡ replies
         → echo-value (message_of version.Ipv4 type code word) ≡ is_some (echo_kind type code)
-    by true reply a b =
+    by true replies a b =
         let is : type ≡ 8 = grind (arith, nat_tests) in
         let no_code : code ≡ 0 = grind (arith, nat_tests) in
         rw (is, no_code) refl
@@ -232,9 +232,9 @@ echo-named bytes src dst verified m payload r echo =
     sym (echo-by (field bytes 0 8) (field bytes 8 8) (field bytes 32 32)) ∙ ap echo-value r.message ∙ ap not echo
 
 -- the kind of an echo, by the tests of its type and code
-by-kind : (request reply : Bool) (k : Kind) → (if request then Some kind.EchoRequest else (if reply then Some kind.EchoReply else None)) ≡ Some k
-    → (request ≡ true) × (k ≡ kind.EchoRequest) ⊎ (reply ≡ true) × (k ≡ kind.EchoReply)
-by-kind true reply k is = inl (refl, sym (same_Some kind.EchoRequest k is))
+by-kind : (asks replies : Bool) (k : Kind) → (if asks then Some kind.EchoRequest else (if replies then Some kind.EchoReply else None)) ≡ Some k
+    → (asks ≡ true) × (k ≡ kind.EchoRequest) ⊎ (replies ≡ true) × (k ≡ kind.EchoReply)
+by-kind true replies k is = inl (refl, sym (same_Some kind.EchoRequest k is))
 by-kind false true k is = inr (refl, sym (same_Some kind.EchoReply k is))
 by-kind false false k is = absurd (cc)
 

@@ -1,5 +1,5 @@
 -- Why a frame is rejected.
-use Rattle.std.proofs.Common.{ℕ, ◌≡◌, ◌≢◌, ◌∙◌, ◌==◌, ◌&&◌, not, is_some, if◌then◌else◌, Bool, true, false, List, Option, Some, None, Result, Ok, Err, drop, refl, sym, ap, arith}
+use Rattle.std.proofs.Common.{ℕ, ◌≡◌, ◌≢◌, ◌∙◌, not, is_some, if◌then◌else◌, Bool, true, false, List, Option, Some, None, Result, Ok, Err, drop, refl, sym, ap, arith}
 use Rattle.std.proofs.lemmas.Bool.Decides.{nat_tests}
 use Rattle.std.specs.Borrow.{Bor}
 use Rattle.std.specs.Option.{option_map, option_map_or, option_or}
@@ -16,7 +16,6 @@ use Rattle.ip_wire.specs.Field.{field}
 use Rattle.ip_wire.specs.FrameValue.{ParsesTransport}
 use Rattle.ip_wire.specs.HeaderFault.{ipv4_fault}
 use Rattle.ip_wire.specs.Ipv4 as ipv4
-use Rattle.ip_wire.specs.Protocol.{protocol_of}
 use Rattle.ip_wire.specs.Types.{Error, EthernetProtocol, EthernetRepr, IpProtocol, Ipv4, Ipv4Repr, UdpRepr}
 use Rattle.ip_wire.specs.WordSum.{sum_of_bytes}
 use Rattle.ip_wire.specs.declared.EthernetProtocol.TheVariants as ethertype
@@ -109,13 +108,6 @@ by-echo v bytes named = ap (λ p. transport_fault_by p v bytes) named
 -- the kind of an ICMP message, if it is an echo
 abbrev kind-of : List ℕ → Option Kind
 kind-of bytes = echo_kind (field bytes 0 8) (field bytes 8 8)
-
-pub no-echo : (v : Ipv4Repr) (bytes : List ℕ) → v.next_header ≡ protocol.Icmp → kind-of bytes ≡ None → transport_fault v bytes ≡ Some OtherProtocol
-no-echo v bytes named none = by-echo v bytes named ∙ (rw none refl)
-
-pub bad-echo : (v : Ipv4Repr) (bytes : List ℕ) (k : Kind) → v.next_header ≡ protocol.Icmp → kind-of bytes ≡ Some k → is_message bytes ≡ false
-    → transport_fault v bytes ≡ Some BadTransport
-bad-echo v bytes k named is bad = by-echo v bytes named ∙ (rw (is, bad) refl)
 
 -- ---- no fault
 

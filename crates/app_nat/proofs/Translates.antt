@@ -4,13 +4,12 @@ use Rattle.std.proofs.lemmas.List.{length-take-le, take-append-drop}
 use Rattle.ip_wire.proofs.ByteLists.{AreBytes-drop, AreBytes-slice_range}
 use Rattle.ip_wire.proofs.Spelled.{AreBytes}
 use Rattle.ip_wire.specs.Ethernet as ethernet
-use Rattle.ip_wire.specs.Field.{field, with_field, with_range}
+use Rattle.ip_wire.specs.Field.{field, with_range}
 use Rattle.ip_wire.specs.Frame.{ReadsTransport, all_checked, ipv4_payload}
 use Rattle.ip_wire.specs.IpAddress.{address_bytes}
 use Rattle.ip_wire.specs.Ipv4 as ipv4
 use Rattle.ip_wire.specs.Protocol.{protocol_of}
 use Rattle.ip_wire.specs.TcpRepr.{TcpHeader}
-use Rattle.ip_wire.specs.WordSum.{sum_of_bytes}
 use Rattle.ip_wire.specs.Types.{EthernetRepr, IpAddress, IpProtocol, Ipv4, Ipv4Repr, UdpRepr}
 use Rattle.ip_wire.specs.declared.EthernetProtocol.TheVariants as ethertype
 use Rattle.ip_wire.specs.declared.IpAddress.TheVariants as address
@@ -22,7 +21,7 @@ use Rattle.app_nat.proofs.Headers.{keeps, reads-inner, same-inner}
 use Rattle.app_nat.proofs.Payloads.{drop-front, range-len, range-part}
 use Rattle.app_nat.proofs.TcpEnds.{tcp-len}
 use Rattle.app_nat.proofs.UdpEnds.{udp-ended}
-use Rattle.app_nat.specs.Nat.{AllowsPort, Carries, CarriesPorts, IsRejected, IsTranslated, IsUntranslated, LacksChecksum, ReadsPorts, RejectsPort, Rewrites, Transport, addr_at, addr_of, port_bit, translated_packet, with_addr, with_address, with_end, with_end_by, with_port, datagram, segment, request, reply, plain}
+use Rattle.app_nat.specs.Nat.{AllowsPort, Carries, CarriesPorts, IsRejected, IsTranslated, IsUntranslated, LacksChecksum, ReadsPorts, RejectsPort, Rewrites, Transport, addr_at, addr_of, translated_packet, with_addr, with_address, with_end, with_port, datagram, segment, request, reply, plain}
 use Rattle.app_nat.specs.declared.translation.Rejection.{Rejection}
 use Rattle.app_nat.specs.declared.translation.Rejection.TheVariants.{ZeroPort}
 use Rattle.app_nat.specs.declared.translation.Side.{Side}

@@ -1,5 +1,5 @@
 -- Network address translation of one address and port (RFC 3022, sections 2.2 and 4.1), with updated checksums (RFC 1624).
-use Rattle.std.specs.Prelude.{ℕ, ⊤, ◌≡◌, ◌≢◌, ◌⊎◌, ◌↔◌, ◌++◌, ◌==◌, ◌&&◌, not, is_some, if◌then◌else◌, Bool, false, true, List, [], Option, Some, None, drop, take, slice_range}
+use Rattle.std.specs.Prelude.{ℕ, ⊤, ◌≡◌, ◌≢◌, ◌⊎◌, ◌↔◌, ◌++◌, ◌==◌, ◌&&◌, not, is_some, if◌then◌else◌, Bool, true, List, [], Option, Some, None, drop, take, slice_range}
 use Rattle.std.specs.Option.{option_map, option_map_or, option_or}
 use Rattle.ip_wire.specs.Ethernet as ethernet
 use Rattle.ip_wire.specs.Ethernet.{ethernet_of}
