@@ -56,7 +56,14 @@ fn skips_tags(rt: HostRuntime) {
 
 #[test]
 fn rejects_raw_packets_of_other_versions(rt: HostRuntime) {
-    let cases = [(101, 0), (101, 0x3f), (101, 0x50), (101, 0x70), (228, 0x60), (229, 0x45)];
+    let cases = [
+        (101, 0),
+        (101, 0x3f),
+        (101, 0x50),
+        (101, 0x70),
+        (228, 0x60),
+        (229, 0x45),
+    ];
     for (number, first) in cases {
         assert!(rt;
             parse(number, &[first]) == Some(Err(LinkFault::BadVersion)),
