@@ -39,7 +39,7 @@ pub extern "C" fn lk_set_addr(frame: &mut [u8], side: i32, addr: &Addr) -> i32
     set_addr(frame, side, addr, Offload::Guess)
 }
 
-/// The same, if the caller knows whether the checksum is left to the device.
+/// Writes the source or destination address. The caller says whether the transport checksum is left to the device.
 #[unsafe(no_mangle)]
 pub extern "C" fn lk_set_addr_as(frame: &mut [u8], side: i32, addr: &Addr, offload: i32) -> i32
     ensures { Edits (option_and_then (addr_set (offload_of offload) (within frame.old) (side_of side)) (ip_of addr.now)) frame.old frame.new result }
@@ -55,7 +55,7 @@ pub extern "C" fn lk_set_port(frame: &mut [u8], side: i32, port: u16) -> i32
     set_port(frame, side, port, Offload::Guess)
 }
 
-/// The same, if the caller knows whether the checksum is left to the device.
+/// Writes a port of TCP or UDP. The caller says whether the checksum is left to the device.
 #[unsafe(no_mangle)]
 pub extern "C" fn lk_set_port_as(frame: &mut [u8], side: i32, port: u16, offload: i32) -> i32
     ensures { Edits (port_set (offload_of offload) (within frame.old) (side_of side) port) frame.old frame.new result }
@@ -71,7 +71,7 @@ pub extern "C" fn lk_set_bytes(frame: &mut [u8], offset: usize, bytes: &[u8]) ->
     set_bytes(frame, offset, bytes, Offload::Guess)
 }
 
-/// The same, if the caller knows whether the checksum is left to the device.
+/// Writes bytes from a byte of the frame on. The caller says whether the transport checksum is left to the device.
 #[unsafe(no_mangle)]
 pub extern "C" fn lk_set_bytes_as(
     frame: &mut [u8],

@@ -36,7 +36,7 @@ pub extern "C" fn lk_clamp_mss(frame: &mut [u8], max_seg_size: u16) -> i32
     clamp_frame(frame, max_seg_size, Offload::Guess)
 }
 
-/// The same, if the caller knows whether the checksum is left to the device.
+/// Lowers the maximum segment size of a SYN. The caller says whether the TCP checksum is left to the device.
 #[unsafe(no_mangle)]
 pub extern "C" fn lk_clamp_mss_as(frame: &mut [u8], max_seg_size: u16, offload: i32) -> i32
     ensures { Clamps (offload_of offload) frame.old frame.new max_seg_size result }
