@@ -1,5 +1,5 @@
 -- Calls with equal arguments return the same, and store the same.
-use Rattle.std.proofs.Common.{ℕ, ℤ, pos, negsuc, ◌≡◌, ◌∙◌, ◌+◌, ◌-◌, ◌%◌, ◌^◌, ◌≤◌, ◌<◌, ◌⊎◌, ◌++◌, ◌↔◌, true, Option, None, Some, List, inl, inr, drop, length, take, ap, arith, rules, subst, sym, w32}
+use Rattle.std.proofs.Common.{ℕ, ℤ, pos, negsuc, ◌≡◌, ◌∙◌, ◌+◌, ◌-◌, ◌%◌, ◌^◌, ◌≤◌, ◌<◌, ◌⊎◌, ◌↔◌, true, Option, None, Some, List, inl, inr, length, take, ap, arith, rules, subst, sym, w32}
 use Rattle.std.proofs.lemmas.Bool.{cases_lt}
 use Rattle.std.proofs.lemmas.Int.{of_z-to_z}
 use Rattle.std.proofs.lemmas.List.{length-take-le}
@@ -15,7 +15,7 @@ use Rattle.ip_wire.specs.Tcp.{options_of}
 use Rattle.ip_wire.specs.TcpItems.{Item}
 use Rattle.ip_wire.specs.TcpRepr.{seq_of}
 use Rattle.ip_wire.specs.TcpSeq.{IsAfter, IsBefore, distance, number}
-use Rattle.ip_wire.specs.Types.{EthernetAddress, IpRepr, Ipv4, Ipv6, Ipv6Repr}
+use Rattle.ip_wire.specs.Types.{EthernetAddress, IpRepr, Ipv4, Ipv6}
 use Rattle.ip_wire.specs.declared.IpAddress.{IpAddress}
 use Rattle.ip_wire.specs.declared.IpCidr.{IpCidr}
 use Rattle.ip_wire.specs.declared.IpEndpoint.{IpEndpoint}

@@ -3,7 +3,7 @@ use Rattle.std.proofs.Common.{ℕ, ℤ, pos, ◌≡◌, ◌∙◌, ◌⊎◌, �
 use Rattle.std.proofs.lemmas.Bool.{cases_lt}
 use Rattle.app_host.proofs.HostOnce.{bytes-once}
 use Rattle.app_host.proofs.MessagesOnce.{error-once}
-use Rattle.app_host.proofs.RepliesOnce.{IsOne, SameBuffer, written-once}
+use Rattle.app_host.proofs.RepliesOnce.{IsOne, written-once}
 use Rattle.app_host.specs.Host.{RepliesBytes}
 use Rattle.app_host.specs.declared.Host.{Host}
 use Rattle.app_host.specs.declared.Interface.{Interface}

@@ -1,5 +1,5 @@
 -- One table is made of an index, and by it the same route is chosen.
-use Rattle.std.proofs.Common.{ℕ, ℤ, pos, negsuc, ◌≡◌, ◌+◌, ◌*◌, ◌<◌, ◌≤◌, ◌∙◌, ◌&&◌, ◌^◌, Bool, true, false, List, MatchOption, Option, None, Some, ap, arith, drop, if◌then◌else◌, length, nat_le, nat_lt, rules, subst, subst₂, sym}
+use Rattle.std.proofs.Common.{ℕ, ℤ, negsuc, ◌≡◌, ◌+◌, ◌*◌, ◌<◌, ◌≤◌, ◌&&◌, ◌^◌, Bool, true, false, List, MatchOption, Option, None, Some, ap, arith, if◌then◌else◌, length, nat_le, nat_lt, rules, subst, subst₂, sym}
 use Rattle.app_router.proofs.Elements.{counted}
 use Rattle.app_router.specs.Table.{IsTable, half_at, hints_in}
 use Rattle.app_router.specs.declared.index.Node.{Node}

@@ -6,7 +6,6 @@ use Rattle.app_router.proofs.RoutesOnce.{one_fault}
 use Rattle.app_router.specs.Source.{ChecksSource}
 use Rattle.app_router.specs.declared.index.Node.{Node}
 use Rattle.app_router.specs.declared.source.SourceFault.{SourceFault}
-use Rattle.app_router.specs.declared.source.SourceFault.TheVariants.{Martian}
 use Rattle.ip_wire.specs.declared.IpAddress.{IpAddress}
 use Rattle.c_routing.specs.Lengths.{in_bounds}
 use Rattle.c_routing.specs.Rejections.{rejection_code, source_code}

@@ -4,7 +4,7 @@ use Rattle.std.proofs.lemmas.Bool.{cases_eq}
 use Rattle.std.proofs.lemmas.Option.{none-some, same_Some}
 use Rattle.app_edit.specs.declared.replace.Offload.{Offload}
 use Rattle.app_nat.proofs.NatOnce.{translated-unrejected, untranslated-once}
-use Rattle.app_nat.specs.Nat.{IsTranslated, IsUntranslated, segment}
+use Rattle.app_nat.specs.Nat.{IsTranslated, IsUntranslated}
 use Rattle.app_nat.specs.declared.Rejection.{Rejection as NatRejection}
 use Rattle.app_nat.specs.declared.Side.{Side}
 use Rattle.app_router.proofs.ForwardOnce.{forwarded-no_fault, forwarded-once}

@@ -37,7 +37,6 @@ fn read_linktype(
 }
 
 // A packet has the EtherType of its link-layer header. If the header is rejected, the packet is rejected too.
-#[tactic(auto, using(crate::proofs::LinkTypes::both_reject))]
 fn link_of_packet(
     link_type: u32,
     bytes: &[u8],
