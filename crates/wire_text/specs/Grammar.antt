@@ -25,7 +25,7 @@ colon = 58
 
 -- Pinned by: `calls/ip`; too wide: `Worked`
 -- a text of one to `places` digits of the radix, whose value n is at most `most`; leading zeros are allowed
--- (RFC 4632, section 3.1)
+-- (RFC 3493, section 6.3; RFC 4291, section 2.2)
 pub record IsNumber (radix places most : ℕ) (text : List ℕ) (n : ℕ) : Type 0 where
   pub digits : IsNumeral radix text
   pub places_fit : length text ≤ places
