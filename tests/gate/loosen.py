@@ -245,6 +245,8 @@ class Trial:
         for clause in kept:
             goal = f"returns-clause-{clause.name}" if len(kept) > 1 else "returns"
             term = f"c.{item.name}.ensures" + (f".{clause.name}" if clause.name else "")
+            if is_wider:
+                term = self.over_numbers(item, clause, term)
             term = term if clause in item.clauses else f"inl ({term})"
             term = f"record {{ {clause.name} = {term} }}" if clause.name and len(kept) == 1 else term
             if is_wider and "result" in words_of(clause.text):
@@ -252,6 +254,14 @@ class Trial:
                 term = f"let fits : SFits w32 {result} = search rules in rw (to_z-of_z w32 {result} fits) ({term})"
             text += f"\npub {goal} : goal.{goal}\n{goal} {given} = {term}\n"
         self.answers[f"proofs/{module}/{name}"] = text
+
+    @staticmethod
+    def over_numbers(item, clause, term):
+        """What a call ensures, for parameters of 32 bits instead of the numbers that they are in between."""
+        taken = [name for name in re.findall(r"(\w+): i32\b", item.text) if name in words_of(clause.text)]
+        fits = "".join(f"let fits-{name} : SFits w32 c.args.{name} = search rules in " for name in taken)
+        same = ", ".join(f"to_z-of_z w32 c.args.{name} fits-{name}" for name in taken)
+        return f"({fits}rw ({same}) at {term})" if taken else term
 
     @staticmethod
     def copy_answers(proofs, need, copy, law, name):
