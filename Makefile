@@ -8,8 +8,9 @@
 # make quick          runs the tests of the libraries and the two programs without proofs
 # make sketch         compiles the C library with rustc, without proofs, in out/sketch
 # make check          proves one crate, CRATE=name, over the libraries that make test proved
+# make affected       proves what the change since a commit, SINCE=HEAD, reaches, with needs and tests
 # make test           runs the gate and all other tests; with ANEW=yes it proves again what it kept
-# make loosen         weakens public statements after make test, and prints what no proof notices
+# make mutants        tries new wrong bodies and weaker statements, or all with ANEW=yes, after make test
 # make new            makes a crate of your own, CRATE=name, with one proved call
 # make reference      writes the reference as HTML pages to out/reference
 # make statements     renews docs/audit/statements/, the record of all contracts and definitions
@@ -34,10 +35,11 @@ LINES ?= 100000
 PREFIX ?= /usr/local
 DESTDIR ?=
 ANEW ?=
+SINCE ?= HEAD
 LIBDIR ?=
 # Recipes read these as environment variables, so that a value may contain any character. On the command line of make a
 # dollar is written twice.
-export FRAMES CRATE REFERENCE_BENCH SEED LINES PREFIX DESTDIR LIBDIR ANEW
+export FRAMES CRATE REFERENCE_BENCH SEED LINES PREFIX DESTDIR LIBDIR ANEW SINCE
 
 PROGRAM := crates/ip_frames/out/ip_frames
 CALLS := crates/test_calls/out/test_calls
@@ -67,7 +69,7 @@ endif
 .PRECIOUS: $(PROGRAM) $(CALLS) $(ARCHIVE) $(LIBRARY) $(SHARED) $(PAGES)
 # rt uses all processors by itself.
 .NOTPARALLEL:
-.PHONY: run build install uninstall crate dist deb quick sketch check loosen new test reference statements size \
+.PHONY: run build install uninstall crate dist deb quick sketch check affected mutants new test reference statements size \
 	compare compare-calls bench help
 
 run:
@@ -107,7 +109,7 @@ dist: verdicts $(PROGRAM) $(LIBRARY) $(SHARED) $(PAGES)
 deb: has-dpkg-dev $(PROGRAM) $(LIBRARY) $(SHARED) $(PAGES)
 	@c/alone - c/deb out/deb
 
-quick check loosen new: ready
+quick check affected mutants new: ready
 
 # What is looked at before anything is built
 .PHONY: ready install-places uninstall-places verdicts has-dpkg-dev
@@ -135,8 +137,12 @@ check:
 	@test -n "$$CRATE" && test -d "crates/$$CRATE/src" || $(call fail,name a crate of crates.txt as CRATE=name)
 	@tests/gate/proved.py check "$$CRATE"; status=$$?; [ $$status = 3 ] || exit $$status; cd "crates/$$CRATE" && rt check
 
-loosen:
-	@tests/gate/loosen.py
+affected:
+	@tests/gate/affected.py "$$SINCE"
+
+# The crates that only bench/run uses are proved here too.
+mutants:
+	@tests/gate/mutants
 
 new:
 	@tools/new-crate "$$CRATE"
@@ -172,7 +178,7 @@ $(PROGRAM) $(CALLS) $(ARCHIVE): $(SOURCES)
 	@$(CAN_WRITE)
 	@echo 'proving $(@F)'
 	@mkdir -p $(@D)
-	@cd $(@D)/.. && exec ../../c/alone $@ $(PYTHON) ../../tests/gate/progress.py ../../out/$(@F).log rt $(COMMAND)
+	@c/alone $@ tests/gate/build $(notdir $(@D:/out=)) $(COMMAND)
 
 $(PAGES): c/pages c/ip_wire.h man/ip_wire.3
 	@$(CAN_WRITE)

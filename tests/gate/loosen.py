@@ -1,5 +1,5 @@
 #!/usr/bin/env python3
-"""Weakens public statements, and tells which weaker ones nothing notices: tests/gate/loosen.py [--beside-gate | NAME..]
+"""Weakens public statements, and tells which weaker ones nothing notices: tests/gate/loosen.py [--beside-gate | --untried | NAME..]
 
 A public statement is a law, the contract of a call of the C library, or the condition of a call on a length. It is weakened
 by a false premise (laws), by leaving out a clause (laws, calls of the C library), by allowing one more result (calls of the C
@@ -9,8 +9,9 @@ over the libraries that make test proved. One of them must not be proved then.
 
 A weaker statement that no need notices loses nothing if it implies what it lost, by itself or with the definitions alone. Any
 other one must be in tests/data/unneeded.txt, and nothing else may be there. With names it tries the statements of these
-functions, types or crates. Beside the gate it tries one in ten of all, others for each commit, as soon as the libraries under
-their needs are proved. What rattle prints is in out/loosen.log.
+functions, types or crates. tests/data/tried.txt gets a line for each crate whose weaker statements are all as they must be.
+With --untried these are the crates that changed since they got theirs. Beside the gate some of one other crate join them,
+by the commit, each as soon as the libraries under its needs are proved. What rattle prints is in out/loosen.log.
 """
 import collections
 import functools
@@ -24,11 +25,12 @@ import tempfile
 from concurrent.futures import ThreadPoolExecutor
 
 import proved
+import untried
 
 TOP = proved.TOP
 sys.path.insert(0, str(TOP / "tests/docs"))
 from contracts import Clause  # noqa: E402
-from sources import Sources, words_of  # noqa: E402
+from sources import words_of  # noqa: E402
 
 # The crates with needs in the order in which they can be tried, and the first name of the modules that have them.
 NEEDS = {**{name: "" for name in proved.crates() if name.endswith("_needs")}, "c_exports": "needs"}
@@ -387,7 +389,7 @@ KEEP = pathlib.Path(os.environ["LOOSEN_KEEP"]) if "LOOSEN_KEEP" in os.environ el
 def calls_of(weaker, found):
     """The needs that call what a weaker statement is about, with these calls."""
     for need in found:
-        call = need.call_of(weaker.statement)
+        call = need.call_of(weaker.statement) if f"{weaker.statement.item.name}(" in need.text else None
         if call and re.search(call[0], need.text):
             yield weaker, need, call
 
@@ -429,21 +431,19 @@ def unneeded():
     return [line.partition("|")[0].strip() for line in lines if "|" in line]
 
 
-def verdicts(sources, weaker, beside_gate):
-    """The names of the weaker statements that needs notice, and that lose nothing, and what went wrong."""
-    noticed, alike, faults, log = set(), set(), [], {}
-    found = list(needs(sources))
-    calls = {name_of(it): list(calls_of(it, found)) for it in weaker}
+def verdicts(sources, weaker, calls, beside_gate):
+    """The names of the weaker statements that needs notice, and that lose nothing, and what went wrong, by name."""
+    noticed, alike, faults, log = set(), set(), {}, {}
     with ThreadPoolExecutor(PROCESSORS) as pool:
         # The first need of each, and then all others of those that it does not notice.
         for part in (slice(0, 1), slice(1, None)):
-            entries = [entry for name, its in calls.items() if name not in noticed for entry in its[part]]
+            entries = [entry for it in weaker if name_of(it) not in noticed for entry in calls[name_of(it)][part]]
             for name, copy, verdict, trial in tried(pool, sources, entries, beside_gate):
                 log[trial] = trial.log
                 if NOTICED.match(verdict):
                     noticed.add(name)
                 elif verdict != "proved":
-                    faults.append(f"{name}: {copy}: {verdict}")
+                    faults[name] = f"{name}: {copy}: {verdict}"
         entries = [(it,) for it in weaker if name_of(it) not in noticed and may_be_alike(it)]
         for name, _, verdict, trial in tried(pool, sources, entries, beside_gate):
             log[trial] = trial.log
@@ -453,23 +453,57 @@ def verdicts(sources, weaker, beside_gate):
     return noticed, alike, faults
 
 
+def sums(weaker, calls):
+    """A sum of what the trials of each crate depend on: its statements, those below that these use, and its needs' modules."""
+    modules = collections.defaultdict(set)
+    for it in weaker:
+        modules[it.statement.crate] |= {(need.crate, need.path) for _, need, _ in calls[name_of(it)]}
+
+    def sum_of(crate):
+        own = untried.statements_of(crate)
+        places = [(TOP / "crates" / home, "/".join(path)) for home, path in sorted(modules[crate])]
+        files = untried.files_in(*(path for home, module in places for path in
+                                   (home / "specs", home / f"src/{module}.rt", home / "proofs" / module)))
+        return untried.sum_of([own, untried.used_below(crate, own), files])
+
+    return {crate: sum_of(crate) for crate in sorted(modules)}
+
+
+def some_of(weaker):
+    """A round of these weaker statements, from a place on that the commit tells."""
+    first = proved.by_commit(max(len(weaker) - ROUND, 0) + 1)
+    return weaker[first : first + ROUND]
+
+
+def faults_of_list(names, listed):
+    """What is wrong with the list of what nothing notices, where the statements have these names."""
+    yield from (f"{LIST.name} has {name}, which is no statement" for name in sorted(listed - names))
+    if len(listed) > MOST:
+        yield f"{LIST.name} has {len(listed)} rows, more than {MOST}"
+
+
 def main():
-    asked = set(sys.argv[1:])
-    sources, listed = Sources(str(TOP)), set(unneeded())
+    asked, listed, sources = sys.argv[1:], set(unneeded()), untried.sources()
     weaker = [it for statement in statements(sources) for it in weakened(statement)]
-    known = {name_of(it) for it in weaker}
-    beside_gate = asked == {"--beside-gate"}
+    found = list(needs(sources))
+    calls = {name_of(it): list(calls_of(it, found)) for it in weaker}
+    crates = sums(weaker, calls)
+    beside_gate = asked == ["--beside-gate"]
+    chosen = set(untried.differing("weaker", crates) if beside_gate or asked == ["--untried"] else asked or crates)
+    now = [it for it in weaker if chosen & {it.statement.item.name, it.statement.crate, it.statement.owner}]
     if beside_gate:
-        weaker, asked = proved.one_in(10, weaker), set()
-    names = {name_of(it) for it in weaker if not asked or asked & {it.statement.item.name, it.statement.crate, it.statement.owner}}
-    noticed, alike, faults = verdicts(sources, [it for it in weaker if name_of(it) in names], beside_gate)
-    faults += [f"nothing notices {name}" for name in sorted(names - noticed - alike - listed)]
-    faults += [f"{LIST.name} has {name}, which is noticed" for name in sorted(listed & (noticed | alike))]
-    faults += [f"{LIST.name} has {name}, which is no statement" for name in sorted(listed - known)]
-    faults += [f"{LIST.name} has {len(listed)} rows, more than {MOST}"] if len(listed) > MOST else []
-    print("".join(f"FAILED: {fault}\n" for fault in faults) + f"{len(names)} weaker statements: {len(noticed)} are noticed, "
+        now += some_of([it for it in weaker if [it.statement.crate] == untried.another("weaker", crates)])
+    noticed, alike, faults = verdicts(sources, now, calls, beside_gate)
+    names = {name_of(it) for it in now}
+    faults.update({name: f"nothing notices {name}" for name in names - noticed - alike - listed})
+    faults.update({name: f"{LIST.name} has {name}, which is noticed" for name in listed & (noticed | alike)})
+    if not beside_gate:
+        whole = chosen - {it.statement.crate for it in now if name_of(it) in faults}
+        untried.record("weaker", crates, [crate for crate in crates if crate in whole])
+    told = sorted(faults.values()) + list(faults_of_list({name_of(it) for it in weaker}, listed))
+    print("".join(f"FAILED: {fault}\n" for fault in told) + f"{len(names)} weaker statements: {len(noticed)} are noticed, "
           f"{len(alike)} lose nothing, {len(names & listed)} are listed")
-    sys.exit(bool(faults))
+    sys.exit(bool(told))
 
 
 if __name__ == "__main__":

@@ -5,6 +5,9 @@
                                            runs `rattle COMMAND` on crates/CRATE over the kept libraries
     tests/gate/proved.py check CRATE            proves crates/CRATE, and keeps what it proved for the next check
     tests/gate/proved.py wait CRATE             beside the gate: waits until it has proved the libraries below crates/CRATE
+    tests/gate/proved.py apart COPY             takes out of a copy of the repository what the gate does not prove
+
+PROVED names another folder than out/proved for the kept libraries.
 
 The status is 3 if a library below the crate has changed since it was kept, or was not kept.
 """
@@ -12,14 +15,17 @@ import functools
 import hashlib
 import os
 import pathlib
+import re
 import shutil
 import subprocess
 import sys
 import time
 
 TOP = pathlib.Path(__file__).resolve().parents[2]
-KEPT = TOP / "out" / "proved"
+KEPT = pathlib.Path(os.environ.get("PROVED", TOP / "out" / "proved"))
 STALE = 3
+# What the gate leaves out: bench/run has it proved and built, and so does `make mutants`.
+APART = {"ip_bench"}
 
 
 @functools.lru_cache(maxsize=None)
@@ -68,10 +74,10 @@ def sum_of(name):
     return hashlib.sha256(f"{kit_version()} {source_sum_of(name)}".encode()).hexdigest()
 
 
-def one_in(number, items):
-    """One in so many of a list, from a place on that the commit tells: those of other commits are others."""
+def by_commit(number):
+    """A number below this one, which the commit tells: other commits have others."""
     told = subprocess.run(["git", "-C", TOP, "rev-parse", "HEAD"], capture_output=True, text=True)
-    return items[int(told.stdout.strip() or "0", 16) % number :: number]
+    return int(told.stdout.strip() or "0", 16) % number
 
 
 def keep(name, folder):
@@ -87,12 +93,20 @@ def note_all(folder):
     (folder / "all").write_text("".join(f"{name} {sum_of(name)}\n" for name in crates()))
 
 
+def leave_out(copy, names):
+    """Takes these crates out of a copy of the repository."""
+    lines = (copy / "crates.txt").read_text().splitlines(keepends=True)
+    (copy / "crates.txt").write_text("".join(line for line in lines if re.match(r"\w*", line)[0] not in names))
+    for name in names:
+        shutil.rmtree(copy / "crates" / name)
+
+
 def changed():
     """The crates that are not as the last gate proved them. None if no gate has ended."""
     if not is_over():
         return None
     noted = set((KEPT / "all").read_text().splitlines())
-    return [name for name in crates() if f"{name} {sum_of(name)}" not in noted]
+    return [name for name in crates() if name not in APART and f"{name} {sum_of(name)}" not in noted]
 
 
 def stale(crate):
@@ -144,6 +158,6 @@ if __name__ == "__main__":
     mode, *words = sys.argv[1:] or [""]
     if mode == "rattle" and len(words) >= 2:
         sys.exit(rattle(*words))
-    if mode in ("check", "wait") and len(words) == 1:
-        sys.exit({"check": check, "wait": wait}[mode](*words))
+    if mode in ("check", "wait", "apart") and len(words) == 1:
+        sys.exit({"check": check, "wait": wait, "apart": lambda copy: leave_out(pathlib.Path(copy), APART)}[mode](*words))
     sys.exit(__doc__)

@@ -43,7 +43,7 @@ def verdicts(lines):
             section = []
             if said[2] == "NOT PROVED":
                 failed.add(said[1])
-    return told, [name for name in proved.crates() if name in failed or name not in told]
+    return told, [name for name in proved.crates() if name in failed or name not in told and name not in proved.APART]
 
 
 def main():

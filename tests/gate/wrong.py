@@ -1,5 +1,5 @@
 #!/usr/bin/env python3
-"""Tries the wrong bodies and their controls: tests/gate/wrong.py [--beside-gate] [CRATE..]
+"""Tries the wrong bodies and their controls: tests/gate/wrong.py [--beside-gate | --untried | CRATE..]
 
 An edit in crates/CRATE/edits.txt has two texts for the same place. The first puts a wrong body into a function (a mutant),
 and the prover must reject that function. The second puts a correct body of the same form there (the control), and that
@@ -8,8 +8,9 @@ shows nothing of the contract, and counts as a failure.
 
 A proof of a function cites only the contracts of the functions that it calls. So edits of different
 functions are applied together, and only these functions are checked, over the libraries that
-make test proved. Beside the gate each crate is tried as soon as the libraries under it are proved, and one in
-three of its edits, others for each commit. What rattle prints is in out/wrong.log. The last line counts the edits.
+make test proved. tests/data/tried.txt gets a line for each crate whose edits are all as they must be. With --untried these are
+the crates that changed since they got theirs. Beside the gate one other crate joins them, by the commit, and each is tried
+as soon as the libraries under it are proved. What rattle prints is in out/wrong.log. The last line counts the edits.
 """
 import collections
 import os
@@ -23,6 +24,7 @@ import time
 from concurrent.futures import ThreadPoolExecutor
 
 import proved
+import untried
 
 TOP = pathlib.Path(__file__).resolve().parents[2]
 PROCESSORS = len(os.sched_getaffinity(0))
@@ -168,20 +170,37 @@ def ready(trials, beside_gate):
         trial.faults.append(f"{trial.crate}: the libraries under it were not proved by make test as they are now")
 
 
+def sums():
+    """A sum of what the trials of each crate depend on: its sources and edits, and the statements below that these use."""
+    def sum_of(crate):
+        files = untried.files_in(*(TOP / "crates" / crate / part for part in ("src", "specs", "proofs", "edits.txt")))
+        text = "\n".join(content.decode() for _, content in files)
+        return untried.sum_of([proved.crates()[crate], files, untried.used_below(crate, text)])
+
+    return {crate: sum_of(crate) for crate in sorted(path.parent.name for path in TOP.glob("crates/*/edits.txt"))}
+
+
 def main():
-    beside_gate = sys.argv[1:2] == ["--beside-gate"]
-    given = sys.argv[2:] if beside_gate else sys.argv[1:]
-    crates = given or sorted(path.parent.name for path in TOP.glob("crates/*/edits.txt"))
+    known, asked = sums(), sys.argv[1:]
+    beside_gate = asked == ["--beside-gate"]
+    crates = asked or list(known)
+    if beside_gate or asked == ["--untried"]:
+        crates = untried.differing("wrong", known) + (untried.another("wrong", known) if beside_gate else [])
     unknown = [crate for crate in crates if not (TOP / "crates" / crate / "src").is_dir()]
     if unknown:
         sys.exit(f"tests/gate/wrong.py: there is no crate {', '.join(unknown)}")
-    parts = 3 if beside_gate else 1
-    trials = [Trial(crate, found) for crate in crates if (found := proved.one_in(parts, edits(crate)))]
+    trials = [Trial(crate, found) for crate in crates if (found := edits(crate))]
     trials.sort(key=lambda trial: -len(trial.edits))
     (TOP / "out").mkdir(exist_ok=True)
+
+    def run(trial):
+        trial.run()
+        if not beside_gate and not trial.faults:
+            untried.record("wrong", known, [trial.crate])
+
     with ThreadPoolExecutor(PROCESSORS) as pool:
-        tried = [pool.submit(trial.run) for trial in ready(trials, beside_gate)]
-    for it in tried:
+        runs = [pool.submit(run, trial) for trial in ready(trials, beside_gate)]
+    for it in runs:
         it.result()
     (TOP / "out/wrong.log").write_text("".join(it for trial in trials for it in trial.log), encoding="utf-8")
     faults = [fault for trial in trials for fault in trial.faults]

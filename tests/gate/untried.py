@@ -1,0 +1,104 @@
+"""The record of what `make mutants` tried: which crates' wrong bodies and weaker statements were tried as they are now.
+
+tests/data/tried.txt has a line for the trials of a crate: their kind, the crate, and a sum of all that they depend on.
+Where the sum differs now, make test tries all of the crate, and some of one other crate, by the commit.
+"""
+import collections
+import fcntl
+import functools
+import hashlib
+import sys
+
+import proved
+
+TOP = proved.TOP
+LIST = TOP / "tests/data/tried.txt"
+sys.path.insert(0, str(TOP / "tests/docs"))
+from sources import Sources, words_of  # noqa: E402
+from statements import Record  # noqa: E402
+
+
+def sum_of(parts):
+    """A sum of texts and bytes."""
+    return hashlib.sha256(repr(parts).encode()).hexdigest()[:32]
+
+
+def files_in(*places):
+    """These files and those in these folders, with their bytes."""
+    paths = sorted({path for place in places for path in (place, *place.rglob("*")) if path.is_file()})
+    return [(str(path.relative_to(TOP)), path.read_bytes()) for path in paths]
+
+
+@functools.lru_cache(maxsize=None)
+def sources():
+    return Sources(str(TOP))
+
+
+@functools.lru_cache(maxsize=None)
+def statements():
+    """What the crates state, by each word of its name: pairs of a crate and a text."""
+    found = collections.defaultdict(list)
+
+    def add(crate, name, text):
+        for word in words_of(name) or {""}:
+            found[word].append((crate, text))
+
+    for crate in sources().crates.values():
+        for item in (item for module in crate.modules.values() for item in module.items):
+            add(crate.name, item.owner() if item.kind == "impl" else item.name, stated(item))
+            for inner in item.items:
+                add(crate.name, inner.name, f"{item.text} {stated(inner)}")
+        for definition in (it for module in crate.specs.values() for it in module.items):
+            add(crate.name, definition.name, "\n".join(definition.lines))
+    return found
+
+
+def stated(item):
+    """What users of an item know: its attributes and its head with conditions, promises and fields."""
+    return " ".join([*item.attributes, item.text, *map(str, item.clauses), *(member.text for member in item.members)])
+
+
+def used_below(crate, text):
+    """The statements of the crates below that a text of this crate names, and those that these name in turn."""
+    below, seen, left, used = proved.below(crate), set(), {"", *words_of(text)}, set()
+    while left:
+        word = left.pop()
+        seen.add(word)
+        for home, statement in statements().get(word, ()):
+            if home in below and (home, statement) not in used:
+                used.add((home, statement))
+                left |= words_of(statement) - seen
+    return sorted(used)
+
+
+def statements_of(crate):
+    """The statements of a crate, as text."""
+    return "\n".join(Record(sources(), sources().crates[crate]).lines())
+
+
+def recorded():
+    """The sums of what was tried, by kind and crate."""
+    lines = LIST.read_text(encoding="utf-8").splitlines() if LIST.exists() else []
+    return {(kind, crate): found for kind, crate, found in (line.split() for line in lines)}
+
+
+def differing(kind, sums):
+    """The crates of which something changed since they were tried."""
+    known = recorded()
+    return [crate for crate, found in sums.items() if known.get((kind, crate)) != found]
+
+
+def another(kind, sums):
+    """One of the other crates, by the commit; none if there is none."""
+    rest = [crate for crate in sums if crate not in differing(kind, sums)]
+    return rest[proved.by_commit(len(rest)) :][:1] if rest else []
+
+
+def record(kind, sums, crates):
+    """Records that these crates were tried as they are now. A crate that is not in `sums` any more loses its line."""
+    with open(LIST, "a+", encoding="utf-8") as file:
+        fcntl.flock(file, fcntl.LOCK_EX)
+        known = {key: found for key, found in recorded().items() if key[0] != kind or key[1] in sums}
+        known.update({(kind, crate): sums[crate] for crate in crates})
+        file.truncate(0)
+        file.write("".join(f"{kind} {crate} {found}\n" for (kind, crate), found in sorted(known.items())))
