@@ -2,7 +2,7 @@
 use Rattle.std.proofs.Common.{ℕ, ◌≡◌, ◌≢◌, ◌∙◌, ◌⊎◌, ◌+◌, ◌-◌, ◌*◌, ◌%◌, ◌<◌, ◌≤◌, ◌==◌, Bool, List, ◌∷◌, ap, arith, false, get_or, if◌then◌else◌, inl, inr, length, max, min, nat_lt, slice_index, slice_range, subst, sum, sym, true}
 use Rattle.std.proofs.lemmas.Bool.{cases_eq, cases_lt}
 use Rattle.std.proofs.lemmas.Bool.Decides.{nat_tests}
-use Rattle.c_structs.specs.Checksums.{sum_at, updated_udp}
+use Rattle.app_edit.specs.Checksums.{sum_at, updated_udp}
 use Rattle.ip_wire.proofs.Residues.{residue-bound, residue-quotient}
 use Rattle.ip_wire.specs.WordSum.{residue, sum_of_bytes, updated, words}
 use Rattle.app_edit.proofs.Totals.{index-inside, index-outside, range-index, range-length, total, total-range, total-same, total-split, total-words, written-length}

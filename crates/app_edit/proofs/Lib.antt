@@ -1,6 +1,7 @@
 mod Covers
 mod Kept
 mod Left
+mod PlacedSums
 mod Sent
 mod Stays
 mod Sums

@@ -10,7 +10,7 @@ use Rattle.ip_wire.specs.declared.IpVersion.TheVariants as version
 use Rattle.ip_wire.proofs.Residues.{residue-quotient}
 use Rattle.ip_wire.specs.WordSum.{residue, sum_of_bytes, updated, words}
 use Rattle.ip_wire.proofs.Spelled.{AreBytes}
-use Rattle.c_structs.specs.Checksums.{updated_udp}
+use Rattle.app_edit.specs.Checksums.{updated_udp}
 use Rattle.app_edit.proofs.Covers.{Keeps, covered, sum_over, udp-keeps, updated-keeps}
 use Rattle.app_edit.proofs.Sums.{IsApart, plain-fits, sum-apart, sum-word, udp-fits, udp-stays, updated-fits, word-apart, word-fits}
 use Rattle.app_edit.proofs.Totals.{range-length, total, total-range, total-split, written-length, sum-joined, sum-of_number}

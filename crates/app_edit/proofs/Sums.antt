@@ -6,7 +6,7 @@ use Rattle.ip_wire.specs.WordSum.{residue, updated}
 use Rattle.ip_wire.proofs.Spelled.{AreBytes}
 use Rattle.app_edit.proofs.Covers.{changed, sum_over}
 use Rattle.app_edit.proofs.Totals.{index-inside, index-outside, even-worth, odd-worth, total, total-range, total-same, total-two, worth, written-length}
-use Rattle.c_structs.specs.Checksums.{sum_at, updated_udp}
+use Rattle.app_edit.specs.Checksums.{sum_at, updated_udp}
 use Rattle.app_edit.specs.Edited.{updated_over, with_word, word_at, written}
 
 -- ---- bytes outside of a covered part, and a word in it

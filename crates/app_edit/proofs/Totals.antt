@@ -7,7 +7,7 @@ use Rattle.byteorder.specs.Endian.{big_bytes}
 use Rattle.app_edit.specs.Edited.{written}
 
 -- one more word
-sum-words-cons : (x y : ℕ) (xs : List ℕ) → sum (words (x ∷ y ∷ xs)) ≡ 256 * x + y + sum (words xs)
+pub sum-words-cons : (x y : ℕ) (xs : List ℕ) → sum (words (x ∷ y ∷ xs)) ≡ 256 * x + y + sum (words xs)
 unfolding words
 sum-words-cons x y xs = sum_by-cons (λ n. n) (256 * x + y) (words xs)
 

@@ -4,7 +4,7 @@ use Rattle.std.specs.Option.{option_and_then, option_map}
 use Rattle.byteorder.specs.Endian.{big_bytes, big_number}
 use Rattle.app_nat.specs.declared.translation.Side.{Side}
 use Rattle.app_nat.specs.declared.translation.Side.TheVariants.{Source, Destination}
-use Rattle.c_structs.specs.Checksums.{sum_at, updated_udp}
+use Rattle.app_edit.specs.Checksums.{sum_at, updated_udp}
 use Rattle.ip_wire.specs.Field.{field, with_field, with_range}
 use Rattle.ip_wire.specs.IpAddress.{address_bytes}
 use Rattle.ip_wire.specs.PseudoHeader.{pseudo_header_bytes, with_pseudo_header}

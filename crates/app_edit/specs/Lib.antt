@@ -1,3 +1,4 @@
+pub mod Checksums
 pub mod Edited
 pub mod Filled
 pub mod Places

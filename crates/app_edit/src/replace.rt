@@ -7,9 +7,9 @@ ghost use Rattle.app_edit.specs.Edited.{can_be_left, dst_of, edited, header_chec
 ghost use Rattle.app_edit.specs.Filled.{filled};
 ghost use Rattle.app_edit.specs.Places.{Holds, InFrame, addresses_end, addresses_start};
 
+use crate::checksums::{update_bytes, update_udp_bytes};
 use crate::places::{Carried, Places, Segment};
 use byteorder::{ByteOrder, NetworkEndian};
-use c_structs::{update_bytes, update_udp_bytes};
 use ip_wire::{IpAddress, IpProtocol, IpVersion, Ipv4Packet, Ipv6Packet, checksum};
 
 // The place of an IP header, and of the checksum of an IPv4 header.

@@ -5,11 +5,13 @@ ghost use Rattle.std.specs.Int.{cast_signed, w32};
 ghost use Rattle.ip_wire.specs.TcpRepr.{seq_of};
 ghost use Rattle.ip_wire.specs.TcpSeq.{IsAfter, IsBefore, distance};
 ghost use Rattle.ip_wire.specs.Udp.{checksum_for};
-ghost use Rattle.c_structs.specs.Checksums.{StaysComputed, address_sum, sum_at, updated_udp};
+ghost use Rattle.app_edit.specs.Checksums.{StaysComputed, sum_at, updated_udp};
+ghost use Rattle.c_structs.specs.Addresses.{address_sum};
 ghost use Rattle.c_structs.specs.Written.{within};
 ghost use Rattle.ip_wire.specs.WordSum.{sum_of_bytes, updated};
 
-use c_structs::{Addr, address_sum, update_bytes, update_udp, update_udp_bytes, within};
+use app_edit::{update_bytes, update_udp, update_udp_bytes};
+use c_structs::{Addr, address_sum, within};
 use ip_wire::{TcpSeqNumber, checksum};
 use std::cmp::Ordering;
 

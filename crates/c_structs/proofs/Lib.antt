@@ -21,7 +21,6 @@ mod Ipv4Words
 mod Ipv6Put
 mod Ipv6Words
 mod Numbered
-mod PlacedSums
 mod RejectedApart
 mod Steps
 mod StoredFrame

@@ -1,10 +1,11 @@
 -- Addresses, blocks and endpoints as structs of both versions.
 use Rattle.std.specs.Prelude.{ℕ, ◌++◌, ◌==◌, nat_le, if◌then◌else◌, List, replicate, take, Option, None, Some}
-use Rattle.std.specs.Option.{option_and_then, option_map}
+use Rattle.std.specs.Option.{option_and_then, option_map, option_map_or}
 use Rattle.ip_wire.specs.Endpoint.{endpoint_at}
-use Rattle.ip_wire.specs.IpAddress.{bits_of}
+use Rattle.ip_wire.specs.IpAddress.{address_bytes, bits_of}
 use Rattle.ip_wire.specs.IpCidr.{block_address, block_at, block_prefix_len}
 use Rattle.ip_wire.specs.Types.{EthernetAddress, IpAddress}
+use Rattle.ip_wire.specs.WordSum.{sum_of_bytes}
 use Rattle.ip_wire.specs.declared.IpAddress.TheVariants.{Ipv4, Ipv6}
 use Rattle.ip_wire.specs.declared.IpCidr.{IpCidr}
 use Rattle.ip_wire.specs.declared.IpEndpoint.{IpEndpoint}
@@ -84,3 +85,8 @@ block_with prefix_len address = if nat_le prefix_len (bits_of address) then Some
 -- the CIDR block in a struct, if there is an address and its prefix length is valid
 abbrev pub block_of : Block → Option IpCidr
 block_of b = option_and_then (block_with b.prefix_len) (ip_of b.addr)
+
+-- Pinned by: `worked/values`
+-- the sum of the bytes of an address, 0 without a version
+abbrev pub address_sum : Addr → ℕ
+address_sum a = option_map_or (λ address. sum_of_bytes (address_bytes address)) (ip_of a) 0

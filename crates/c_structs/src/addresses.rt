@@ -4,13 +4,15 @@ ghost use Rattle.std.specs.Prelude.{◌≡◌, ◌≤◌, ◌∷◌, ◌++◌, �
 ghost use Rattle.ip_wire.specs.IpAddress.{address_text, version_of};
 ghost use Rattle.ip_wire.specs.IpCidr.{IsIn, cidr_text};
 ghost use Rattle.ip_wire.specs.Printed.{dotted, slash};
-ghost use Rattle.c_structs.specs.Addresses.{addr_of, block_of, block_struct, endpoint_struct, ip_endpoint_of, ip_of, pair_of};
+ghost use Rattle.c_structs.specs.Addresses.{addr_of, address_sum, block_of, block_struct, endpoint_struct, ip_endpoint_of, ip_of, pair_of};
 ghost use Rattle.c_structs.specs.Written.{Prints};
 
 use crate::results::{MAX_LEN, end_text, print};
 use crate::types::{Addr, Block, Endpoint};
 use arrayvec::ArrayString;
-use ip_wire::{IpAddress, IpCidr, IpEndpoint, Ipv4Address, Ipv4Cidr, Ipv6Address, Ipv6Cidr};
+use ip_wire::{
+    IpAddress, IpCidr, IpEndpoint, Ipv4Address, Ipv4Cidr, Ipv6Address, Ipv6Cidr, checksum,
+};
 use itoa::Buffer;
 
 // The length of the longest printed IPv4 address.
@@ -153,6 +155,16 @@ impl Endpoint {
         ensures { result ≡ ip_endpoint_of self.now }
     {
         Some(IpEndpoint::new(self.addr.ip()?, self.port))
+    }
+}
+
+/// The sum of the bytes of an address, 0 without a version.
+pub fn address_sum(addr: &Addr) -> u16
+    ensures { result ≡ address_sum addr.now }
+{
+    match addr.ip() {
+        Some(address) => checksum::address(&address),
+        None => 0,
     }
 }
 

@@ -5,7 +5,6 @@
 mod addresses;
 mod arp;
 mod captured;
-mod checksums;
 mod codes;
 mod emit;
 mod failures;
@@ -30,8 +29,7 @@ mod types;
 mod udp;
 mod verdicts;
 
-pub use addresses::{print_address, print_block};
-pub use checksums::{address_sum, update_bytes, update_udp, update_udp_bytes};
+pub use addresses::{address_sum, print_address, print_block};
 pub use codes::{NetworkKind, TransportKind, Verdict};
 pub use emit::{emit_tcp, emit_udp};
 pub use failures::{

@@ -1,6 +1,6 @@
 use Rattle.std.proofs.Common.{◌≤◌, ◌-◌, ◌%◌, ap, inl, length, refl, subst, subst₂}
 use Rattle.c_exports.proofs.Once.{short_bytes}
-use Rattle.c_structs.specs.Checksums.{StaysComputed}
+use Rattle.app_edit.specs.Checksums.{StaysComputed}
 use Rattle.c_exports.proofs.needs.numbers.replaced_bytes.Goals as goal
 
 pub returns : goal.returns

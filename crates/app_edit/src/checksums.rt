@@ -1,22 +1,11 @@
 //! Checksum fields after a part of what they cover changed (RFC 1624).
 
 ghost use Rattle.std.specs.Prelude.{◌≡◌, ◌-◌};
-ghost use Rattle.c_structs.specs.Checksums.{StaysComputed, address_sum, sum_at, updated_udp};
+ghost use Rattle.app_edit.specs.Checksums.{StaysComputed, sum_at, updated_udp};
 ghost use Rattle.ip_wire.specs.Udp.{checksum_for};
 ghost use Rattle.ip_wire.specs.WordSum.{updated};
 
-use crate::types::Addr;
 use ip_wire::checksum;
-
-/// The sum of the bytes of an address, 0 without a version.
-pub fn address_sum(addr: &Addr) -> u16
-    ensures { result ≡ address_sum addr.now }
-{
-    match addr.ip() {
-        Some(address) => checksum::address(&address),
-        None => 0,
-    }
-}
 
 /// The checksum field of a UDP packet after words that it covers changed, by their sums. A field of 0 stays, and a
 /// computed 0 is 0xffff (RFC 768).

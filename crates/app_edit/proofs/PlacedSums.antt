@@ -1,10 +1,10 @@
 -- The sum of a message by the sums of its parts, each at its offset (RFC 1071, section 2 B).
 use Rattle.std.proofs.Common.{ℕ, zero, suc, ◌≡◌, ◌∙◌, ◌⊎◌, ◌+◌, ◌-◌, ◌*◌, ◌/◌, ◌%◌, ◌<◌, ◌≤◌, ◌==◌, ◌++◌, [], ◌∷◌, Bool, List, add-zero, add_assoc, ap, ap₂, arith, false, if◌then◌else◌, inl, inr, length, mul-add, mul-zero, one-mul, refl, subst, sum, sym, true, zero-add}
-use Rattle.wire_checksum.proofs.Residues.{residue-add, residue-bound, residue-of_zero, residue-quotient, residue-same, residue-small, residue-swap, residue-zero}
-use Rattle.wire_checksum.proofs.WordLists.{sum-words-cons}
-use Rattle.wire_checksum.specs.WordSum.{residue, sum_of_bytes, words}
-use Rattle.wire_udp.specs.Udp.{checksum_for}
-use Rattle.c_structs.specs.Checksums.{sum_at, updated_udp}
+use Rattle.ip_wire.proofs.Residues.{residue-add, residue-bound, residue-of_zero, residue-quotient, residue-same, residue-small, residue-swap, residue-zero}
+use Rattle.ip_wire.specs.Udp.{checksum_for}
+use Rattle.ip_wire.specs.WordSum.{residue, sum_of_bytes, words}
+use Rattle.app_edit.proofs.Totals.{sum-words-cons}
+use Rattle.app_edit.specs.Checksums.{sum_at, updated_udp}
 
 -- ---- weights: what the sum of bytes counts after so many bytes of a message
 

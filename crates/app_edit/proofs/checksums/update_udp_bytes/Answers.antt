@@ -1,8 +1,8 @@
 use Rattle.std.proofs.Common.{◌∙◌, ap₂}
 use Rattle.ip_wire.specs.Udp.{checksum_for}
-use Rattle.c_structs.proofs.PlacedSums.{stays_computed, sum_at-bound, udp_stays_computed}
-use Rattle.c_structs.specs.Checksums.{sum_at, updated_udp}
-use Rattle.c_structs.proofs.checksums.update_udp_bytes.Goals as goal
+use Rattle.app_edit.proofs.PlacedSums.{stays_computed, sum_at-bound, udp_stays_computed}
+use Rattle.app_edit.specs.Checksums.{sum_at, updated_udp}
+use Rattle.app_edit.proofs.checksums.update_udp_bytes.Goals as goal
 
 pub returns-clause-computed : goal.returns-clause-computed
 returns-clause-computed c front rest parity whole some is =

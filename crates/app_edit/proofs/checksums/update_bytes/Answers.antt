@@ -1,7 +1,7 @@
 use Rattle.std.proofs.Common.{◌∙◌, ◌+◌, ◌-◌, ◌<◌, ap, subst, sym}
 use Rattle.ip_wire.specs.WordSum.{residue}
-use Rattle.c_structs.proofs.PlacedSums.{stays_computed}
-use Rattle.c_structs.proofs.checksums.update_bytes.Goals as goal
+use Rattle.app_edit.proofs.PlacedSums.{stays_computed}
+use Rattle.app_edit.proofs.checksums.update_bytes.Goals as goal
 
 pub returns-clause-computed : goal.returns-clause-computed
 returns-clause-computed c front rest parity whole some is =

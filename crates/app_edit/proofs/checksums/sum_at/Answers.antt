@@ -1,8 +1,8 @@
 use Rattle.std.proofs.Common.{◌≡◌, ◌∙◌, ◌+◌, ◌*◌, ◌/◌, ◌%◌, ◌==◌, ◌∷◌, ap, arith, false, if◌then◌else◌, rules, sum, sym}
 use Rattle.ip_wire.specs.WordSum.{sum_of_bytes, words}
-use Rattle.wire_checksum.proofs.Residues.{residue-bound}
-use Rattle.c_structs.proofs.PlacedSums.{swapped}
-use Rattle.c_structs.proofs.checksums.sum_at.Goals as goal
+use Rattle.ip_wire.proofs.Residues.{residue-bound}
+use Rattle.app_edit.proofs.PlacedSums.{swapped}
+use Rattle.app_edit.proofs.checksums.sum_at.Goals as goal
 
 pub returns-else-offset-eq0 : goal.returns-else-offset-eq0
 returns-else-offset-eq0 c =
