@@ -172,7 +172,7 @@ bench: $(PROGRAM) $(LIBRARY)
 	@bench/bench.py $${REFERENCE_BENCH:+--calls "$$REFERENCE_BENCH"} $(if $(REFERENCE),--program $(REFERENCE))
 
 $(PROGRAM) $(CALLS): COMMAND := run
-$(ARCHIVE): COMMAND := lib
+$(ARCHIVE): COMMAND := archive
 $(PROGRAM) $(CALLS) $(ARCHIVE): $(SOURCES)
 	@$(HAS_RT)
 	@$(CAN_WRITE)

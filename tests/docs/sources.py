@@ -55,7 +55,7 @@ class Sources:
         self.top, self.edits = top, edits or {}
         self.crates = {}
         for line in self.read("crates.txt").split("\n"):
-            head = re.match(r"(\w+)(?: staticlib)?:", line)
+            head = re.match(r"(\w+):", line)
             if head:
                 self.crates[head.group(1)] = self.crate(head.group(1))
         modules = [m for crate in self.crates.values() for m in (*crate.modules.values(), *crate.specs.values())]

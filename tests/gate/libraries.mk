@@ -1,6 +1,6 @@
 # Proves the libraries below a crate side by side. The lines of crates.txt are rules of make, and tests/gate/build puts them
 # before these lines.
-NAMES := $(shell sed -n 's/^\(\w*\)\( staticlib\)\?:.*/\1/p' crates.txt)
+NAMES := $(shell sed -n 's/^\(\w*\):.*/\1/p' crates.txt)
 .DEFAULT_GOAL := $(BELOW)
 .PHONY: $(NAMES)
 $(filter-out $(BELOW),$(NAMES)):

@@ -3,9 +3,9 @@
 
 A public statement is a law, the contract of a call of the C library, or the condition of a call on a length. It is weakened
 by a false premise (laws), by leaving out a clause (laws, calls of the C library), by allowing one more result (calls of the C
-library), or by asking for one byte more (conditions). Its needs are the functions of the crates test_*_needs and of
-c_exports/src/needs that call it. In a copy of their crate each of them calls a function with the weaker contract instead,
-over the libraries that make test proved. One of them must not be proved then.
+library), or by asking for one byte more (conditions). Its needs are the functions of the crates test_*_needs that call it. In
+a copy of their crate each of them calls a function with the weaker contract instead, over the libraries that make test
+proved. One of them must not be proved then.
 
 A weaker statement that no need notices loses nothing if it implies what it lost, by itself or with the definitions alone. Any
 other one must be in tests/data/unneeded.txt, and nothing else may be there. With names it tries the statements of these
@@ -32,8 +32,8 @@ sys.path.insert(0, str(TOP / "tests/docs"))
 from contracts import Clause  # noqa: E402
 from sources import words_of  # noqa: E402
 
-# The crates with needs in the order in which they can be tried, and the first name of the modules that have them.
-NEEDS = {**{name: "" for name in proved.crates() if name.endswith("_needs")}, "c_exports": "needs"}
+# The crates with needs, in the order in which they can be tried.
+NEEDS = [name for name in proved.crates() if name.endswith("_needs")]
 LIST = TOP / "tests/data/unneeded.txt"
 # The most rows that it may have. This number only gets smaller.
 MOST = 30
@@ -78,7 +78,7 @@ def statements(sources):
         for path, module in crate.modules.items():
             for item in module.items:
                 if item.kind == "fn" and item.visibility == "pub":
-                    if (crate.name, *path, item.name) in shown or crate.name == "c_exports":
+                    if (crate.name, *path, item.name) in shown:
                         yield Statement(crate.name, module, "", item)
                 elif item.kind == "impl" and not item.trait():
                     names = {item.owner(), *(it.name for it in module.items if f"= {item.owner()}<" in it.text)}
@@ -171,10 +171,9 @@ class Need:
 
 
 def needs(sources):
-    for name, first in NEEDS.items():
-        for path, module in sources.crates[name].modules.items() if name in sources.crates else ():
-            if not first or path[:1] == (first,):
-                yield from (Need(sources, name, module, item) for item in module.items if item.kind == "fn")
+    for name in NEEDS:
+        for module in sources.crates[name].modules.values() if name in sources.crates else ():
+            yield from (Need(sources, name, module, item) for item in module.items if item.kind == "fn")
 
 
 # ---- a crate whose needs call functions with weaker contracts

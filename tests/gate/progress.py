@@ -105,12 +105,12 @@ class Gate:
 
 
 class Build:
-    """rt run and rt lib: the crates by their place in crates.txt, but for those that stand already."""
+    """A build in the folder of a crate: the crates by their place in crates.txt, but for those that stand already."""
 
     BEGUN = re.compile(r"rt: chose --jobs \d+ for (\w+)")
 
     def __init__(self, built):
-        self.names, self.crate, self.since, self.lines = listed(), None, START, []
+        self.names, self.crate, self.since, self.lines = listed(), pathlib.Path.cwd().name, START, []
         self.built, self.before = built, time_of(built)
 
     def take(self, line):

@@ -5,6 +5,7 @@
                                            runs `rattle COMMAND` on crates/CRATE over the kept libraries
     tests/gate/proved.py check CRATE            proves crates/CRATE, and keeps what it proved for the next check
     tests/gate/proved.py wait CRATE             beside the gate: waits until it has proved the libraries below crates/CRATE
+    tests/gate/proved.py archive CRATE          builds crates/CRATE/out/libCRATE.a over the libraries that `rt lib` built
     tests/gate/proved.py apart COPY             takes out of a copy of the repository what the gate does not prove
 
 PROVED names another folder than out/proved for the kept libraries.
@@ -130,11 +131,12 @@ def wait(crate):
     return STALE if stale(crate) else 0
 
 
-def command_line(command, crate):
-    """The command line of rattle for a crate, in its folder or a copy of that, over the kept libraries."""
-    rlibs = {name: (KEPT if name in crates() else kit() / "rlibs") / f"{name}.rlib" for name in ["std", *crates()[crate][1]]}
-    given = [word for name, rlib in rlibs.items() for word in ("--extern", f"{name}={rlib}")]
-    given += ["-L", f"dependency={kit() / 'rlibs'}", "-L", f"dependency={KEPT}"]
+def command_line(command, crate, folder=lambda name: KEPT):
+    """The command line of rattle for a crate, in its folder or a copy of that, over the kept libraries or those in other folders."""
+    named = {name: folder(name) if name in crates() else kit() / "rlibs" for name in ["std", *crates()[crate][1]]}
+    given = [word for name, place in named.items() for word in ("--extern", f"{name}={place / name}.rlib")]
+    places = [kit() / "rlibs", *sorted({folder(name) for name in below(crate)})]
+    given += [word for place in places for word in ("-L", f"dependency={place}")]
     given += ["--antt-project", kit() / "rattle/logic/antt-project.json", "--logic-built", kit() / "logic_built"]
     root = "src/main.rt" if (TOP / "crates" / crate / "src/main.rt").exists() else "src/lib.rt"
     return ["rattle", command, "--crate-name", crate, *given, root]
@@ -154,10 +156,19 @@ def check(crate):
     return rattle("check", crate, "--incremental", kept, "--jobs", str(len(os.sched_getaffinity(0))))
 
 
+def archive(crate):
+    """Becomes rattle, which builds a static library over the libraries of rt, from what rt kept of its proof."""
+    os.chdir(TOP / "crates" / crate)
+    words = command_line("build", crate, lambda name: TOP / "crates" / name / "out/rlib")
+    words += ["--crate-type", "staticlib", "--toolchain", kit() / "toolchain", "--incremental", "out/incremental"]
+    os.execvp("rattle", [*words, "--jobs", str(len(os.sched_getaffinity(0))), "-o", f"out/lib{crate}.a"])
+
+
 if __name__ == "__main__":
     mode, *words = sys.argv[1:] or [""]
     if mode == "rattle" and len(words) >= 2:
         sys.exit(rattle(*words))
-    if mode in ("check", "wait", "apart") and len(words) == 1:
-        sys.exit({"check": check, "wait": wait, "apart": lambda copy: leave_out(pathlib.Path(copy), APART)}[mode](*words))
+    modes = {"check": check, "wait": wait, "archive": archive, "apart": lambda copy: leave_out(pathlib.Path(copy), APART)}
+    if mode in modes and len(words) == 1:
+        sys.exit(modes[mode](*words))
     sys.exit(__doc__)

@@ -1,18 +1,11 @@
--- The options of the TCP header in a frame.
-use Rattle.std.proofs.Common.{ℕ, ◌≡◌, ◌≢◌, ◌∙◌, nat_le, if◌then◌else◌, Bool, true, false, List, [], ap, arith, inl, inr, length, refl, sym}
-use Rattle.std.proofs.lemmas.Bool.{cases_lt}
+-- The fields of a frame with a TCP header.
+use Rattle.std.proofs.Common.{ℕ, ◌≡◌, ◌∙◌, nat_le, if◌then◌else◌, Bool, true, false, List, [], ap, arith, length, refl}
 use Rattle.ip_wire.specs.Ethernet.{ethernet_of}
-use Rattle.c_exports.proofs.Once.{one_options}
 use Rattle.c_icmp.specs.Messages.{payload_in, with_icmp, with_message, without_icmp}
 use Rattle.c_icmp.specs.declared.types.FullFrame.{FullFrame}
 use Rattle.c_structs.specs.FrameFields.{fields_of}
-use Rattle.c_structs.specs.FrameOptions.{HasOptions, header_in}
-use Rattle.c_structs.specs.TcpOptions.{tcp_options_of}
 use Rattle.c_structs.specs.Written.{max_len, within}
 use Rattle.c_structs.specs.declared.types.FrameFields.{FrameFields}
-use Rattle.c_structs.specs.declared.types.TcpOptions.{TcpOptions}
-
--- ---- the fields of a frame with a TCP header
 
 chosen : (b : Bool) (f : FrameFields) (message : List ℕ) → (if b then with_message f message else without_icmp f).fields.transport ≡ 2
     → (if b then with_message f message else without_icmp f).fields ≡ f
@@ -39,22 +32,3 @@ used-whole bytes f is tcp = used (nat_le (length bytes) max_len) bytes (rw is at
 pub tcp-fields : (bytes : List ℕ) (f : FullFrame) → f ≡ with_icmp (within bytes) (fields_of (within bytes)) → f.fields.transport ≡ 2 → f.fields ≡ fields_of bytes
 tcp-fields bytes f is tcp =
     ap (λ (g : FullFrame). g.fields) is ∙ no-icmp (within bytes) (fields_of (within bytes)) (rw is at tcp) ∙ ap fields_of (used-whole bytes f is tcp)
-
--- ---- one list of options
-
--- the struct of options of a frame
-pub frame_options_once : (f : FrameFields) (frame : List ℕ) (a b : TcpOptions) → HasOptions f frame a → HasOptions f frame b → a ≡ b
-frame_options_once f frame a b x y = elim (cases_lt f.transport 2) [
-  | inl less ↦ other (λ e. omega (arith, less, e))
-  | inr least ↦ elim (cases_lt 2 f.transport) [
-    | inl more ↦ other (λ e. omega (arith, more, e))
-    | inr most ↦
-        let tcp : f.transport ≡ 2 = omega (arith, least, most) in
-        let (items, reads, is) = x.stored tcp in
-        let (others, again, also) = y.stored tcp in
-        is ∙ ap tcp_options_of (one_options (header_in f frame) items others reads again) ∙ sym also
-  ]
-]
-  where
-    other : f.transport ≢ 2 → a ≡ b
-    other not = x.none not ∙ sym (y.none not)

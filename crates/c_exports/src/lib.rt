@@ -1,18 +1,17 @@
 //! The packet layer for programs in other languages. `c/ip_wire.h` declares these functions for C.
 #![tactic(auto)]
 
-mod addresses;
-mod edits;
-mod emit;
-mod frames;
-mod host;
-mod icmp;
-mod links;
-mod nat;
-mod needs;
-mod numbers;
-mod read_calls;
-mod rebuild;
-mod routes;
-mod routing;
-mod summary;
+pub mod addresses;
+pub mod edits;
+pub mod emit;
+pub mod frames;
+pub mod host;
+pub mod icmp;
+pub mod links;
+pub mod nat;
+pub mod numbers;
+pub mod read_calls;
+pub mod rebuild;
+pub mod routes;
+pub mod routing;
+pub mod summary;

@@ -1,7 +1,8 @@
-//! What needs each law of the C library and of the edits of frames, and the contracts of these: a call of each. If one says
-//! less, one of these functions is no longer proved.
+//! What needs each law and each call of the C library, and those of the edits of frames: a call of each. If one says less,
+//! one of these functions is no longer proved.
 #![tactic(auto)]
 
+mod calls;
 mod edits;
 mod icmp;
 mod structs;

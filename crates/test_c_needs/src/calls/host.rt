@@ -1,0 +1,41 @@
+//! Needs the contract of the call for a host.
+
+ghost use Rattle.std.specs.Prelude.{◌≡◌, ◌≤◌, ◌<◌, ◌⊎◌, IsSome, drop, length, negsuc, pos, ℕ};
+ghost use Rattle.app_host.specs.Host.{IsUnread};
+ghost use Rattle.c_icmp.specs.HostFields.{host_of};
+ghost use Rattle.ip_wire.specs.Frame.{Carried, IsReadWhole};
+ghost use Rattle.ip_wire.specs.Types.{EthernetRepr};
+
+use c_exports::host::lk_answer;
+use c_icmp::HostFields;
+
+// A frame gets one answer: one length, one value, and the same bytes after it.
+fn answer(host: &HostFields<'_>, frame: &[u8], out: &mut [u8], other: &mut [u8]) -> (isize, isize)
+    requires { out.old ≡ other.old }
+    ensures returned { result.0 ≡ result.1 }
+    ensures rest { (len : ℕ) → result.0 ≡ pos len → drop len out.new ≡ drop len other.new }
+    ensures values { (out.new ≡ other.new)
+        ⊎ ((header : EthernetRepr) × (carried : Carried) × IsReadWhole out.new header carried × IsReadWhole other.new header carried) }
+{
+    (lk_answer(host, frame, out), lk_answer(host, frame, other))
+}
+
+// A frame that does not parse gets no answer.
+fn no_answer(host: &HostFields<'_>, frame: &[u8], out: &mut [u8]) -> isize
+    requires host { IsSome (host_of host.now) }
+    requires unread { IsUnread frame.now }
+    requires usable { length frame.now ≤ 1099511627775 }
+    ensures { result ≡ pos 0 }
+{
+    lk_answer(host, frame, out)
+}
+
+// A frame that is too long gets a failure, and nothing is written.
+fn too_long(host: &HostFields<'_>, frame: &[u8], out: &mut [u8]) -> isize
+    requires host { IsSome (host_of host.now) }
+    requires unusable { 1099511627775 < length frame.now }
+    ensures failed { result ≡ negsuc 10995116277759 }
+    ensures kept { out.new ≡ out.old }
+{
+    lk_answer(host, frame, out)
+}

@@ -1,0 +1,220 @@
+//! Needs the contracts of calls that parse.
+
+ghost use Rattle.std.specs.Prelude.{List, ℕ, ◌++◌, ◌≡◌, ◌≤◌, ◌+◌, length};
+ghost use Rattle.c_icmp.specs.Messages.{IsCutFrame};
+ghost use Rattle.c_structs.specs.FrameFields.{fields_of, packet_fields_of};
+
+use c_exports::read_calls::{
+    lk_next_ipv6_header, lk_next_tcp_option, lk_read_captured, lk_read_captured_packet,
+    lk_read_frame, lk_read_frame_options, lk_read_packet, lk_read_tcp_options, lk_version,
+};
+use c_icmp::FullFrame;
+use c_structs::{Ipv6HeaderPlace, TcpOptionPlace, TcpOptions};
+
+// The library has one version.
+fn version() -> (u32, u32)
+    ensures { result.0 ≡ result.1 }
+{
+    (lk_version(), lk_version())
+}
+
+// Bytes parse as one frame.
+fn read_frame(bytes: &[u8], frame: &mut FullFrame, other: &mut FullFrame) -> (i32, i32)
+    requires { frame.old ≡ other.old }
+    ensures returned { result.0 ≡ result.1 }
+    ensures written { frame.new ≡ other.new }
+{
+    (lk_read_frame(bytes, frame), lk_read_frame(bytes, other))
+}
+
+// Bytes parse as one packet.
+fn read_packet(bytes: &[u8], frame: &mut FullFrame, other: &mut FullFrame) -> (i32, i32)
+    requires { frame.old ≡ other.old }
+    ensures returned { result.0 ≡ result.1 }
+    ensures written { frame.new ≡ other.new }
+{
+    (lk_read_packet(bytes, frame), lk_read_packet(bytes, other))
+}
+
+// Captured bytes parse as one frame.
+fn read_captured(
+    captured: &[u8],
+    len: usize,
+    frame: &mut FullFrame,
+    other: &mut FullFrame,
+) -> (i32, i32)
+    requires { frame.old ≡ other.old }
+    ensures returned { result.0 ≡ result.1 }
+    ensures written { frame.new ≡ other.new }
+{
+    (
+        lk_read_captured(captured, len, frame),
+        lk_read_captured(captured, len, other),
+    )
+}
+
+// Captured bytes parse as one packet.
+fn read_captured_packet(
+    captured: &[u8],
+    len: usize,
+    frame: &mut FullFrame,
+    other: &mut FullFrame,
+) -> (i32, i32)
+    requires { frame.old ≡ other.old }
+    ensures returned { result.0 ≡ result.1 }
+    ensures written { frame.new ≡ other.new }
+{
+    (
+        lk_read_captured_packet(captured, len, frame),
+        lk_read_captured_packet(captured, len, other),
+    )
+}
+
+// A TCP header has one list of options.
+fn read_tcp_options(header: &[u8], options: &mut TcpOptions, other: &mut TcpOptions) -> (i32, i32)
+    requires { options.old ≡ other.old }
+    ensures returned { result.0 ≡ result.1 }
+    ensures written { options.new ≡ other.new }
+{
+    (
+        lk_read_tcp_options(header, options),
+        lk_read_tcp_options(header, other),
+    )
+}
+
+// Bytes parse as one frame with one list of options.
+fn read_frame_options(
+    bytes: &[u8],
+    frame: &mut FullFrame,
+    other: &mut FullFrame,
+    options: &mut TcpOptions,
+    others: &mut TcpOptions,
+) -> (i32, i32)
+    ensures returned { result.0 ≡ result.1 }
+    ensures written { frame.new ≡ other.new }
+    ensures stored { options.new ≡ others.new }
+{
+    (
+        lk_read_frame_options(bytes, frame, options),
+        lk_read_frame_options(bytes, other, others),
+    )
+}
+
+// An option of TCP has one successor.
+fn next_tcp_option(
+    header: &[u8],
+    option: &mut TcpOptionPlace,
+    other: &mut TcpOptionPlace,
+) -> (i32, i32)
+    requires { option.old ≡ other.old }
+    ensures returned { result.0 ≡ result.1 }
+    ensures written { option.new ≡ other.new }
+{
+    (
+        lk_next_tcp_option(header, option),
+        lk_next_tcp_option(header, other),
+    )
+}
+
+// A header of an IPv6 packet has one successor.
+fn next_ipv6_header(
+    packet: &[u8],
+    header: &mut Ipv6HeaderPlace,
+    other: &mut Ipv6HeaderPlace,
+) -> (i32, i32)
+    requires { header.old ≡ other.old }
+    ensures returned { result.0 ≡ result.1 }
+    ensures written { header.new ≡ other.new }
+{
+    (
+        lk_next_ipv6_header(packet, header),
+        lk_next_ipv6_header(packet, other),
+    )
+}
+
+// The payload is in the frame.
+fn payload_of_frame<'a>(bytes: &'a [u8], frame: &mut FullFrame) -> &'a [u8] {
+    lk_read_frame(bytes, frame);
+    let start = frame.fields.payload_offset;
+    &bytes[start..start + frame.fields.payload_len]
+}
+
+// The payload is in the frame whose options are stored.
+fn payload_of_frame_options<'a>(
+    bytes: &'a [u8],
+    frame: &mut FullFrame,
+    options: &mut TcpOptions,
+) -> &'a [u8] {
+    lk_read_frame_options(bytes, frame, options);
+    let start = frame.fields.payload_offset;
+    &bytes[start..start + frame.fields.payload_len]
+}
+
+// The payload is in the packet.
+fn payload_of_packet<'a>(bytes: &'a [u8], frame: &mut FullFrame) -> &'a [u8] {
+    lk_read_packet(bytes, frame);
+    let start = frame.fields.payload_offset;
+    &bytes[start..start + frame.fields.payload_len]
+}
+
+// The payload of a frame that was captured in part is in the whole frame.
+fn payload_of_captured_frame<'a>(
+    bytes: &'a [u8],
+    captured: &[u8],
+    frame: &mut FullFrame,
+) -> &'a [u8] {
+    lk_read_captured(captured, bytes.len(), frame);
+    let start = frame.fields.payload_offset;
+    &bytes[start..start + frame.fields.payload_len]
+}
+
+// The payload of a packet that was captured in part is in the whole packet.
+fn payload_of_captured_packet<'a>(
+    bytes: &'a [u8],
+    captured: &[u8],
+    frame: &mut FullFrame,
+) -> &'a [u8] {
+    lk_read_captured_packet(captured, bytes.len(), frame);
+    let start = frame.fields.payload_offset;
+    &bytes[start..start + frame.fields.payload_len]
+}
+
+// Of more bytes than a frame has, its own are parsed.
+#[tactic(auto, using(crate::proofs::Once::short_bytes, crate::proofs::Once::short_len, crate::proofs::Once::short_front))]
+fn whole_frame(captured: &[u8], len: usize, frame: &mut FullFrame, other: &mut FullFrame)
+    requires part { len ≤ length captured.now }
+    requires usable { length captured.now ≤ 1099511627775 }
+    ensures { frame.new ≡ other.new }
+{
+    lk_read_captured(captured, len, frame);
+    lk_read_frame(&captured[..len], other);
+}
+
+// Of more bytes than a packet has, its own are parsed.
+#[tactic(auto, using(crate::proofs::Once::short_bytes, crate::proofs::Once::short_len, crate::proofs::Once::short_front))]
+fn whole_packet(captured: &[u8], len: usize, frame: &mut FullFrame, other: &mut FullFrame)
+    requires part { len ≤ length captured.now }
+    requires usable { length captured.now ≤ 1099511627775 }
+    ensures { frame.new ≡ other.new }
+{
+    lk_read_captured_packet(captured, len, frame);
+    lk_read_packet(&captured[..len], other);
+}
+
+// The first bytes of a frame have the fields of the whole frame, up to a header that was cut.
+#[tactic(auto, using(crate::proofs::Once::short_bytes, crate::proofs::Once::short_len))]
+fn cut_frame(captured: &[u8], len: usize, frame: &mut FullFrame)
+    requires { len ≤ 1099511627775 }
+    ensures { (rest : List ℕ) → length captured.now + length rest ≡ len → IsCutFrame captured.now frame.new (fields_of (captured.now ++ rest)) }
+{
+    lk_read_captured(captured, len, frame);
+}
+
+// The first bytes of a packet have the fields of the whole packet, up to a header that was cut.
+#[tactic(auto, using(crate::proofs::Once::short_bytes, crate::proofs::Once::short_len))]
+fn cut_packet(captured: &[u8], len: usize, frame: &mut FullFrame)
+    requires { len ≤ 1099511627775 }
+    ensures { (rest : List ℕ) → length captured.now + length rest ≡ len → IsCutFrame captured.now frame.new (packet_fields_of (captured.now ++ rest)) }
+{
+    lk_read_captured_packet(captured, len, frame);
+}

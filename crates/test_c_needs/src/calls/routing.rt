@@ -1,0 +1,52 @@
+//! Needs the contracts of the calls of a router, of NAT of one packet, and of the MSS clamp.
+
+ghost use Rattle.std.specs.Prelude.{◌≡◌};
+
+use c_exports::routing::{lk_clamp_mss, lk_clamp_mss_as, lk_forward, lk_translate};
+use c_structs::Endpoint;
+
+// A frame is forwarded in one way, or rejected for one reason.
+fn forward(frame: &mut [u8], other: &mut [u8], src: &[u8; 6], dst: &[u8; 6]) -> (i32, i32)
+    requires { frame.old ≡ other.old }
+    ensures returned { result.0 ≡ result.1 }
+    ensures written { frame.new ≡ other.new }
+{
+    (lk_forward(frame, src, dst), lk_forward(other, src, dst))
+}
+
+// A frame is translated in one way, or rejected for one reason.
+#[tactic(auto, using(crate::proofs::RoutingOnce::translates_once))]
+fn translate(frame: &mut [u8], other: &mut [u8], side: i32, end: &Endpoint) -> (i32, i32)
+    requires { frame.old ≡ other.old }
+    ensures returned { result.0 ≡ result.1 }
+    ensures written { frame.new ≡ other.new }
+{
+    (
+        lk_translate(frame, side, end),
+        lk_translate(other, side, end),
+    )
+}
+
+// A frame is clamped in one way, or not at all.
+fn clamp_mss(frame: &mut [u8], other: &mut [u8], max_seg_size: u16) -> (i32, i32)
+    requires { frame.old ≡ other.old }
+    ensures returned { result.0 ≡ result.1 }
+    ensures written { frame.new ≡ other.new }
+{
+    (
+        lk_clamp_mss(frame, max_seg_size),
+        lk_clamp_mss(other, max_seg_size),
+    )
+}
+
+// A frame is clamped in one way, as the caller says, or not at all.
+fn clamp_mss_as(frame: &mut [u8], other: &mut [u8], max_seg_size: u16, offload: i32) -> (i32, i32)
+    requires { frame.old ≡ other.old }
+    ensures returned { result.0 ≡ result.1 }
+    ensures written { frame.new ≡ other.new }
+{
+    (
+        lk_clamp_mss_as(frame, max_seg_size, offload),
+        lk_clamp_mss_as(other, max_seg_size, offload),
+    )
+}
