@@ -10,7 +10,7 @@
 # make check          proves one crate, CRATE=name, over the libraries that make test proved
 # make affected       proves what the change since a commit, SINCE=HEAD, reaches, with needs and tests
 # make test           runs the gate and all other tests; with ANEW=yes it proves again what it kept
-# make mutants        tries new wrong bodies and weaker statements, or all with ANEW=yes, after make test
+# make mutants        tries the new wrong bodies and weaker statements, or all with ANEW=yes
 # make new            makes a crate of your own, CRATE=name, with one proved call
 # make reference      writes the reference as HTML pages to out/reference
 # make statements     renews docs/audit/statements/, the record of all contracts and definitions
