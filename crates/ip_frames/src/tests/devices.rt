@@ -3,117 +3,115 @@
 use crate::devices::{FrameSink, FrameSource};
 use crate::memory::{MemorySink, MemorySource};
 use crate::run::{RunError, run};
-use crate::tests::examples::examples;
+use crate::tests::examples::EXAMPLES;
 use crate::tests::fakes::{FailingSource, StuckSink};
-use crate::tests::runs::{ROOM, leaves, prints, sticks};
-use std::alloc::AllocError;
+use std::alloc::Global;
 
-#[test]
-fn a_line_has_a_block(rt: HostRuntime) {
-    for (input, output) in examples() {
-        prints(&rt, rt.alloc(), input, output);
-    }
+/// Room for every output, in bytes.
+const ROOM: usize = 512;
+
+// Whether a run to a sink with room for so many bytes ends so, and writes this. What is written is flushed unless the
+// sink failed, and it fails once.
+fn leaves(
+    alloc: Global,
+    input: &[u8],
+    room: usize,
+    wanted: Result<(), RunError>,
+    output: &[u8],
+) -> bool {
+    let mut bytes = [0; ROOM];
+    let mut source = MemorySource::new(input);
+    let mut sink = MemorySink::new(&mut bytes[..room.min(ROOM)]);
+    run(alloc, &mut source, &mut sink) == wanted
+        && sink.written() == output
+        && sink.flushed() == wanted.is_ok()
+        && sink.failures() == u64::from(wanted.is_err())
 }
 
 #[test]
-fn a_source_that_fails_leaves_nothing_written(rt: HostRuntime) {
-    let wanted = (Err(RunError::Read), &[][..], false, 0);
-    for (input, _) in examples() {
-        assert!(rt; input.len() < ROOM);
-        for left in 0..=input.len() {
-            let mut source = FailingSource {
-                rest: input,
-                left,
-                failures: 0,
-            };
-            leaves(&rt, rt.alloc(), &mut source, ROOM, wanted);
-            assert_eq!(rt; source.failures(), 1);
-        }
+fn a_line_has_a_block(rt: HostRuntime) {
+    for (input, output) in EXAMPLES {
+        assert!(rt; leaves(rt.alloc(), input, ROOM, Ok(()), output));
     }
 }
 
 #[test]
 fn a_sink_that_is_full_has_the_beginning(rt: HostRuntime) {
-    for (input, output) in examples() {
+    for (input, output) in EXAMPLES {
         for n in 0..output.len() {
-            let mut source = MemorySource::new(input);
-            let wanted = (Err(RunError::Write), &output[..n], false, 1);
-            leaves(&rt, rt.alloc(), &mut source, n, wanted);
+            assert!(rt; leaves(rt.alloc(), input, n, Err(RunError::Write), &output[..n]));
         }
-        let mut source = MemorySource::new(input);
-        leaves(
-            &rt,
-            rt.alloc(),
-            &mut source,
-            output.len(),
-            (Ok(()), output, true, 0),
-        );
+        assert!(rt; leaves(rt.alloc(), input, output.len(), Ok(()), output));
     }
+}
+
+// Whether a run over a source that fails after so many bytes ends so, with nothing written. The source counts the failure.
+fn fails_to_read(alloc: Global, input: &[u8], left: usize, before: u64, after: u64) -> bool {
+    let mut bytes = [0; ROOM];
+    let mut source = FailingSource {
+        rest: input,
+        left,
+        failures: before,
+    };
+    let mut sink = MemorySink::new(&mut bytes);
+    run(alloc, &mut source, &mut sink) == Err(RunError::Read)
+        && source.failures() == after
+        && sink.written().is_empty()
+        && !sink.flushed()
+        && sink.failures() == 0
+}
+
+#[test]
+fn a_source_that_fails_leaves_nothing_written(rt: HostRuntime) {
+    for (input, _) in EXAMPLES {
+        for left in 0..=input.len() {
+            assert!(rt; fails_to_read(rt.alloc(), input, left, 0, 1));
+        }
+        assert!(rt; fails_to_read(rt.alloc(), input, 0, u64::MAX, u64::MAX));
+    }
+}
+
+// Whether a run to a sink that takes one byte at a time, and so many, fails to write, with this written. The sink counts
+// the failure.
+fn sticks(alloc: Global, input: &[u8], room: usize, output: &[u8], counts: (u64, u64)) -> bool {
+    let mut bytes = [0; ROOM];
+    let mut source = MemorySource::new(input);
+    let mut sink = StuckSink {
+        room: &mut bytes[..room.min(ROOM)],
+        len: 0,
+        failures: counts.0,
+    };
+    run(alloc, &mut source, &mut sink) == Err(RunError::Write)
+        && sink.written() == output
+        && sink.failures() == counts.1
 }
 
 #[test]
 fn a_sink_that_takes_no_byte_has_the_beginning(rt: HostRuntime) {
-    for (input, output) in examples() {
+    for (input, output) in EXAMPLES {
         for n in 0..output.len() {
-            sticks(&rt, rt.alloc(), input, &output[..n]);
+            assert!(rt; sticks(rt.alloc(), input, n, &output[..n], (0, 1)));
         }
     }
 }
 
 #[test]
 fn a_flush_that_fails_is_a_write_that_fails(rt: HostRuntime) {
-    for (input, output) in examples() {
-        for (before, after) in [(0, 1), (u64::MAX - 1, u64::MAX), (u64::MAX, u64::MAX)] {
-            let mut room = [0; ROOM];
-            let mut source = MemorySource::new(input);
-            let mut sink = StuckSink {
-                room: &mut room,
-                len: 0,
-                failures: before,
-                flushed: false,
-                can_flush: false,
-            };
-            let result = run(rt.alloc(), &mut source, &mut sink);
-            let found = (result, sink.written(), sink.flushed(), sink.failures());
-            assert_eq!(rt; found, (Err(RunError::Write), output, false, after));
-        }
+    for (input, output) in EXAMPLES {
+        assert!(rt; sticks(rt.alloc(), input, ROOM, output, (0, 1)));
+        assert!(rt; sticks(rt.alloc(), input, ROOM, output, (u64::MAX - 1, u64::MAX)));
+        assert!(rt; sticks(rt.alloc(), input, ROOM, output, (u64::MAX, u64::MAX)));
     }
-}
-
-#[test]
-fn a_count_at_its_last_value_stays(rt: HostRuntime) {
-    let mut source = FailingSource {
-        rest: b"\n",
-        left: 0,
-        failures: u64::MAX,
-    };
-    let wanted = (Err(RunError::Read), &[][..], false, 0);
-    leaves(&rt, rt.alloc(), &mut source, 0, wanted);
-    assert_eq!(rt; source.failures(), u64::MAX);
 }
 
 #[test]
 fn what_was_written_before_stays(rt: HostRuntime) {
     let mut room = [0; 64];
     let mut sink = MemorySink::new(&mut room);
-    for input in [b"0g\n", b"\r\n\n"] {
-        let mut source = MemorySource::new(input);
-        assert_eq!(rt; run(rt.alloc(), &mut source, &mut sink), Ok(()));
-    }
-    assert_eq!(rt;
-        sink.written(),
-        b"not hex\n\nEthernetII (wire::Error)\n\nEthernetII (wire::Error)\n\n".as_slice()
-    );
-}
-
-#[test]
-fn errors_print_their_words(rt: HostRuntime) -> Result<(), AllocError> {
-    for (error, text) in [
-        (RunError::Read, "ip_frames: read failed"),
-        (RunError::Write, "ip_frames: write failed"),
-        (RunError::Memory, "ip_frames: out of memory"),
-    ] {
-        assert_eq!(rt; format!(in rt.alloc(); "{error}")?.as_str(), text);
-    }
-    Ok(())
+    let mut source = MemorySource::new(b"0g\n");
+    assert!(rt; run(rt.alloc(), &mut source, &mut sink).is_ok());
+    let mut source = MemorySource::new(b"\r\n\n");
+    assert!(rt; run(rt.alloc(), &mut source, &mut sink).is_ok());
+    let output: &[u8] = b"not hex\n\nEthernetII (wire::Error)\n\nEthernetII (wire::Error)\n\n";
+    assert!(rt; sink.written() == output);
 }

@@ -1,6 +1,6 @@
 //! Devices that fail.
 
-ghost use Rattle.std.specs.Prelude.{[], ◌≡◌, ◌≤◌, Some, length, take};
+ghost use Rattle.std.specs.Prelude.{[], ◌≡◌, ◌≤◌, Some, false, length, take};
 
 use crate::devices::{Failed, FrameSink, FrameSource};
 
@@ -35,14 +35,12 @@ impl FrameSource for FailingSource<'_> {
     }
 }
 
-/// A sink that takes one byte at a time, then none, and whose flush may fail.
+/// A sink that takes one byte at a time, and then none. Its flush fails.
 #[derive(Drop)]
 pub struct StuckSink<'a> {
     pub room: &'a mut [u8],
     pub len: usize,
     pub failures: u64,
-    pub flushed: bool,
-    pub can_flush: bool,
     ghost within: { len ≤ length room.now },
 }
 
@@ -59,7 +57,7 @@ impl FrameSink for StuckSink<'_> {
 
     ghost failures = { λ s. s.failures };
 
-    ghost flushed = { λ s. s.flushed };
+    ghost flushed = { λ _. false };
 
     ghost kept = { λ _. [] };
 
@@ -73,17 +71,12 @@ impl FrameSink for StuckSink<'_> {
         }
         self.room[self.len] = bytes[0];
         self.len += 1;
-        self.flushed = false;
         Ok(1)
     }
 
     fn flush(&mut self) -> Result<(), Failed> {
-        if !self.can_flush {
-            self.failures = self.failures.saturating_add(1);
-            return Err(Failed);
-        }
-        self.flushed = true;
-        Ok(())
+        self.failures = self.failures.saturating_add(1);
+        Err(Failed)
     }
 
     fn failures(&self) -> u64 {
@@ -91,6 +84,6 @@ impl FrameSink for StuckSink<'_> {
     }
 
     fn flushed(&self) -> bool {
-        self.flushed
+        false
     }
 }

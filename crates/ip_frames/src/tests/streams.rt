@@ -2,11 +2,11 @@
 
 ghost use Rattle.std.specs.Prelude.{Some};
 
-use crate::devices::FrameSource;
-use crate::run::RunError;
-use crate::streams::StreamSource;
-use crate::tests::runs::{ROOM, leaves, streams};
-use std::alloc::AllocError;
+use crate::devices::{FrameSink, FrameSource};
+use crate::memory::MemorySink;
+use crate::run::{RunError, run};
+use crate::streams::{StreamSink, StreamSource, run_streams};
+use std::alloc::{AllocError, Global};
 use std::io::{self, ErrorKind, Read, Write};
 
 const INPUT: &[u8] = b"\n0g\n";
@@ -24,11 +24,10 @@ impl Read for InterruptedReader<'_> {
     ghost remaining = { λ s. Some s.rest.now };
 
     fn read(&mut self, buf: &mut [u8]) -> io::Result<usize> {
-        if !self.ready {
-            self.ready = true;
+        self.ready = !self.ready;
+        if self.ready {
             return Err(io::Error::from(ErrorKind::Interrupted));
         }
-        self.ready = false;
         let n = buf.len().min(self.rest.len()).min(1);
         let (front, rest) = self.rest.split_at(n);
         buf[..n].copy_from_slice(front);
@@ -37,20 +36,32 @@ impl Read for InterruptedReader<'_> {
     }
 }
 
-/// A writer that is interrupted before each write, and takes some bytes at a time.
+#[test]
+fn an_interruption_is_no_failure(rt: HostRuntime) {
+    let mut room = [0; 64];
+    let mut source = StreamSource::new(InterruptedReader {
+        rest: INPUT,
+        ready: false,
+    });
+    let mut sink = MemorySink::new(&mut room);
+    assert!(rt; run(rt.alloc(), &mut source, &mut sink).is_ok());
+    assert!(rt; source.failures() == 0 && sink.written() == OUTPUT);
+}
+
+/// A writer with an error before each write, which takes some bytes at a time.
 #[derive(Drop)]
-struct InterruptedWriter<'a> {
+struct FailingWriter<'a> {
     taken: &'a mut Vec<u8>,
+    error: ErrorKind,
     ready: bool,
 }
 
-impl Write for InterruptedWriter<'_> {
+impl Write for FailingWriter<'_> {
     fn write(&mut self, buf: &[u8]) -> io::Result<usize> {
-        if !self.ready {
-            self.ready = true;
-            return Err(io::Error::from(ErrorKind::Interrupted));
+        self.ready = !self.ready;
+        if self.ready {
+            return Err(io::Error::from(self.error));
         }
-        self.ready = false;
         self.taken.write(&buf[..buf.len().min(4096)])
     }
 
@@ -59,102 +70,54 @@ impl Write for InterruptedWriter<'_> {
     }
 }
 
-/// A writer whose first write fails.
-#[derive(Drop)]
-struct FailingWriter<'a> {
-    taken: &'a mut Vec<u8>,
-    failed: bool,
-}
-
-impl Write for FailingWriter<'_> {
-    fn write(&mut self, buf: &[u8]) -> io::Result<usize> {
-        if !self.failed {
-            self.failed = true;
-            return Err(io::Error::from(ErrorKind::StorageFull));
-        }
-        self.taken.write(buf)
-    }
-
-    fn flush(&mut self) -> io::Result<()> {
-        Ok(())
-    }
-}
-
-#[test]
-fn an_interruption_is_no_failure(rt: HostRuntime) {
-    let mut source = StreamSource::new(InterruptedReader {
-        rest: INPUT,
-        ready: false,
-    });
-    leaves(
-        &rt,
-        rt.alloc(),
-        &mut source,
-        ROOM,
-        (Ok(()), OUTPUT, true, 0),
-    );
-    assert_eq!(rt; source.failures(), 0);
+// Whether a run to a writer ends so. All is flushed unless it fails, and it fails once.
+fn ends<W: Write + Drop>(
+    alloc: Global,
+    input: &[u8],
+    writer: W,
+    wanted: Result<(), RunError>,
+) -> Result<bool, AllocError> {
+    let mut source = StreamSource::new(input);
+    let mut sink = StreamSink::new(alloc, writer)?;
+    let result = run_streams(alloc, &mut source, &mut sink);
+    Ok(
+        result == wanted
+            && sink.flushed() == wanted.is_ok()
+            && sink.failures() == u64::from(wanted.is_err()),
+    )
 }
 
 #[test]
 fn a_writer_that_is_full_has_the_beginning(rt: HostRuntime) -> Result<(), AllocError> {
     for n in 0..OUTPUT.len() {
-        let mut room = [0; ROOM];
-        assert!(rt; n < ROOM);
-        streams(
-            &rt,
-            rt.alloc(),
-            INPUT,
-            &mut room[..n],
-            (Err(RunError::Write), 1, false),
-        )?;
-        assert_eq!(rt; &room[..n], &OUTPUT[..n]);
+        let mut room = [0; 64];
+        let wanted = Err(RunError::Write);
+        assert!(rt; n < 64 && ends(rt.alloc(), INPUT, &mut room[..n], wanted)?);
+        assert!(rt; OUTPUT.starts_with(&room[..n]));
     }
     Ok(())
 }
 
-#[test]
-fn a_buffer_that_is_full_is_written(rt: HostRuntime) -> Result<(), AllocError> {
-    let mut input = Vec::new(rt.alloc());
-    let mut output = Vec::new(rt.alloc());
-    for _ in 0..10000 {
-        input.extend_from_slice(INPUT)?;
-        output.extend_from_slice(OUTPUT)?;
-    }
-    let mut written = Vec::new(rt.alloc());
-    streams(
-        &rt,
-        rt.alloc(),
-        input.as_slice(),
-        &mut written,
-        (Ok(()), 0, true),
-    )?;
-    assert!(rt; written == output);
-    Ok(())
-}
+// What is written for `INPUT` and a line of zeros starts so.
+const LONG_OUTPUT: &[u8] = b"EthernetII (wire::Error)\n\nnot hex\n\n\
+    EthernetII src=00-00-00-00-00-00 dst=00-00-00-00-00-00 type=0x0000\nagain 0000";
 
 // The last block does not fit the buffer.
 #[test]
 fn a_writer_that_is_interrupted_takes_all(rt: HostRuntime) -> Result<(), AllocError> {
-    let zeros = vec![in rt.alloc(); b'0'; 80000]?;
-    let mut input = Vec::new(rt.alloc());
-    input.extend_from_slice(INPUT)?;
-    input.extend_from_slice(zeros.as_slice())?;
-    let mut output = Vec::new(rt.alloc());
-    output.extend_from_slice(OUTPUT)?;
-    output.extend_from_slice(
-        b"EthernetII src=00-00-00-00-00-00 dst=00-00-00-00-00-00 type=0x0000\nagain ",
-    )?;
-    output.extend_from_slice(zeros.as_slice())?;
-    output.extend_from_slice(b"\n\n")?;
-
+    let mut input = vec![in rt.alloc(); b'0'; 80004]?;
+    input.as_mut_slice()[..4].copy_from_slice(INPUT);
     let mut taken = Vec::new(rt.alloc());
-    let writer = InterruptedWriter {
+    let writer = FailingWriter {
         taken: &mut taken,
+        error: ErrorKind::Interrupted,
         ready: false,
     };
-    streams(&rt, rt.alloc(), input.as_slice(), writer, (Ok(()), 0, true))?;
-    assert!(rt; taken == output);
+    assert!(rt; ends(rt.alloc(), input.as_slice(), writer, Ok(()))?);
+    let bytes = taken.as_slice();
+    assert!(rt;
+        bytes.len() == 80110 && bytes.starts_with(LONG_OUTPUT) && bytes.ends_with(b"0000\n\n")
+    );
     Ok(())
 }
 
@@ -163,10 +126,10 @@ fn what_was_reported_as_failed_is_not_written_again(rt: HostRuntime) -> Result<(
     let mut taken = Vec::new(rt.alloc());
     let writer = FailingWriter {
         taken: &mut taken,
-        failed: false,
+        error: ErrorKind::StorageFull,
+        ready: false,
     };
-    let wanted = (Err(RunError::Write), 1, false);
-    streams(&rt, rt.alloc(), INPUT, writer, wanted)?;
+    assert!(rt; ends(rt.alloc(), INPUT, writer, Err(RunError::Write))?);
     assert!(rt; taken.is_empty());
     Ok(())
 }
