@@ -16,6 +16,13 @@ struct edit {
     struct change after[MORE_CHANGES];
 };
 
+/* The field has the sum of the pseudo-header: of a segment that is valid as it is, and of one that is not. */
+#define LOOKS_VALID {{48, 0x4f}, {49, 0x7c}, {50, 0x84}, {51, 0x32}}
+#define LOOKS_LEFT {{50, 0x84}, {51, 0x32}}
+#define NEW_ADDR {24, 0xfa}, {25, 0xc3}, {30, 0xc6}, {31, 0x33}, {32, 0x64}, {33, 0x07}
+#define NEW_SOURCE {24, 0xe8}, {25, 0xf5}, {26, 0xcb}, {28, 0x71}, {29, 0x07}
+#define NEW_DESTINATION6 {38, 0x20}, {39, 0x01}, {40, 0x0d}, {41, 0xb8}, {53, 0x07}
+
 static const struct edit edited[] = {
     {&ping, {{0, 0}}, HOP_LIMIT, 0, 0, 1, {{22, 0x01}, {24, 0xd4}}},
     {&syn, {{0, 0}}, HOP_LIMIT, 0, 0, 255, {{22, 0xff}, {24, 0xa3}, {25, 0xfb}}},
@@ -101,12 +108,73 @@ static const struct edit edited[] = {
     {&echo_request6, {{56, 0x00}}, FILL, 0, 0, 0, {{56, 0x6e}}},
     {&fragment4_first, {{0, 0}}, FILL, 0, 0, 0, {{0, 0}}},
     {&arp4, {{0, 0}}, FILL, 0, 0, 0, {{0, 0}}},
+    /* hop limit and DSCP */
+    {&udp4_by_hand, {{0, 0}}, HOP_LIMIT, 0, 0, 0x11, {{22, 0x11}, {24, 0xe6}}},
+    {&udp6_by_hand, {{0, 0}}, HOP_LIMIT, 0, 0, 1, {{21, 0x01}}},
+    {&udp4_by_hand, {{13, 0x06}}, HOP_LIMIT, 0, 0, 1, {{0, 0}}},
+    {&udp4_by_hand, {{14, 0x55}}, HOP_LIMIT, 0, 0, 1, {{0, 0}}},
+    {&udp4_by_hand, {{17, 0x21}}, HOP_LIMIT, 0, 0, 1, {{0, 0}}}, /* a packet that is cut */
+    {&udp6_by_hand, {{20, 0}}, HOP_LIMIT, 0, 0, 63, {{21, 63}}}, /* before hop-by-hop options */
+    {&syn, {{0, 0}}, DSCP, 0, 0, 46, {{15, 0xb8}, {25, 0x44}}},
+    {&syn, {{15, 0xb8}, {25, 0x44}}, DSCP, 0, 0, 64, {{0, 0}}},
+    {&syn, {{15, 0xb8}, {25, 0x44}}, DSCP, 0, 0, 0, {{15, 0}, {25, 0xfc}}},
+    {&udp6_by_hand, {{15, 0x3a}}, DSCP, 0, 0, 46, {{14, 0x6b}, {15, 0xba}}}, /* ECN and the flow label stay */
+    /* addresses */
+    {&syn, {{0, 0}}, ADDR, 0, "203.0.113.7", 0, {NEW_SOURCE, {50, 0x5e}, {51, 0xb7}}},
+    {&udp4_by_hand, {{0, 0}}, ADDR, 1, "203.0.113.7", 0,
+     {{24, 0x3d}, {25, 0x1c}, {30, 0xcb}, {31, 0x00}, {32, 0x71}, {33, 0x07}, {40, 0x97}, {41, 0xef}}},
+    {&udp4_by_hand, {{0, 0}}, ADDR, 0, "2001:db8::7", 0, {{0, 0}}},
+    {&udp6_by_hand, {{0, 0}}, ADDR, 0, "2001:db8::7", 0,
+     {{22, 0x20}, {23, 0x01}, {24, 0x0d}, {25, 0xb8}, {37, 0x07}, {60, 0xd3}, {61, 0x0f}}},
+    {&udp6_by_hand, {{0, 0}}, ADDR, 1, "2001:db8::7", 0, {NEW_DESTINATION6, {60, 0xd3}, {61, 0x91}}},
+    {&udp6_by_hand, {{20, 0}}, ADDR, 0, "2001:db8::7", 0, {{0, 0}}}, /* hop-by-hop options hide the UDP packet */
+    /* ports */
+    {&syn, {{0, 0}}, PORT, 0, 0, 0x1234, {{34, 0x12}, {35, 0x34}, {50, 0xb3}, {51, 0xfa}}},
+    {&udp4_by_hand, {{0, 0}}, PORT, 1, 0, 0, {{37, 0x00}, {41, 0x82}}},
+    {&udp6_by_hand, {{0, 0}}, PORT, 1, 0, 53, {{57, 0x35}, {61, 0x1b}}},
+    {&udp4_by_hand, {{40, 0}, {41, 0}}, PORT, 1, 0, 0, {{37, 0x00}}}, /* no checksum */
+    {&syn, {{20, 0x20}}, PORT, 0, 0, 0x1234, {{34, 0x12}, {35, 0x34}, {50, 0xb3}, {51, 0xfa}}}, /* a first fragment */
+    /* a later fragment */
+    {&syn, {{20, 0x20}, {21, 0x01}}, PORT, 0, 0, 0x1234, {{0, 0}}},
+    {&syn, {{20, 0x20}, {21, 0x01}}, BYTES, 34, "01", 0, {{0, 0}}},
+    {&syn, {{20, 0x20}, {21, 0x01}}, BYTES, 34, "", 0, {{34, 0xed}}},
+    {&syn, {{20, 0x20}, {21, 0x01}}, FILL, 0, 0, 0, {{0, 0}}},
+    /* bytes: payload, half of each address, the maximum segment size */
+    {&data, {{0, 0}}, BYTES, 67, "656c70", 0, {{51, 0xf3}, {69, 0x70}}},
+    {&data, {{0, 0}}, BYTES, 70, "21", 0, {{50, 0x01}, {51, 0xf8}, {70, 0x21}}},
+    {&syn, {{0, 0}}, BYTES, 29, "630a", 0, {{24, 0x18}, {25, 0x9b}, {29, 0x63}, {30, 0x0a}, {50, 0x8e}, {51, 0x5c}}},
+    {&syn, {{0, 0}}, BYTES, 56, "0500", 0, {{50, 0xd9}, {51, 0x71}, {57, 0x00}}},
+    /* a checksum that is left to the device */
+    {&syn, LOOKS_LEFT, PORT, 0, 0, 0x1234, {{34, 0x12}, {35, 0x34}}},
+    {&syn, LOOKS_LEFT, ADDR, 0, "203.0.113.7", 0, {NEW_SOURCE, {50, 0xfe}, {51, 0x38}}},
+    {&syn, LOOKS_LEFT, FILL, 0, 0, 0, {{50, 0xd8}, {51, 0xbd}}},
+    /* computed checksums, also of one that is right */
+    {&udp4_by_hand, {{40, 0}, {41, 0}}, FILL, 0, 0, 0, {{40, 0x12}, {41, 0x4d}}},
+    {&udp4_by_hand, {{0, 0}}, FILL, 0, 0, 0, {{40, 0x12}, {41, 0x4d}}},
+    {&udp4_by_hand, {{40, 0xff}, {41, 0xff}}, FILL, 0, 0, 0, {{40, 0x12}, {41, 0x4d}}},
+    {&udp6_by_hand, {{60, 0}, {61, 0}}, FILL, 0, 0, 0, {{60, 0x02}, {61, 0x4e}}},
+    {&udp4_by_hand, {{39, 7}}, FILL, 0, 0, 0, {{0, 0}}},
+    {&udp4_by_hand, {{39, 13}}, FILL, 0, 0, 0, {{0, 0}}},
+    {&udp4_by_hand, {{23, 47}}, FILL, 0, 0, 0, {{0, 0}}}, /* GRE */
+    /* ICMP: over IPv4 the checksum covers no address, over IPv6 it does */
+    {&echo12, {{0, 0}}, BYTES, 38, "4321", 0, {{36, 0x74}, {37, 0xa4}, {38, 0x43}, {39, 0x21}}},
+    {&echo12, {{0, 0}}, ADDR, 0, "203.0.113.7", 0, {{24, 0x37}, {25, 0xf9}, {26, 0xcb}, {28, 0x71}, {29, 0x07}}},
+    {&echo12_6, {{0, 0}}, ADDR, 0, "2001:db8::7", 0, {{37, 0x07}, {57, 0xc7}}},
+    {&echo12_6, {{0, 0}}, PORT, 0, 0, 1, {{0, 0}}},
+    {&echo12_6, {{0, 0}}, BYTES, 63, "7f", 0, {{57, 0xb7}, {63, 0x7f}}},
+    {&echo12_6, {{57, 0}, {63, 0x7f}}, FILL, 0, 0, 0, {{57, 0xb7}}},
+    /* a first fragment over IPv6, a later one, and a second fragment header */
+    {&udp6_fragment, {{0, 0}}, PORT, 1, 0, 53, {{65, 0x35}, {69, 0x1b}}},
+    {&udp6_fragment, {{0, 0}}, ADDR, 1, "2001:db8::7", 0, {NEW_DESTINATION6, {68, 0xd3}, {69, 0x91}}},
+    {&udp6_fragment, {{0, 0}}, FILL, 0, 0, 0, {{0, 0}}},
+    {&udp6_fragment, {{0, 0}}, BYTES, 61, "01", 0, {{0, 0}}},
+    {&udp6_fragment, {{57, 0x09}}, PORT, 1, 0, 53, {{0, 0}}},
+    {&udp6_fragment, {{57, 0x09}}, BYTES, 70, "01", 0, {{0, 0}}},
+    {&udp6_fragment, {{57, 0x09}}, ADDR, 1, "2001:db8::7", 0, {NEW_DESTINATION6}},
+    {&udp6_fragment, {{54, 44}}, ADDR, 1, "2001:db8::7", 0, {{0, 0}}},
+    {&udp6_fragment, {{54, 44}}, BYTES, 22, "01", 0, {{0, 0}}},
+    {&udp6_fragment, {{54, 44}}, BYTES, 16, "01", 0, {{16, 1}}},
 };
-
-/* The field has the sum of the pseudo-header: of a segment that is valid as it is, and of one that is not. */
-#define LOOKS_VALID {{48, 0x4f}, {49, 0x7c}, {50, 0x84}, {51, 0x32}}
-#define LOOKS_LEFT {{50, 0x84}, {51, 0x32}}
-#define NEW_ADDR {24, 0xfa}, {25, 0xc3}, {30, 0xc6}, {31, 0x33}, {32, 0x64}, {33, 0x07}
 
 /* What the caller says of the checksum. LK_GUESS updates one that is left to the device and looks valid, and makes a wrong
  * one valid that looks left to the device. */
@@ -189,21 +257,54 @@ static void set_too_many_bytes(void)
     CHECK(both_set_bytes(frame.at, frame.len, 42, frame.at, 0) == 1);
     CHECK(both_set_bytes(frame.at, frame.len, 42, frame.at, (size_t)LK_NO_ROOM) == 0);
     CHECK(both_set_bytes(frame.at, frame.len, 42, frame.at, (size_t)LK_MAX_LEN + 1) == 0);
+    frame = syn;
+    CHECK(both_set_bytes(frame.at, frame.len, SIZE_MAX, ping.at, 2) == 0);
+    CHECK(both_set_bytes(frame.at, frame.len, 5, ping.at, 0) == 0);
+    CHECK(both_set_bytes(frame.at, frame.len, 74, ping.at, 0) == 1);
+    CHECK(memcmp(frame.at, syn.at, syn.len) == 0);
 }
 
-void worked_edit(void)
+/* Bytes that say where the layers are, and bytes beside them. */
+static void set_each_byte(void)
 {
-    set_too_many_bytes();
+    static const size_t kept[] = {0, 13, 14, 16, 21, 23, 25, 46, 50, 51, 74}, written[] = {15, 22, 26, 34, 45, 47, 49, 52, 73};
+    const uint8_t byte = 0xff;
+    for (size_t i = 0; i < sizeof kept / sizeof kept[0]; i++) {
+        struct octets frame = syn;
+        CHECK_ROW(i, both_set_bytes(frame.at, frame.len, kept[i], &byte, 1) == 0);
+        CHECK_ROW(i, memcmp(frame.at, syn.at, syn.len) == 0);
+    }
+    for (size_t i = 0; i < sizeof written / sizeof written[0]; i++) {
+        struct octets frame = syn;
+        CHECK_ROW(i, both_set_bytes(frame.at, frame.len, written[i], &byte, 1) == 1);
+        CHECK_ROW(i, frame.at[written[i]] == 0xff);
+    }
+}
+
+static void edit_frames(void)
+{
     for (size_t i = 0; i < sizeof edited / sizeof edited[0]; i++) {
         struct octets frame = cut(edited[i].frame, edited[i].frame->len, edited[i].before);
         struct octets expected = edited_by(&edited[i]);
         CHECK_ROW(i, edits(&edited[i], &frame) == (edited[i].after[0].at != 0));
         CHECK_ROW(i, memcmp(frame.at, expected.at, frame.len) == 0);
     }
+}
+
+static void edit_frames_as_told(void)
+{
     for (size_t i = 0; i < sizeof told / sizeof told[0]; i++) {
         const struct edit *row = &told[i].edit;
         struct octets frame = cut(row->frame, row->frame->len, row->before), expected = edited_by(row);
         CHECK_ROW(i, edits_as(row, &frame, told[i].offload) == (row->after[0].at != 0));
         CHECK_ROW(i, memcmp(frame.at, expected.at, frame.len) == 0);
     }
+}
+
+void worked_edit(void)
+{
+    set_too_many_bytes();
+    set_each_byte();
+    edit_frames();
+    edit_frames_as_told();
 }
