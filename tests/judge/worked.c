@@ -85,6 +85,7 @@ void make_worked_calls(void)
     worked_values();
     worked_route();
     worked_nat();
+    worked_mappings();
     worked_icmp();
     worked_edit();
     worked_hosts();

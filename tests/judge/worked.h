@@ -6,7 +6,7 @@
 #include <string.h>
 #include "judge.h"
 
-enum { ROOM = 256, OLD = 0xa5, CHANGES = 5 };
+enum { ROOM = 256, OLD = 0xa5, CHANGES = 14 };
 
 struct octets {
     uint8_t at[ROOM];
@@ -72,6 +72,7 @@ void worked_write(void);
 void worked_values(void);
 void worked_route(void);
 void worked_nat(void);
+void worked_mappings(void);
 void worked_icmp(void);
 void worked_edit(void);
 void worked_hosts(void);

@@ -2,7 +2,7 @@
  * of those that are left to the device, which are the sums of RFC 1624 and RFC 768. */
 #include "worked.h"
 
-enum { HOP_LIMIT, DSCP, ADDR, PORT, BYTES, FILL, MORE_CHANGES = 12 };
+enum { HOP_LIMIT, DSCP, ADDR, PORT, BYTES, FILL };
 
 /* `before`: changes of the frame. `text`: an address, or the bytes. `after`: what the call changes then; none: it
  * returns 0. */
@@ -13,7 +13,7 @@ struct edit {
     size_t number; /* the side of an address or port, the offset of bytes */
     const char *text;
     unsigned value;
-    struct change after[MORE_CHANGES];
+    struct change after[CHANGES];
 };
 
 /* The field has the sum of the pseudo-header: of a segment that is valid as it is, and of one that is not. */
@@ -244,10 +244,8 @@ static int edits_as(const struct edit *row, struct octets *frame, int offload)
 
 static struct octets edited_by(const struct edit *row)
 {
-    struct octets frame = cut(row->frame, row->frame->len, row->before);
-    for (int i = 0; i < MORE_CHANGES && row->after[i].at; i++)
-        frame.at[row->after[i].at] = row->after[i].octet;
-    return frame;
+    struct octets before = cut(row->frame, row->frame->len, row->before);
+    return cut(&before, before.len, row->after);
 }
 
 /* A length above LK_MAX_LEN is not that of no bytes. A place after the UDP header has room for none. */
@@ -267,7 +265,8 @@ static void set_too_many_bytes(void)
 /* Bytes that say where the layers are, and bytes beside them. */
 static void set_each_byte(void)
 {
-    static const size_t kept[] = {0, 13, 14, 16, 21, 23, 25, 46, 50, 51, 74}, written[] = {15, 22, 26, 34, 45, 47, 49, 52, 73};
+    static const size_t kept[] = {0, 13, 14, 16, 21, 23, 25, 46, 50, 51, 74};
+    static const size_t written[] = {15, 22, 26, 34, 45, 47, 49, 52, 73};
     const uint8_t byte = 0xff;
     for (size_t i = 0; i < sizeof kept / sizeof kept[0]; i++) {
         struct octets frame = syn;

@@ -30,6 +30,33 @@ static const struct rejected not_translated[] = {
     {&syn, 74, {{47, 0x03}}, LK_BAD_TRANSPORT},
     {&syn, 74, {{73, 0x0b}}, LK_BAD_TRANSPORT},
     {&query, 46, {{34, 0}, {35, 0}}, LK_BAD_TRANSPORT}, /* a wrong checksum, and from port 0 */
+    {&query, 46, {{12, 0x86}, {13, 0xdd}}, LK_NOT_IP},
+    {&query, 14, {{0, 0}}, LK_BAD_HEADER},
+    {&query, 46, {{17, 0x21}}, LK_BAD_HEADER},
+    {&query, 46, {{24, 0x21}}, LK_WRONG_CHECKSUM},
+    {&query, 46, {{20, 0x20}, {24, 0x40}, {25, 0xd4}}, LK_FRAGMENT},
+    {&query, 46, {{23, 0x02}, {24, 0x20}, {25, 0xe3}}, LK_OTHER_PROTOCOL},
+    {&query, 46, {{40, 0xd3}}, LK_BAD_TRANSPORT},
+    {&query, 46, {{39, 0x0d}}, LK_BAD_TRANSPORT},
+    {&syn, 74, {{51, 0xbe}}, LK_BAD_TRANSPORT},
+    {&syn, 74, {{37, 0x51}}, LK_BAD_TRANSPORT},
+    {&syn, 74, {{37, 0x00}, {50, 0xd9}, {51, 0x0d}}, LK_BAD_TRANSPORT}, /* a valid checksum, and to port 0 */
+    /* Two faults in one frame. Where the IPv4 checksum is to be valid, it was computed anew (bytes 24 and 25). */
+    {&query, 46, {{13, 0x06}, {14, 0x65}}, LK_NOT_IP},
+    {&query, 46, {{13, 0x06}, {20, 0x20}}, LK_NOT_IP},
+    {&query, 46, {{14, 0x65}, {24, 0x21}}, LK_BAD_HEADER},
+    {&query, 46, {{14, 0x44}, {20, 0x20}}, LK_BAD_HEADER},
+    {&query, 46, {{17, 0x21}, {23, 0x02}}, LK_BAD_HEADER},
+    {&query, 46, {{20, 0x20}}, LK_WRONG_CHECKSUM},
+    {&query, 46, {{23, 0x02}}, LK_WRONG_CHECKSUM},
+    {&query, 46, {{24, 0x21}, {40, 0xd3}}, LK_WRONG_CHECKSUM},
+    {&query, 46, {{20, 0x20}, {23, 0x02}, {24, 0x40}, {25, 0xe3}}, LK_FRAGMENT},
+    {&query, 46, {{20, 0x20}, {24, 0x40}, {40, 0xd3}}, LK_FRAGMENT},
+    {&query, 46, {{23, 0x02}, {25, 0xe3}, {40, 0xd3}}, LK_OTHER_PROTOCOL},
+    {&query, 46, {{36, 0x00}, {37, 0x00}, {39, 0x07}, {40, 0xd3}}, LK_BAD_TRANSPORT},
+    /* A timestamp, and an echo with a code, each with a valid checksum. */
+    {&echo7, 46, {{34, 0x0d}, {36, 0x14}}, LK_OTHER_PROTOCOL},
+    {&echo7, 46, {{35, 0x01}, {37, 0x26}}, LK_OTHER_PROTOCOL},
     /* A timestamp, and an echo with a code, each with a wrong checksum. Then messages of 7, 1 and 2 bytes. */
     {&nat_request, 47, {{34, 0x0d}}, LK_OTHER_PROTOCOL},
     {&nat_request, 47, {{35, 0x01}}, LK_OTHER_PROTOCOL},
@@ -101,6 +128,60 @@ static void translate_one(void)
     CHECK(translate(&frame, LK_SOURCE, &other) == 0 && is_now(&frame, &syn_out));
 }
 
+#define NO_SUM {{40, 0}, {41, 0}}
+#define OF_0 {{34, 0}, {35, 0}, {40, 0x88}, {41, 0x18}}
+#define OUT_OF_0 {{34, 0}, {35, 0}, {40, 0x0e}, {41, 0x10}}
+#define OTHER_ID {18, 0xb6}, {19, 0xc9}
+#define NO_DATA {41, 0}, {42, 0}, {43, 0}, {44, 0}, {45, 0}
+
+/* A frame whose source, or destination, becomes the inside or the outside address with this port. */
+static const struct {
+    const struct octets *frame;
+    struct change before[CHANGES];
+    int side;
+    const struct lk_endpoint *end;
+    uint16_t port;
+    const struct octets *wanted;
+    struct change after[CHANGES];
+} translated[] = {
+    {&data_in, {{0, 0}}, LK_DESTINATION, &inside, 60784, &data, {{0, 0}}},
+    {&query_of_options, {{0, 0}}, LK_SOURCE, &outside, 40000, &query_of_options_out, {{0, 0}}},
+    /* no checksum; a computed one of 0, of UDP and of TCP */
+    {&query, NO_SUM, LK_SOURCE, &outside, 40000, &query_out, NO_SUM},
+    {&query, {{0, 0}}, LK_SOURCE, &outside, 0x0e10, &query_out, {{34, 0x0e}, {35, 0x10}, {40, 0xff}, {41, 0xff}}},
+    {&syn, {{0, 0}}, LK_SOURCE, &outside, 0x4c26, &syn_out, {{34, 0x4c}, {35, 0x26}, {50, 0}, {51, 0}}},
+    /* a source port of 0 */
+    {&query, {{0, 0}}, LK_SOURCE, &outside, 0, &query_out, OUT_OF_0},
+    {&query_out, OUT_OF_0, LK_SOURCE, &inside, 46563, &query, {{0, 0}}},
+    {&query, OF_0, LK_SOURCE, &outside, 40000, &query_out, {{0, 0}}},
+    {&query_out, {{0, 0}}, LK_SOURCE, &inside, 0, &query, OF_0},
+    /* an IPv4 checksum of 0xffff, which no sender computes (RFC 1624, section 4): it becomes 0 on the way back */
+    {&query, {OTHER_ID, {24, 0xff}, {25, 0xff}}, LK_SOURCE, &outside, 40000, &query_out,
+     {OTHER_ID, {24, 0x85}, {25, 0xf7}}},
+    {&query_out, {OTHER_ID, {24, 0x85}, {25, 0xf7}}, LK_SOURCE, &inside, 46563, &query,
+     {OTHER_ID, {24, 0x00}, {25, 0x00}}},
+    /* identifiers, also 0 */
+    {&echo7, {{0, 0}}, LK_SOURCE, &outside, 40000, &echo7_out, {{0, 0}}},
+    {&echo7_out, {{0, 0}}, LK_SOURCE, &inside, 7, &echo7, {{0, 0}}},
+    {&echo7_reply_in, {{0, 0}}, LK_DESTINATION, &inside, 7, &echo7_reply, {{0, 0}}},
+    {&echo7_reply_in, {{0, 0}}, LK_DESTINATION, &inside, 0, &echo7_reply, {{37, 0x2e}, {39, 0}}},
+    {&echo7, {{37, 0x2e}, {39, 0}}, LK_SOURCE, &outside, 40000, &echo7_out, {{0, 0}}},
+    /* a reply whose bytes are all 0: its checksum is 0xffff, since a sum of 0 is not valid */
+    {&echo7_reply_in, {{36, 0x63}, {37, 0xbf}, NO_DATA}, LK_DESTINATION, &inside, 0, &echo7_reply,
+     {{36, 0xff}, {37, 0xff}, {39, 0}, NO_DATA}},
+};
+
+static void translate_by_rows(void)
+{
+    for (size_t i = 0; i < ROWS(translated); i++) {
+        struct octets frame = cut(translated[i].frame, translated[i].frame->len, translated[i].before);
+        const struct octets wanted = cut(translated[i].wanted, translated[i].wanted->len, translated[i].after);
+        struct lk_endpoint end = *translated[i].end;
+        end.port = translated[i].port;
+        CHECK_ROW(i, translate(&frame, translated[i].side, &end) == 0 && is_now(&frame, &wanted));
+    }
+}
+
 static void translate_ports_of_0(void)
 {
     struct lk_endpoint no_port = outside;
@@ -112,8 +193,12 @@ static void translate_ports_of_0(void)
     frame = syn;
     CHECK(translate(&frame, LK_SOURCE, &no_port) == LK_ZERO_PORT && is_now(&frame, &syn));
     CHECK(translate(&frame, LK_DESTINATION, &no_port) == LK_ZERO_PORT && is_now(&frame, &syn));
-    frame = changed(changed(query, 40, 0), 41, 0); /* no checksum */
-    CHECK(translate(&frame, LK_SOURCE, &outside) == 0 && frame.at[40] == 0 && frame.at[41] == 0);
+    frame = response_in;
+    CHECK(translate(&frame, LK_DESTINATION, &no_port) == LK_ZERO_PORT && is_now(&frame, &response_in));
+    frame = data_in;
+    CHECK(translate(&frame, LK_DESTINATION, &no_port) == LK_ZERO_PORT && is_now(&frame, &data_in));
+    frame = changed(query, 40, 0xd3); /* a wrong checksum is the reason before it */
+    CHECK(translate(&frame, LK_DESTINATION, &no_port) == LK_BAD_TRANSPORT);
 }
 
 static void translate_rejects(void)
@@ -343,6 +428,7 @@ static void translate_one_echo(void)
 void worked_nat(void)
 {
     translate_one();
+    translate_by_rows();
     translate_ports_of_0();
     translate_rejects();
     translate_udp();
