@@ -64,9 +64,9 @@ void forward_frame(void)
 
 /* ---- routes ---- */
 
-enum { ROUTES = 40 };
+enum { ROUTES = 72 };
 
-/* A list of routes whose blocks often contain each other. */
+/* A list of routes whose blocks often contain each other. A large one divides the parts of its index. */
 static struct lk_route routes[ROUTES];
 
 /* An address in the block of a route, or beside it. */

@@ -140,6 +140,51 @@ static void answers_icmp(void)
     IGNORES(host, to_group);
 }
 
+/* A frame to a host, and the answer; 0: none. */
+static const struct {
+    const struct octets *frame;
+    struct change before[CHANGES];
+    const struct octets *answer;
+    struct change after[CHANGES];
+} pings[] = {
+    {&echo12, {{0, 0}}, &echo12_reply, {{0, 0}}},
+    {&echo12_6, {{0, 0}}, &echo12_reply6, {{0, 0}}},
+    /* DSCP 46 and an ECN mark: the reply has the DSCP (RFC 1812, section 4.3.2.5) */
+    {&echo12, {{15, 0xbb}, {24, 0xb1}, {25, 0x44}}, &echo12_reply, {{15, 0xb8}, {24, 0xb6}, {25, 0x19}}},
+    {&echo12_6, {{14, 0x6b}, {15, 0xb0}}, &echo12_reply6, {{14, 0x6b}, {15, 0x80}}},
+    {&echo12_reply, {{0, 0}}, 0, {{0, 0}}},
+    {&echo12, {{45, 0x21}}, 0, {{0, 0}}}, /* a wrong checksum */
+    {&solicit, {{21, 254}}, 0, {{0, 0}}}, /* over a router */
+};
+
+static void answers_pings(void)
+{
+    const struct lk_host host = asked_host(0, 0);
+    struct octets broadcast = echo12;
+    for (size_t i = 0; i < sizeof pings / sizeof *pings; i++) {
+        const struct octets frame = cut(pings[i].frame, pings[i].frame->len, pings[i].before);
+        if (pings[i].answer)
+            ANSWERS(host, frame, cut(pings[i].answer, pings[i].answer->len, pings[i].after));
+        else
+            IGNORES(host, frame);
+    }
+    memset(broadcast.at, 0xff, 6);
+    IGNORES(host, broadcast);
+}
+
+/* 0.0.0.0 and `::` stand for no address. */
+static void ignores_without_an_address(void)
+{
+    static const struct change to_0[CHANGES] = {{24, 0x74}, {25, 0x02}, {30, 0}, {32, 0}, {33, 0}};
+    static const struct change to_none6[CHANGES] = {{38, 0}, {39, 0}, {40, 0}, {41, 0}, {53, 0}, {56, 0xff}, {57, 0x88}};
+    const struct octets frame = cut(&echo12, echo12.len, to_0), frame6 = cut(&echo12_6, echo12_6.len, to_none6);
+    struct lk_host host = asked_host(0, 0);
+    host.ipv4 = addr("0.0.0.0");
+    host.ipv6 = addr("::");
+    IGNORES(host, frame);
+    IGNORES(host, frame6);
+}
+
 /* A bridge may send a frame of a group to each host by itself (RFC 6085). */
 static void answers_frames_to_itself(void)
 {
@@ -157,10 +202,12 @@ static void answers_frames_to_itself(void)
 /* Any value but 0 is a router, and R is all that differs. */
 static void answers_of_routers(void)
 {
+    static const struct change of_router[CHANGES] = {{56, 0x79}, {58, 0xa0}};
     struct lk_host router = asked_host(0, 0);
     router.echo_port = 0;
     router.is_router = 1;
     ANSWERS(router, solicit, router_advert);
+    ANSWERS(router, probe, cut(&advert_to_all, advert_to_all.len, of_router));
     ANSWERS(router, echo_request6, echo_reply6);
     ANSWERS(router, to_closed_port6, unreachable6);
     router.is_router = 128;
@@ -275,6 +322,8 @@ void worked_hosts(void)
     offers_of_hosts();
     ignores_damaged_frames();
     answers_icmp();
+    answers_pings();
+    ignores_without_an_address();
     answers_frames_to_itself();
     answers_of_routers();
     worked_lines("tests/data/calls/host.call", "tests/data/calls/host.txt");

@@ -180,7 +180,11 @@ static struct lk_interface own_interface(void)
 static void write_errors(void)
 {
     struct lk_interface own = own_interface();
+    struct octets padded = last_hop;
+    padded.len += 14;
+    memset(padded.at + last_hop.len, 0xee, 14);
     ERROR(expired, LK_HOP_LIMIT_EXPIRED, 0, last_hop);
+    ERROR(expired, LK_HOP_LIMIT_EXPIRED, 0, padded);
     ERROR(too_big, LK_PACKET_TOO_BIG, 32, last_hop);
     ERROR(no_route, LK_ROUTE_MISSING, 0, last_hop);
     ERROR(no_neighbour, LK_NEIGHBOUR_MISSING, 9, last_hop);
@@ -207,7 +211,8 @@ static void write_no_errors(void)
         changed(last_hop, 24, 3),    /* a wrong checksum of the IPv4 header */
         changed(last_hop6, 38, 255), /* to a group of IPv6 */
         changed(last_hop6, 20, 43),  /* an extension header */
-        changed(expired6, 5, 2),     /* an error */
+        changed(expired, 5, 2),      /* an error */
+        changed(expired6, 5, 2),
     };
     NO_ERROR(LK_NO_PROBLEM, 0, last_hop);
     NO_ERROR(7, 0, last_hop);

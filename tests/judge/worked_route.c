@@ -28,6 +28,25 @@ static const struct {
     {&router_solicit, 70, {{14, 0x40}}, LK_BAD_HEADER},
     {&router_solicit, 70, {{21, 1}}, LK_EXPIRED},
     {&router_solicit, 70, {{21, 0}}, LK_EXPIRED},
+    {&query, 46, {{12, 0x86}}, LK_NOT_IP},
+    {&query, 46, {{14, 0x65}}, LK_BAD_HEADER},
+    {&query, 46, {{17, 0x21}}, LK_BAD_HEADER},
+    {&query, 46, {{25, 0xd5}}, LK_WRONG_CHECKSUM},
+    {&query, 46, {{22, 0x01}}, LK_WRONG_CHECKSUM},
+    {&router_solicit, 70, {{14, 0x45}}, LK_BAD_HEADER},
+    {&router_solicit, 70, {{19, 0x11}}, LK_BAD_HEADER},
+    /* two faults in one frame */
+    {&query, 46, {{13, 0x06}, {14, 0x65}}, LK_NOT_IP},
+    {&query, 46, {{13, 0x06}, {22, 0x01}}, LK_NOT_IP},
+    {&query, 46, {{14, 0x65}, {25, 0xd5}}, LK_BAD_HEADER},
+    {&query, 46, {{14, 0x44}, {22, 0x00}}, LK_BAD_HEADER},
+    {&query, 46, {{17, 0x21}, {22, 0x01}}, LK_BAD_HEADER},
+    {&query, 46, {{22, 0x01}, {25, 0xd4}}, LK_WRONG_CHECKSUM},
+    {&query, 46, {{22, 0x00}, {25, 0xd4}}, LK_WRONG_CHECKSUM},
+    {&router_solicit, 70, {{13, 0xde}, {14, 0x45}}, LK_NOT_IP},
+    {&router_solicit, 70, {{13, 0xde}, {21, 0x01}}, LK_NOT_IP},
+    {&router_solicit, 70, {{14, 0x45}, {21, 0x01}}, LK_BAD_HEADER},
+    {&router_solicit, 70, {{19, 0x11}, {21, 0x00}}, LK_BAD_HEADER},
 };
 
 /* The frame becomes these bytes. */
@@ -35,6 +54,22 @@ static void forwards(int line, struct octets frame, const struct octets *forward
 {
     check(__FILE__, line, 0, both_forward(frame.at, frame.len, src, dst) == 0);
     check(__FILE__, line, 1, memcmp(frame.at, forwarded->at, frame.len) == 0);
+}
+
+/* Each hop adds 0x0100 to the checksum of the IPv4 header. That of UDP is left to the device. */
+static void forward_until_it_expires(void)
+{
+    struct octets frame = changed(changed(query, 40, 0x84), 41, 0x21), expected = frame;
+    memcpy(expected.at, dst, 6);
+    memcpy(expected.at + 6, src, 6);
+    for (unsigned hop_limit = 63; hop_limit > 0; hop_limit--) {
+        expected.at[22]--;
+        expected.at[24]++;
+        forwards(__LINE__, frame, &expected);
+        frame = expected;
+    }
+    CHECK(frame.at[22] == 1 && both_forward(frame.at, frame.len, src, dst) == LK_EXPIRED);
+    CHECK(memcmp(frame.at, expected.at, frame.len) == 0);
 }
 
 static void forward(void)
@@ -49,6 +84,7 @@ static void forward(void)
         forwards(__LINE__, frame, &expected);
         frame = expected;
     }
+    forward_until_it_expires();
     for (size_t i = 0; i < sizeof not_forwarded / sizeof not_forwarded[0]; i++) {
         frame = expected = cut(not_forwarded[i].frame, not_forwarded[i].len, not_forwarded[i].changes);
         CHECK_ROW(i, both_forward(frame.at, frame.len, src, dst) == not_forwarded[i].rejection);
@@ -73,6 +109,8 @@ static const struct {
     {&syn, 74, {{50, 0x84}, {51, 0x32}}, 1260, {{56, 0x04}, {57, 0xec}}}, /* the sum of the pseudo-header */
     {&syn, 74, {{50, 0x84}, {51, 0x32}, {48, 0x4f}, {49, 0x7c}}, 1260, /* this sum, which is valid */
      {{50, 0x84}, {51, 0xfa}, {56, 0x04}, {57, 0xec}}},
+    {&syn, 74, {{0, 0}}, 1300, {{50, 0xd9}, {51, 0x5d}, {56, 0x05}, {57, 0x14}}},
+    {&syn, 74, {{47, 0x12}}, 1300, {{50, 0xd9}, {51, 0x5d}, {56, 0x05}, {57, 0x14}}}, /* SYN and ACK */
     {&syn, 74, {{0, 0}}, 1460, {{0, 0}}},
     {&syn, 74, {{0, 0}}, 65535, {{0, 0}}},
     {&syn, 74, {{47, 0x10}}, 1260, {{0, 0}}},             /* no SYN */
@@ -260,6 +298,7 @@ static const struct {
     {{{11, 0, 0, 1}, 4}, 1, LK_NO_ROUTE},
     {{{0x20, 0x01}, 6}, 65535, LK_NOT_REJECTED},
     {{{127, 0, 0, 1}, 4}, 1, LK_MARTIAN},
+    {{{127, 0, 0, 1}, 4}, 2, LK_MARTIAN},
     {{{0, 255, 255, 255}, 4}, 1, LK_MARTIAN},
     {{{224, 0, 0, 1}, 4}, 1, LK_MARTIAN},
     {{{255, 255, 255, 255}, 4}, 1, LK_MARTIAN},
@@ -294,8 +333,113 @@ static void check_sources(void)
     CHECK(both_check_source_by_table(routes, ROUTES, nodes, LK_MAX_LEN + 1, 0, 0, &sources[0].src, 1) == LK_NO_ROUTE);
 }
 
+/* ---- routes of Linux ---- */
+
+/* Routes that Linux 6 was given. Of the two for 10.1.0.0/16 the first has the lower metric. */
+static const struct {
+    const char *block, *next_hop;
+    uint16_t interface;
+} given_routes[] = {
+    {"192.0.2.0/24", 0, 1},
+    {"198.51.100.0/24", 0, 2},
+    {"10.1.2.0/24", 0, 2},
+    {"0.0.0.0/0", "192.0.2.1", 1},
+    {"10.0.0.0/8", "192.0.2.2", 1},
+    {"10.1.0.0/16", "198.51.100.2", 2},
+    {"10.1.2.128/25", "192.0.2.3", 1},
+    {"10.1.2.3/32", "192.0.2.4", 1},
+    {"10.1.0.0/16", "192.0.2.9", 1},
+    {"::/0", "2001:db8:ff::1", 1},
+    {"2001:db8::/32", "2001:db8:fe::2", 2},
+    {"2001:db8:1::/48", "2001:db8:ff::3", 1},
+    {"2001:db8:1::8/125", 0, 2},
+};
+enum { GIVEN = sizeof given_routes / sizeof *given_routes, IPV4_GIVEN = 9, GIVEN_CELLS = LK_ROUTE_TABLE_LEN(GIVEN) };
+
+/* An address and the place of its route, as `ip route get` found it. */
+static const struct {
+    const char *addr;
+    ptrdiff_t route;
+} found_routes[] = {
+    {"8.8.8.8", 3}, {"9.255.255.255", 3}, {"10.0.0.0", 4}, {"10.255.255.255", 4}, {"11.0.0.0", 3}, {"10.1.0.0", 5},
+    {"10.1.255.255", 5}, {"10.2.0.0", 4}, {"10.1.2.0", 2}, {"10.1.2.127", 2}, {"10.1.2.128", 6}, {"10.1.2.255", 6},
+    {"10.1.2.3", 7}, {"10.1.2.2", 2}, {"10.1.2.4", 2}, {"10.1.3.3", 5}, {"2001:db7:ffff::1", 9}, {"2001:db8::1", 10},
+    {"2001:db8:0:ffff::1", 10}, {"2001:db8:1::1", 11}, {"2001:db8:1::7", 11}, {"2001:db8:1::8", 12},
+    {"2001:db8:1::f", 12}, {"2001:db8:1::10", 11}, {"2001:db8:2::", 10}, {"2001:db9::", 9},
+};
+
+/* A source address, and whether it may come in by an interface. */
+static const struct {
+    const char *src;
+    uint16_t interface;
+    int rejection;
+} given_sources[] = {
+    {"10.1.2.3", 1, LK_NOT_REJECTED}, {"10.1.2.4", 2, LK_NOT_REJECTED}, {"2001:db8:1::8", 2, LK_NOT_REJECTED},
+    {"10.1.2.3", 2, LK_OTHER_INTERFACE}, {"198.51.100.7", 1, LK_OTHER_INTERFACE},
+    {"2001:db8:1::7", 2, LK_OTHER_INTERFACE}, {"169.254.1.1", 1, LK_NOT_REJECTED}, {"fe80::1", 1, LK_NOT_REJECTED},
+    {"0.0.0.0", 1, LK_MARTIAN}, {"0.1.2.3", 1, LK_MARTIAN}, {"127.0.0.1", 1, LK_MARTIAN}, {"224.0.0.1", 2, LK_MARTIAN},
+    {"240.0.0.1", 1, LK_MARTIAN}, {"255.255.255.255", 1, LK_MARTIAN}, {"::", 1, LK_MARTIAN}, {"::1", 1, LK_MARTIAN},
+    {"ff02::1", 2, LK_MARTIAN}, {"::ffff:192.0.2.1", 1, LK_MARTIAN},
+};
+
+static struct lk_route linux_routes[GIVEN];
+static struct lk_route_node linux_nodes[GIVEN];
+static uint64_t linux_cells[GIVEN_CELLS];
+
+/* Makes the index and the table of `count` routes of Linux. */
+static void index_linux(size_t first, size_t len)
+{
+    memset(linux_routes, 0, sizeof linux_routes);
+    for (size_t i = 0; i < len; i++) {
+        const char *block = given_routes[first + i].block, *next_hop = given_routes[first + i].next_hop;
+        CHECK_ROW(i, both_parse_block(block, strlen(block), &linux_routes[i].block) == 1);
+        if (next_hop)
+            linux_routes[i].next_hop = addr(next_hop);
+        linux_routes[i].interface = given_routes[first + i].interface;
+    }
+    CHECK(both_index_routes(linux_routes, len, linux_nodes, len) == (ptrdiff_t)len);
+    CHECK(both_make_route_table(linux_nodes, len, linux_cells, GIVEN_CELLS) == (ptrdiff_t)LK_ROUTE_TABLE_LEN(len));
+}
+
+/* The route, by the index, by the table and without it. */
+static int leads(size_t len, const char *text, ptrdiff_t route)
+{
+    const struct lk_addr to = addr(text);
+    return both_choose_route(linux_nodes, len, &to) == route &&
+           both_choose_route_by_table(linux_nodes, len, linux_cells, GIVEN_CELLS, &to) == route &&
+           both_choose_route_by_table(linux_nodes, len, 0, 0, &to) == route;
+}
+
+static void choose_as_linux(void)
+{
+    index_linux(0, GIVEN);
+    for (size_t i = 0; i < sizeof found_routes / sizeof *found_routes; i++)
+        CHECK_ROW(i, leads(GIVEN, found_routes[i].addr, found_routes[i].route));
+    for (size_t i = 0; i < sizeof given_sources / sizeof *given_sources; i++) {
+        const struct lk_addr src = addr(given_sources[i].src);
+        uint16_t interface = given_sources[i].interface;
+        CHECK_ROW(i, both_check_source(linux_routes, GIVEN, linux_nodes, GIVEN, &src, interface) ==
+                         given_sources[i].rejection);
+        CHECK_ROW(i, both_check_source_by_table(linux_routes, GIVEN, linux_nodes, GIVEN, linux_cells, GIVEN_CELLS, &src,
+                                                interface) == given_sources[i].rejection);
+    }
+}
+
+/* Routes of one version, and no routes. */
+static void choose_none(void)
+{
+    index_linux(0, IPV4_GIVEN);
+    CHECK(leads(IPV4_GIVEN, "10.1.2.3", 7) && leads(IPV4_GIVEN, "2001:db8::1", -1));
+    index_linux(IPV4_GIVEN, GIVEN - IPV4_GIVEN);
+    CHECK(leads(GIVEN - IPV4_GIVEN, "10.1.2.3", -1) && leads(GIVEN - IPV4_GIVEN, "2001:db8::1", 1));
+    index_linux(0, 0);
+    CHECK(leads(0, "10.1.2.3", -1));
+}
+
 void worked_route(void)
 {
+    choose_as_linux();
+    choose_none();
     forward();
     clamp_mss();
     clamp_mss_as();
