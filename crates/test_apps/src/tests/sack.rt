@@ -3,6 +3,47 @@
 use ip_wire::TcpPacket;
 use test_promises::calls::tcp::sack_by_summary;
 
+/// Whether SACK is permitted, or the first range. By the search, and by the summary. `None` for an error.
+type InTwoWays<T> = [Option<T>; 2];
+
+/// The first options of a segment. Whether SACK is permitted, and the first range.
+const ROWS: [(&[u8], InTwoWays<bool>, InTwoWays<Option<(u32, u32)>>); 9] = [
+    (&[4, 2], [Some(true), Some(true)], [Some(None), Some(None)]),
+    (
+        &[1, 1],
+        [Some(false), Some(false)],
+        [Some(None), Some(None)],
+    ),
+    (
+        &[0, 4, 2],
+        [Some(true), Some(false)],
+        [Some(None), Some(None)],
+    ),
+    (&[0, 9, 1], [None, Some(false)], [None, Some(None)]),
+    (&[9, 1], [None, None], [None, None]),
+    (
+        &[5, 10, 0, 0, 0, 1, 0, 0, 0, 2],
+        [Some(false), Some(false)],
+        [Some(Some((1, 2))), Some(Some((1, 2)))],
+    ),
+    // Two options of the kind, with other ranges and with the same.
+    (
+        &[5, 10, 0, 0, 0, 1, 0, 0, 0, 2, 5, 10, 0, 0, 0, 3, 0, 0, 0, 4],
+        [Some(false), Some(false)],
+        [Some(Some((1, 2))), Some(Some((3, 4)))],
+    ),
+    (
+        &[5, 10, 0, 0, 0, 1, 0, 0, 0, 2, 5, 10, 0, 0, 0, 1, 0, 0, 0, 2],
+        [Some(false), Some(false)],
+        [Some(Some((1, 2))), Some(Some((1, 2)))],
+    ),
+    (
+        &[0, 5, 10, 0, 0, 0, 1, 0, 0, 0, 2],
+        [Some(false), Some(false)],
+        [Some(Some((1, 2))), Some(None)],
+    ),
+];
+
 /// Options of 20 bytes that begin with these, with zeros after them.
 fn padded(front: &[u8]) -> [u8; 40] {
     let mut segment = [0; 40];
@@ -13,52 +54,19 @@ fn padded(front: &[u8]) -> [u8; 40] {
     segment
 }
 
-/// Whether SACK is permitted, by the search and by the summary. `None` for an error.
-fn permitted(front: &[u8]) -> [Option<bool>; 2] {
-    match TcpPacket::new_checked(&padded(front)) {
-        Ok(packet) => {
-            let (search, _, summary) = sack_by_summary(&packet);
-            [search.ok(), summary.ok().map(|s| s.sack_permitted)]
-        }
-        Err(_) => [None, None],
-    }
-}
-
-/// The first range, by the search and by the summary. `None` for an error.
-fn range(front: &[u8]) -> [Option<Option<(u32, u32)>>; 2] {
-    match TcpPacket::new_checked(&padded(front)) {
-        Ok(packet) => {
-            let (_, search, summary) = sack_by_summary(&packet);
-            [
-                search.ok().map(|ranges| ranges[0]),
-                summary.ok().map(|s| s.sack_ranges[0]),
-            ]
-        }
-        Err(_) => [None, None],
-    }
-}
-
 #[test]
-fn finds_permission_in_two_ways(rt: HostRuntime) {
-    for (front, search, summary) in [
-        (&[4, 2][..], Some(true), Some(true)),
-        (&[1, 1], Some(false), Some(false)),
-        (&[0, 4, 2], Some(true), Some(false)),
-        (&[0, 9, 1], None, Some(false)),
-        (&[9, 1], None, None),
-    ] {
-        assert!(rt; permitted(front) == [search, summary], "{front:?}");
+fn finds_sack_in_two_ways(rt: HostRuntime) {
+    for (front, permitted, range) in ROWS {
+        let segment = padded(front);
+        let Ok(packet) = TcpPacket::new_checked(&segment) else {
+            assert!(rt; permitted == [None, None] && range == [None, None]);
+            continue;
+        };
+        let (by_search, ranges, summary) = sack_by_summary(&packet);
+        let (by_search, ranges, summary) = (by_search.ok(), ranges.ok(), summary.ok());
+        let found = [by_search, summary.map(|s| s.sack_permitted)];
+        assert!(rt; found == permitted, "{front:?}");
+        let first = [ranges.map(|all| all[0]), summary.map(|s| s.sack_ranges[0])];
+        assert!(rt; first == range, "{front:?}");
     }
-}
-
-#[test]
-fn finds_ranges_in_two_ways(rt: HostRuntime) {
-    let first = [5, 10, 0, 0, 0, 1, 0, 0, 0, 2];
-    let twice = [5, 10, 0, 0, 0, 1, 0, 0, 0, 2, 5, 10, 0, 0, 0, 3, 0, 0, 0, 4];
-    let equal = [5, 10, 0, 0, 0, 1, 0, 0, 0, 2, 5, 10, 0, 0, 0, 1, 0, 0, 0, 2];
-    let following = [0, 5, 10, 0, 0, 0, 1, 0, 0, 0, 2];
-    assert!(rt; range(&first) == [Some(Some((1, 2))), Some(Some((1, 2)))]);
-    assert!(rt; range(&twice) == [Some(Some((1, 2))), Some(Some((3, 4)))]);
-    assert!(rt; range(&equal) == [Some(Some((1, 2))), Some(Some((1, 2)))]);
-    assert!(rt; range(&following) == [Some(Some((1, 2))), Some(None)]);
 }

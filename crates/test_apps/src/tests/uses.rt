@@ -1,8 +1,8 @@
-//! Each use, on frames that are listed byte by byte.
+//! Each use, on frames that are listed byte by byte. `tests/judge/worked_route.c` has the MSS clamp.
 
+use super::changed;
 use app_short::allow_list::is_allowed;
 use app_short::flow_key::{Flow, FlowKey};
-use app_short::mss_clamp::clamp;
 use app_short::read_frame::udp_packet;
 use app_short::verify_checksum::{parse_udp_ports, verified_by_the_device};
 use app_short::write_frame::write_udp;
@@ -11,7 +11,6 @@ use ip_wire::{
     Ipv6Address, Ipv6Cidr, Ipv6Repr, UdpRepr,
 };
 use net_base::ChecksumCapabilities;
-use test_support::bytes::change;
 use test_support::captured::{ECHO_REQUEST, SYN};
 use test_support::udp_frames::{DST, FRAME, IPV6_FRAME, SRC};
 
@@ -48,76 +47,88 @@ const IPV6_PORTS: UdpRepr = UdpRepr {
     dst_port: 2,
 };
 
-/// Whether the first frame is read with another byte.
-fn reads_with(at: usize, octet: u8) -> bool {
-    let mut frame = FRAME;
-    change(&mut frame, &[(at, octet)]);
-    udp_packet(&frame).is_some()
-}
+/// A byte of the first frame, another value of it, and how many bytes of the frame there are. Then it is not read.
+const UNREAD: [(usize, u8, usize); 9] = [
+    (12, 0x86, 46),
+    (14, 0x65, 46),
+    (25, 0x78, 46),
+    (23, 0x06, 46),
+    (45, 0xfe, 46),
+    (0, 0x01, 0),
+    (0, 0x01, 13),
+    (0, 0x01, 14),
+    (0, 0x01, 45),
+];
 
 #[test]
 fn reads_the_packet_of_a_frame(rt: HostRuntime) {
     let mut padded = [0; 60];
     padded[..46].copy_from_slice(&FRAME);
-    let found = udp_packet(&padded);
-    assert!(rt; found == Some((header(), PORTS, &FRAME[42..])));
-    for (at, octet) in [(12, 0x86), (14, 0x65), (25, 0x78), (23, 0x06), (45, 0xfe)] {
-        assert!(rt; !reads_with(at, octet), "{at}");
+    assert!(rt; udp_packet(&padded) == Some((header(), PORTS, &FRAME[42..])));
+    assert!(rt; udp_packet(&IPV6_FRAME) == Some((ipv6_header(), IPV6_PORTS, &IPV6_FRAME[62..])));
+    for (at, octet, len) in UNREAD {
+        let mut buffer = [0; 80];
+        let frame = changed(&mut buffer, &FRAME, &[(at, octet)]);
+        let (front, _) = frame.split_at(len.min(frame.len()));
+        assert!(rt; udp_packet(front).is_none(), "{at} {len}");
     }
-    for end in [0, 13, 14, 45] {
-        assert!(rt; udp_packet(&FRAME[..end]).is_none(), "{end}");
+}
+
+/// Whether this frame is written. The bytes after it are unchanged, and so is a buffer that is too short.
+fn writes(header: IpRepr, ports: UdpRepr, payload: &[u8], frame: &[u8]) -> bool {
+    let len = frame.len();
+    if len == 0 || len > 80 {
+        return false;
     }
-    let found = udp_packet(&IPV6_FRAME);
-    assert!(rt; found == Some((ipv6_header(), IPV6_PORTS, &IPV6_FRAME[62..])));
+    let mut expected = [0xa5; 80];
+    expected[..len].copy_from_slice(frame);
+    let mut buffer = [0xa5; 80];
+    let whole = write_udp(&mut buffer, SRC, DST, header, ports, payload);
+    let is_written = whole == Some(len) && buffer == expected;
+    let short = write_udp(&mut buffer[..len - 1], SRC, DST, header, ports, payload);
+    is_written && short.is_none() && buffer == expected
 }
 
 #[test]
 fn writes_a_frame(rt: HostRuntime) {
-    let mut expected = [0xa5; 48];
-    expected[..46].copy_from_slice(&FRAME);
-    let mut buffer = [0xa5; 48];
-    let len = write_udp(&mut buffer, SRC, DST, header(), PORTS, &FRAME[42..]);
-    assert!(rt; len == Some(46));
-    assert!(rt; buffer == expected);
-    let len = write_udp(&mut buffer[..45], SRC, DST, header(), PORTS, &FRAME[42..]);
-    assert!(rt; len.is_none());
-    assert!(rt; buffer == expected);
+    assert!(rt; writes(header(), PORTS, &[0xaa, 0x00, 0x00, 0xff], &FRAME));
+    assert!(rt; writes(ipv6_header(), IPV6_PORTS, &[0xff; 4], &IPV6_FRAME));
 }
 
-#[test]
-fn writes_a_frame_over_ipv6(rt: HostRuntime) {
-    let mut expected = [0xa5; 68];
-    expected[..66].copy_from_slice(&IPV6_FRAME);
-    let mut buffer = [0xa5; 68];
-    let len = write_udp(&mut buffer, SRC, DST, ipv6_header(), IPV6_PORTS, &[0xff; 4]);
-    assert!(rt; len == Some(66));
-    assert!(rt; buffer == expected);
-}
-
-/// Whether the packet in the first frame is read with this checksum, if checksums are verified and if not.
-fn is_read(checksum: [u8; 2]) -> [bool; 2] {
-    let mut packet = [0; 12];
-    packet.copy_from_slice(&FRAME[34..]);
-    packet[6..8].copy_from_slice(&checksum);
-    let src = Ipv4Address::new(192, 168, 1, 1);
-    let dst = Ipv4Address::new(192, 168, 1, 2);
-    let verify = ChecksumCapabilities::default();
-    [
-        parse_udp_ports(&packet, src, dst, &verify).is_ok(),
-        parse_udp_ports(&packet, src, dst, &verified_by_the_device()).is_ok(),
-    ]
-}
+/// A checksum of the packet in the first frame, and whether it is read if checksums are verified.
+const CHECKSUMS: [([u8; 2], bool); 4] = [
+    ([0x12, 0x4d], true),
+    ([0x12, 0x4e], false),
+    ([0x00, 0x00], true),
+    ([0x83, 0x71], false),
+];
 
 #[test]
 fn rejects_a_wrong_checksum(rt: HostRuntime) {
-    assert!(rt; is_read([0x12, 0x4d]) == [true, true]);
-    assert!(rt; is_read([0x12, 0x4e]) == [false, true]);
-    assert!(rt; is_read([0x00, 0x00]) == [true, true]);
-    assert!(rt; is_read([0x83, 0x71]) == [false, true]);
+    let src = Ipv4Address::new(192, 168, 1, 1);
+    let dst = Ipv4Address::new(192, 168, 1, 2);
+    let (all, by_device) = (ChecksumCapabilities::default(), verified_by_the_device());
+    for (checksum, is_read) in CHECKSUMS {
+        let mut packet = [0; 12];
+        packet.copy_from_slice(&FRAME[34..]);
+        packet[6..8].copy_from_slice(&checksum);
+        assert!(rt;
+            parse_udp_ports(&packet, src, dst, &all).is_ok() == is_read,
+            "{checksum:?}"
+        );
+        assert!(rt;
+            parse_udp_ports(&packet, src, dst, &by_device).is_ok(),
+            "{checksum:?}"
+        );
+    }
     // What is sent still has its checksums computed, and all but UDP's are verified.
-    let caps = verified_by_the_device();
-    assert!(rt; caps.udp.tx() && !caps.udp.rx());
-    for when in [caps.ipv4, caps.tcp, caps.icmpv4, caps.icmpv6] {
+    assert!(rt; by_device.udp.tx() && !by_device.udp.rx());
+    for when in [
+        by_device.ipv4,
+        by_device.tcp,
+        by_device.icmpv4,
+        by_device.icmpv6,
+    ] {
         assert!(rt; when.tx() && when.rx());
     }
 }
@@ -213,39 +224,4 @@ fn tells_flows_apart(rt: HostRuntime) {
         key_between(udp, 9, 7) == key_between(udp, 9, 9),
     ];
     assert_eq!(rt; equal, [false, false, true, false, false]);
-}
-
-/// The captured SYN with another checksum and maximum segment size.
-fn with_size(checksum: [u8; 2], size: [u8; 2]) -> [u8; 74] {
-    let mut frame = SYN;
-    let ([a, b], [c, d]) = (checksum, size);
-    change(&mut frame, &[(50, a), (51, b), (56, c), (57, d)]);
-    frame
-}
-
-/// Whether the clamp lowers the segment size in a frame, and the frame then.
-fn clamped(frame: [u8; 74], limit: u16) -> (bool, [u8; 74]) {
-    let mut bytes = frame;
-    let lowered = clamp(&mut bytes[34..], limit);
-    (lowered, bytes)
-}
-
-#[test]
-fn a_clamp_lowers_the_segment_size_of_a_syn(rt: HostRuntime) {
-    let mut no_syn = SYN;
-    no_syn[47] = 0x10;
-    let (low, lower) = (
-        with_size([0xd8, 0xbe], [0x05, 0xb3]),
-        with_size([0xd9, 0x5d], [0x05, 0x14]),
-    );
-    assert!(rt; clamped(SYN, 1300) == (true, lower));
-    assert!(rt; clamped(SYN, 1459) == (true, low));
-    assert!(rt; clamped(SYN, 1460) == (false, SYN));
-    assert!(rt; clamped(no_syn, 1300) == (false, no_syn));
-    // The limit 0, and a SYN with ACK.
-    assert!(rt; clamped(SYN, 0) == (true, with_size([0xde, 0x71], [0x00, 0x00])));
-    let (mut syn_ack, mut lower_ack) = (SYN, lower);
-    syn_ack[47] = 0x12;
-    lower_ack[47] = 0x12;
-    assert!(rt; clamped(syn_ack, 1300) == (true, lower_ack));
 }

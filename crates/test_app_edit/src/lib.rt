@@ -1,5 +1,0 @@
-//! Tests of the edits of frames.
-#![tactic(auto)]
-
-#[cfg(test)]
-mod tests;

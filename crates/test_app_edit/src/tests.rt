@@ -1,3 +1,0 @@
-//! Worked examples, frame by frame.
-
-mod edits;

@@ -1,5 +1,0 @@
-//! Tests of the NAT.
-#![tactic(auto)]
-
-#[cfg(test)]
-mod tests;
