@@ -15,7 +15,7 @@ import sys
 
 PINS = {
     "wire": "crates/test_wire*/src/tests/{}.rt",
-    "apps": "crates/test_app*/src/tests/{}.rt",
+    "apps": "crates/test_apps/src/tests/{}.rt",
     "promises": "crates/test_promises/src/{}.rt",
     "cases": "tests/data/cases/{}.hex",
     "calls": "tests/data/calls/{}.call",

@@ -15,7 +15,7 @@ from sources import Sources
 
 DOCUMENT = "docs/audit/REQUIREMENTS.md"
 # The crates with test functions, by the first word of their names in the tables.
-TESTS = {"wire": "test_wire*", "apps": "test_app*", "frames": "ip_frames"}
+TESTS = {"wire": "test_wire*", "apps": "test_apps", "frames": "ip_frames"}
 LIBRARY = re.compile(r"net_base|ip_wire|wire_\w+")
 # The libraries whose types a Rattle program uses: those of `wire_*` through `ip_wire`.
 SHOWN = re.compile(r"net_base|(?:ip|app)_\w+")
@@ -109,7 +109,8 @@ def test_functions(path):
 
 
 def is_test(name):
-    """Whether there is a test of this name, or a file with so many test functions."""
+    """Whether there is a test of this name, or a file with so many test functions. `worked/FILE/NAME` is a function of the
+    judge's worked calls, which another one calls."""
     name, count = counted(name)
     kind, _, rest = name.partition("/")
     if count:
@@ -118,6 +119,10 @@ def is_test(name):
         return os.path.exists(f"tests/data/cases/{rest}.hex") and os.path.exists(f"tests/data/cases/{rest}.txt")
     if kind == "calls":
         return os.path.exists(f"tests/data/calls/{rest}.call") and os.path.exists(f"tests/data/calls/{rest}.txt")
+    if kind == "worked":
+        file, _, function = rest.partition("/")
+        path = f"tests/judge/worked_{file}.c"
+        return os.path.exists(path) and all(re.search(rf"^{it} *{function}\(", read(path), re.M) for it in ("static void", "   "))
     if name.startswith("wrong "):
         *crate, edit = name[len("wrong ") :].split("/")
         paths = glob.glob(f"crates/{crate[0] if crate else '*'}/edits.txt")
