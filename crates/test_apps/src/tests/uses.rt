@@ -1,6 +1,5 @@
 //! Each use, on frames that are listed byte by byte. `tests/judge/worked_route.c` has the MSS clamp.
 
-use super::changed;
 use app_short::allow_list::is_allowed;
 use app_short::flow_key::{Flow, FlowKey};
 use app_short::read_frame::udp_packet;
@@ -11,6 +10,7 @@ use ip_wire::{
     Ipv6Address, Ipv6Cidr, Ipv6Repr, UdpRepr,
 };
 use net_base::ChecksumCapabilities;
+use test_support::bytes::{change, has_front};
 use test_support::captured::{ECHO_REQUEST, SYN};
 use test_support::udp_frames::{DST, FRAME, IPV6_FRAME, SRC};
 
@@ -67,32 +67,23 @@ fn reads_the_packet_of_a_frame(rt: HostRuntime) {
     assert!(rt; udp_packet(&padded) == Some((header(), PORTS, &FRAME[42..])));
     assert!(rt; udp_packet(&IPV6_FRAME) == Some((ipv6_header(), IPV6_PORTS, &IPV6_FRAME[62..])));
     for (at, octet, len) in UNREAD {
-        let mut buffer = [0; 80];
-        let frame = changed(&mut buffer, &FRAME, &[(at, octet)]);
-        let (front, _) = frame.split_at(len.min(frame.len()));
+        let mut frame = FRAME;
+        change(&mut frame, &[(at, octet)]);
+        let (front, _) = frame.split_at(len.min(46));
         assert!(rt; udp_packet(front).is_none(), "{at} {len}");
     }
 }
 
-/// Whether this frame is written. The bytes after it are unchanged, and so is a buffer that is too short.
-fn writes(header: IpRepr, ports: UdpRepr, payload: &[u8], frame: &[u8]) -> bool {
-    let len = frame.len();
-    if len == 0 || len > 80 {
-        return false;
-    }
-    let mut expected = [0xa5; 80];
-    expected[..len].copy_from_slice(frame);
-    let mut buffer = [0xa5; 80];
-    let whole = write_udp(&mut buffer, SRC, DST, header, ports, payload);
-    let is_written = whole == Some(len) && buffer == expected;
-    let short = write_udp(&mut buffer[..len - 1], SRC, DST, header, ports, payload);
-    is_written && short.is_none() && buffer == expected
-}
-
 #[test]
 fn writes_a_frame(rt: HostRuntime) {
-    assert!(rt; writes(header(), PORTS, &[0xaa, 0x00, 0x00, 0xff], &FRAME));
-    assert!(rt; writes(ipv6_header(), IPV6_PORTS, &[0xff; 4], &IPV6_FRAME));
+    let mut buffer = [0xa5; 48];
+    let len = write_udp(&mut buffer, SRC, DST, header(), PORTS, &FRAME[42..]);
+    assert!(rt; len == Some(46) && has_front(&buffer, &FRAME, 0xa5));
+    let len = write_udp(&mut buffer[..45], SRC, DST, header(), PORTS, &FRAME[42..]);
+    assert!(rt; len.is_none() && has_front(&buffer, &FRAME, 0xa5));
+    let mut buffer = [0xa5; 68];
+    let len = write_udp(&mut buffer, SRC, DST, ipv6_header(), IPV6_PORTS, &[0xff; 4]);
+    assert!(rt; len == Some(66) && has_front(&buffer, &IPV6_FRAME, 0xa5));
 }
 
 /// A checksum of the packet in the first frame, and whether it is read if checksums are verified.
