@@ -384,16 +384,20 @@ static void follow_flows(void)
 
 /* ---- any bytes ---- */
 
-/* A mapping that no call wrote, so that the model does not have it. */
-static int passes_by(const struct lk_mapping *mapping, enum way way, enum kind kind, struct end inside, uint16_t port)
+static unsigned passed_to; /* the port or identifier that the packet has then */
+
+/* A mapping that no call wrote, so that the model does not have it. A packet goes out from an endpoint, or comes in to one. */
+static int passes_by(const struct lk_mapping *mapping, enum way way, enum kind kind, const struct lk_endpoint *end)
 {
-    const struct lk_endpoint remote = remote_of((struct end){1, 80}), source = inside_of(inside);
-    const struct lk_endpoint outside = {{{203, 0, 113, 9}, 4}, port};
-    struct octets frame = way == OUT ? packet(kind, way, &source, &remote) : packet(kind, way, &remote, &outside);
+    const struct lk_endpoint remote = remote_of((struct end){1, 80});
+    struct octets frame = way == OUT ? packet(kind, way, end, &remote) : packet(kind, way, &remote, end);
+    int result;
     for (size_t i = 0; i < count; i++)
         mappings[i] = *mapping;
-    return way == OUT ? lk_translate_out(&nat, mappings, count, 0, frame.at, frame.len)
-                      : lk_translate_in(&nat, mappings, count, 0, frame.at, frame.len);
+    result = way == OUT ? lk_translate_out(&nat, mappings, count, 0, frame.at, frame.len)
+                        : lk_translate_in(&nat, mappings, count, 0, frame.at, frame.len);
+    passed_to = port_in(&frame, kind, way);
+    return result;
 }
 
 /* State 1 is an established connection, and 2 one that closes. Any other byte is one that opens. A mapping is shared if
@@ -401,14 +405,14 @@ static int passes_by(const struct lk_mapping *mapping, enum way way, enum kind k
 static void know_any_state(void)
 {
     struct lk_mapping mapping = {1, {192, 168, 0, 2}, {198, 51, 100, 1}, 1024, 80, 0, 0, {0, 0}};
-    const struct end inside = {2, 1024};
+    const struct lk_endpoint inside = inside_of((struct end){2, 1024});
     begin_nat(1024, 3);
     for (int state = 0; state < 256; state++) {
         mapping.state = (uint8_t)state, mapping.shared = 1;
-        CHECK_ROW((size_t)state, passes_by(&mapping, OUT, FIN, inside, 0) == 0);
+        CHECK_ROW((size_t)state, passes_by(&mapping, OUT, FIN, &inside) == 0);
         CHECK_ROW((size_t)state, mappings[1].expires == (state == 1 ? 7440000 : 240000));
         mapping.shared = 0;
-        CHECK_ROW((size_t)state, passes_by(&mapping, OUT, ACK, inside, 0) == 0);
+        CHECK_ROW((size_t)state, passes_by(&mapping, OUT, ACK, &inside) == 0);
         CHECK_ROW((size_t)state, mappings[1].expires == (state == 2 ? 240000 : 7440000));
     }
 }
@@ -417,13 +421,21 @@ static void take_any_bytes(void)
 {
     const struct lk_mapping strange = {UINT64_MAX, {255, 255, 255, 255}, {255, 255, 255, 255}, 0, 65535, 255, 255,
                                        {255, 255}};
-    struct lk_mapping to_0 = {300000, {192, 0, 2, 1}, {192, 0, 2, 2}, 0, 5353, 0, 0, {0, 0}};
-    const struct end inside = {2, 1024};
+    const struct lk_mapping to_0 = {300000, {192, 0, 2, 1}, {192, 0, 2, 2}, 0, 5353, 0, 0, {0, 0}};
+    const struct lk_endpoint inside = inside_of((struct end){2, 1024}), stranger = {{{255, 255, 255, 255}, 4}, 0};
+    struct lk_endpoint outside = {{{203, 0, 113, 9}, 4}, 1027};
     begin_nat(1024, 14);
-    CHECK(passes_by(&strange, IN, FIN, inside, 1027) == LK_ZERO_PORT);
-    CHECK(passes_by(&strange, IN, FIN, inside, 1028) == LK_NO_MAPPING);
-    CHECK(passes_by(&strange, OUT, SYN, inside, 0) == LK_NO_FREE_PORT);
-    CHECK(passes_by(&to_0, IN, UDP, inside, 1024) == LK_ZERO_PORT);
+    CHECK(passes_by(&strange, IN, FIN, &outside) == LK_ZERO_PORT);
+    CHECK(passes_by(&strange, IN, ECHO, &outside) == 0 && passed_to == 0);
+    outside.port = 1028;
+    CHECK(passes_by(&strange, IN, FIN, &outside) == LK_NO_MAPPING);
+    outside.port = 1024;
+    CHECK(passes_by(&to_0, IN, UDP, &outside) == LK_ZERO_PORT);
+    CHECK(passes_by(&strange, OUT, SYN, &inside) == LK_NO_FREE_PORT);
+    CHECK(passes_by(&strange, OUT, ECHO, &stranger) == 0 && passed_to == 1024);
+    begin_nat(0, 14);
+    outside.port = 0;
+    CHECK(passes_by(&strange, IN, ECHO, &outside) == LK_NO_MAPPING);
 }
 
 void worked_mappings(void)

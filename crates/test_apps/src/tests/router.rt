@@ -1,7 +1,7 @@
 //! The header that a router returns of a forwarded packet. `tests/judge/worked_route.c` has the frames.
 
 use app_router::forward;
-use ip_wire::{EthernetAddress, IpProtocol, IpRepr, Ipv4Address, Ipv4Repr};
+use ip_wire::{EthernetAddress, HeaderFault, IpProtocol, IpRepr, Ipv4Address, Ipv4Repr};
 use test_support::captured::ECHO_REQUEST;
 use test_support::udp_frames::IPV6_FRAME;
 
@@ -22,4 +22,6 @@ fn returns_the_new_header(rt: HostRuntime) {
     assert!(rt; forward(&mut frame, SRC, DST) == Ok(IpRepr::Ipv4(header)));
     let hop_limit = forward(&mut ipv6_frame, SRC, DST).map(|header| header.hop_limit());
     assert!(rt; hop_limit == Ok(63));
+    assert!(rt; forward(&mut frame[..13], SRC, DST) == Err(HeaderFault::NotIp));
+    assert!(rt; forward(&mut frame[..14], SRC, DST) == Err(HeaderFault::BadHeader));
 }

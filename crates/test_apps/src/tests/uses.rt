@@ -9,7 +9,7 @@ use ip_wire::{
     Frame, IpAddress, IpCidr, IpEndpoint, IpProtocol, IpRepr, Ipv4Address, Ipv4Cidr, Ipv4Repr,
     Ipv6Address, Ipv6Cidr, Ipv6Repr, UdpRepr,
 };
-use net_base::ChecksumCapabilities;
+use net_base::{Checksum, ChecksumCapabilities};
 use test_support::bytes::{change, has_front};
 use test_support::captured::{ECHO_REQUEST, SYN};
 use test_support::udp_frames::{DST, FRAME, IPV6_FRAME, SRC};
@@ -74,54 +74,72 @@ fn reads_the_packet_of_a_frame(rt: HostRuntime) {
     }
 }
 
-#[test]
-fn writes_a_frame(rt: HostRuntime) {
-    let mut buffer = [0xa5; 48];
-    let len = write_udp(&mut buffer, SRC, DST, header(), PORTS, &FRAME[42..]);
-    assert!(rt; len == Some(46) && has_front(&buffer, &FRAME, 0xa5));
-    let len = write_udp(&mut buffer[..45], SRC, DST, header(), PORTS, &FRAME[42..]);
-    assert!(rt; len.is_none() && has_front(&buffer, &FRAME, 0xa5));
-    let mut buffer = [0xa5; 68];
-    let len = write_udp(&mut buffer, SRC, DST, ipv6_header(), IPV6_PORTS, &[0xff; 4]);
-    assert!(rt; len == Some(66) && has_front(&buffer, &IPV6_FRAME, 0xa5));
+/// Writes one of the two frames.
+fn write(buffer: &mut [u8], is_ipv6: bool) -> Option<usize> {
+    if is_ipv6 {
+        write_udp(buffer, SRC, DST, ipv6_header(), IPV6_PORTS, &[0xff; 4])
+    } else {
+        write_udp(buffer, SRC, DST, header(), PORTS, &[0xaa, 0, 0, 0xff])
+    }
 }
 
-/// A checksum of the packet in the first frame, and whether it is read if checksums are verified.
-const CHECKSUMS: [([u8; 2], bool); 4] = [
-    ([0x12, 0x4d], true),
-    ([0x12, 0x4e], false),
-    ([0x00, 0x00], true),
-    ([0x83, 0x71], false),
+#[test]
+fn writes_a_frame(rt: HostRuntime) {
+    let (mut buffer, mut ipv6_buffer, mut short) = ([0xa5; 48], [0xa5; 68], [0xa5; 45]);
+    let found = [
+        write(&mut buffer, false),
+        write(&mut ipv6_buffer, true),
+        write(&mut short, false),
+    ];
+    assert!(rt; found == [Some(46), Some(66), None]);
+    assert!(rt; has_front(&buffer, &FRAME, 0xa5) && has_front(&ipv6_buffer, &IPV6_FRAME, 0xa5));
+    assert!(rt; short == [0xa5; 45]);
+}
+
+/// The packet in the first frame with a checksum, and whether it is read if checksums are verified.
+const PACKETS: [([u8; 12], bool); 4] = [
+    (
+        [
+            0xbf, 0x00, 0x00, 0x35, 0x00, 0x0c, 0x12, 0x4d, 0xaa, 0x00, 0x00, 0xff,
+        ],
+        true,
+    ),
+    (
+        [
+            0xbf, 0x00, 0x00, 0x35, 0x00, 0x0c, 0x12, 0x4e, 0xaa, 0x00, 0x00, 0xff,
+        ],
+        false,
+    ),
+    (
+        [
+            0xbf, 0x00, 0x00, 0x35, 0x00, 0x0c, 0x00, 0x00, 0xaa, 0x00, 0x00, 0xff,
+        ],
+        true,
+    ),
+    (
+        [
+            0xbf, 0x00, 0x00, 0x35, 0x00, 0x0c, 0x83, 0x71, 0xaa, 0x00, 0x00, 0xff,
+        ],
+        false,
+    ),
 ];
+
+/// Whether the packet in the first frame is read.
+fn is_read(packet: &[u8], caps: &ChecksumCapabilities) -> bool {
+    let src = Ipv4Address::new(192, 168, 1, 1);
+    let dst = Ipv4Address::new(192, 168, 1, 2);
+    parse_udp_ports(packet, src, dst, caps).is_ok()
+}
 
 #[test]
 fn rejects_a_wrong_checksum(rt: HostRuntime) {
-    let src = Ipv4Address::new(192, 168, 1, 1);
-    let dst = Ipv4Address::new(192, 168, 1, 2);
     let (all, by_device) = (ChecksumCapabilities::default(), verified_by_the_device());
-    for (checksum, is_read) in CHECKSUMS {
-        let mut packet = [0; 12];
-        packet.copy_from_slice(&FRAME[34..]);
-        packet[6..8].copy_from_slice(&checksum);
-        assert!(rt;
-            parse_udp_ports(&packet, src, dst, &all).is_ok() == is_read,
-            "{checksum:?}"
-        );
-        assert!(rt;
-            parse_udp_ports(&packet, src, dst, &by_device).is_ok(),
-            "{checksum:?}"
-        );
+    for (packet, is_verified) in PACKETS {
+        assert!(rt; is_read(&packet, &all) == is_verified && is_read(&packet, &by_device));
     }
     // What is sent still has its checksums computed, and all but UDP's are verified.
-    assert!(rt; by_device.udp.tx() && !by_device.udp.rx());
-    for when in [
-        by_device.ipv4,
-        by_device.tcp,
-        by_device.icmpv4,
-        by_device.icmpv6,
-    ] {
-        assert!(rt; when.tx() && when.rx());
-    }
+    let udp = Checksum::Tx;
+    assert!(rt; by_device == ChecksumCapabilities { udp, ..all });
 }
 
 #[test]
