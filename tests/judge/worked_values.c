@@ -39,6 +39,9 @@ static void texts(void)
     uint8_t octets[6];
     char text[17];
     CHECK(memcmp(&a, &four, sizeof a) == 0 && memcmp(&b, &six, sizeof b) == 0);
+    CHECK(is_addr("192.0.2.1", "192.0.2.1") && is_addr("2001:db8::1", "2001:db8::1"));
+    CHECK(is_block("192.0.2.1/24", "192.0.2.1/24", 0) && is_block("2001:db8::1/32", "2001:db8::1/32", 0));
+    CHECK(is_endpoint("[2001:db8::1]:80", "[2001:db8::1]:80", 80));
     CHECK(is_addr("010.0.0.1", "10.0.0.1") && is_addr("::ffff:192.168.1.1", "::ffff:192.168.1.1"));
     CHECK(is_block("10.1.2.3/8", "10.1.2.3/8", 1) && is_block("10.1.2.3/16", "10.1.2.3/16", 0));
     CHECK(is_block("::/0", "::/0", 0) && is_block("0.0.0.0/0", "0.0.0.0/0", 1));

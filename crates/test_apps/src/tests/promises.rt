@@ -1,12 +1,11 @@
-//! A call of each kind.
+//! A call of each kind, but for texts: `tests/judge/worked_values.c` parses and prints them.
 
 use ip_wire::{
-    Carried, EthernetAddress, EthernetProtocol, EthernetRepr, Frame, IpAddress, IpCidr, IpEndpoint,
-    Ipv4Address, Ipv4Cidr, Ipv4Packet, Ipv6Address, Ipv6Cidr, SACK_BLOCKS, TcpControl, TcpOption,
-    TcpOptionSummary, TcpRepr, TcpSeqNumber, Transport, UdpRepr,
+    Carried, EthernetAddress, EthernetProtocol, EthernetRepr, Frame, IpAddress, Ipv4Address,
+    Ipv4Cidr, Ipv4Packet, Ipv6Address, SACK_BLOCKS, TcpControl, TcpOption, TcpOptionSummary,
+    TcpRepr, TcpSeqNumber, Transport, UdpRepr,
 };
 use net_base::ChecksumCapabilities;
-use std::test::Fail;
 use test_promises::calls::blocks::netmask_then_block;
 use test_promises::calls::hardware::eui_64_of_octets;
 use test_promises::calls::interfaces::solicited_node_of_octets;
@@ -15,40 +14,8 @@ use test_promises::equality::{
     equal_values_tcp_option_summary, equal_values_transport, equal_views_ipv4,
 };
 use test_promises::frames::settles;
-use test_promises::texts::{
-    print_then_parse_ethernet, print_then_parse_ip, print_then_parse_ip_cidr,
-    print_then_parse_ip_endpoint, print_then_parse_ipv4, print_then_parse_ipv4_cidr,
-    print_then_parse_ipv6, print_then_parse_ipv6_cidr,
-};
 use test_promises::values::emit_then_parse_udp;
 use test_support::udp_frames::FRAME;
-
-#[test]
-fn texts_of_addresses_are_parsed(rt: HostRuntime) -> Result<(), Fail> {
-    let ethernet = EthernetAddress([0x02, 0x00, 0x00, 0x00, 0x00, 0x01]);
-    let ipv4 = Ipv4Address::new(192, 0, 2, 1);
-    let ipv6 = Ipv6Address::new(0x2001, 0xdb8, 0, 0, 0, 0, 0, 1);
-    let (addr, alloc) = (IpAddress::Ipv4(ipv4), rt.alloc());
-    assert!(rt; print_then_parse_ethernet(alloc, &ethernet)? == Some(ethernet));
-    assert!(rt; print_then_parse_ipv4(alloc, &ipv4)? == Some(ipv4));
-    assert!(rt; print_then_parse_ipv6(alloc, &ipv6)? == Some(ipv6));
-    assert!(rt; print_then_parse_ip(alloc, &addr)? == Some(addr));
-    Ok(())
-}
-
-#[test]
-fn texts_of_blocks_and_endpoints_are_parsed(rt: HostRuntime) -> Result<(), Fail> {
-    let addr = Ipv6Address::new(0x2001, 0xdb8, 0, 0, 0, 0, 0, 1);
-    let ipv4 = Ipv4Cidr::new(Ipv4Address::new(192, 0, 2, 1), 24);
-    let ipv6 = Ipv6Cidr::new(addr, 32);
-    let endpoint = IpEndpoint::new(IpAddress::Ipv6(addr), 80);
-    let (block, alloc) = (IpCidr::Ipv6(ipv6), rt.alloc());
-    assert!(rt; print_then_parse_ipv4_cidr(alloc, &ipv4)? == Some(ipv4));
-    assert!(rt; print_then_parse_ipv6_cidr(alloc, &ipv6)? == Some(ipv6));
-    assert!(rt; print_then_parse_ip_cidr(alloc, &block)? == Some(block));
-    assert!(rt; print_then_parse_ip_endpoint(alloc, &endpoint)? == Some(endpoint));
-    Ok(())
-}
 
 #[test]
 fn a_udp_packet_is_emitted_and_parsed(rt: HostRuntime) {
