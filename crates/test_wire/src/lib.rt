@@ -1,4 +1,4 @@
-//! Tests of checksums, of each format and of whole frames, through the calls that their users make.
+//! Tests of addresses, of checksums, of each format and of whole frames, through the calls that their users make.
 #![tactic(auto)]
 
 #[cfg(test)]

@@ -1,75 +1,17 @@
 //! Worked examples, value by value and byte by byte. The rows of single calls are in tests/data/calls.
 
-ghost use Rattle.std.specs.Prelude.{◌≡◌};
-ghost use Rattle.ip_wire.specs.IpAddress.{version_of};
-
-mod arp;
 mod checksum;
 mod common;
-mod ethernet;
-mod frame;
-mod ip;
-mod ipv4;
-mod ipv6;
-mod ipv6fragment;
-mod nested;
+mod ethernet_address;
+mod ip_address;
+mod ip_endpoint;
+mod ipv4_address;
+mod ipv6_address;
 mod orders;
+mod packets;
+mod pretty_print;
+mod protocol;
+mod raw_hardware_address;
 mod sums;
-mod support;
-mod tcp;
-mod tcp_options;
-mod tcp_repr;
-mod udp;
-
-use ip_wire::{IpAddress, IpProtocol, Ipv6Address, Ipv6Repr};
-
-/// A fragment of an IPv4 packet from 17.18.19.20 to 33.34.35.36, of 30 bytes.
-const IPV4_FRAGMENT: [u8; 30] = [
-    0x45, 0x00, 0x00, 0x1e, 0x01, 0x02, 0x62, 0x03, 0x1a, 0x01, 0xd5, 0x6e, 0x11, 0x12, 0x13, 0x14,
-    0x21, 0x22, 0x23, 0x24, 0xaa, 0x00, 0x00, 0x00, 0x00, 0x00, 0x00, 0x00, 0x00, 0xff,
-];
-
-/// A datagram from `fe80::1` to `ff02::1`.
-const IPV6_PACKET: [u8; 52] = [
-    0x60, 0x00, 0x00, 0x00, 0x00, 0x0c, 0x11, 0x40, 0xfe, 0x80, 0x00, 0x00, 0x00, 0x00, 0x00, 0x00,
-    0x00, 0x00, 0x00, 0x00, 0x00, 0x00, 0x00, 0x01, 0xff, 0x02, 0x00, 0x00, 0x00, 0x00, 0x00, 0x00,
-    0x00, 0x00, 0x00, 0x00, 0x00, 0x00, 0x00, 0x01, 0x00, 0x01, 0x00, 0x02, 0x00, 0x0c, 0x02, 0x4e,
-    0xff, 0xff, 0xff, 0xff,
-];
-
-/// The values of the IPv6 packet's header.
-fn ipv6_header() -> Ipv6Repr
-    ensures { result.payload_len ≡ 12 }
-{
-    Ipv6Repr {
-        src_addr: Ipv6Address::new(0xfe80, 0, 0, 0, 0, 0, 0, 1),
-        dst_addr: Ipv6Address::new(0xff02, 0, 0, 0, 0, 0, 0, 1),
-        next_header: IpProtocol::Udp,
-        payload_len: 12,
-        hop_limit: 64,
-    }
-}
-
-/// A fragment between the same hosts; its fragment header follows two other bytes.
-const IPV6_FRAGMENT: [u8; 48] = [
-    0x60, 0x00, 0x00, 0x00, 0x00, 0x08, 0x2c, 0x40, 0xfe, 0x80, 0x00, 0x00, 0x00, 0x00, 0x00, 0x00,
-    0x00, 0x00, 0x00, 0x00, 0x00, 0x00, 0x00, 0x01, 0xff, 0x02, 0x00, 0x00, 0x00, 0x00, 0x00, 0x00,
-    0x00, 0x00, 0x00, 0x00, 0x00, 0x00, 0x00, 0x01, 0x11, 0x00, 0x0a, 0x00, 0x00, 0x01, 0x09, 0x32,
-];
-
-/// 192.168.1.1 and 192.168.1.2.
-fn ipv4_ends() -> (IpAddress, IpAddress)
-    ensures { version_of result.0 ≡ version_of result.1 }
-{
-    (IpAddress::v4(192, 168, 1, 1), IpAddress::v4(192, 168, 1, 2))
-}
-
-/// `fe80::1` and `ff02::1`.
-fn ipv6_ends() -> (IpAddress, IpAddress)
-    ensures { version_of result.0 ≡ version_of result.1 }
-{
-    (
-        IpAddress::v6(0xfe80, 0, 0, 0, 0, 0, 0, 1),
-        IpAddress::v6(0xff02, 0, 0, 0, 0, 0, 0, 1),
-    )
-}
+mod texts;
+mod views;

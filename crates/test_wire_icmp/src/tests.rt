@@ -1,4 +1,0 @@
-//! Worked examples, byte by byte. The rows of single calls are in tests/data/calls.
-
-mod icmp;
-mod ndisc;
