@@ -4,54 +4,47 @@ use std::net::{Ipv4Addr, Ipv6Addr, SocketAddr, SocketAddrV4, SocketAddrV6};
 use wire_addr::{Ipv4Address, Ipv6Address};
 use wire_ends::{IpAddress, IpEndpoint, IpListenEndpoint};
 
-#[test]
-fn converts_from_an_address_and_a_port(rt: HostRuntime) {
-    let (ipv4, ipv6) = (Ipv4Address::new(192, 168, 1, 1), Ipv6Address::LOCALHOST);
-    let (v4, v6) = (
-        IpAddress::v4(192, 168, 1, 1),
-        IpAddress::v6(0, 0, 0, 0, 0, 0, 0, 1),
-    );
-    let (at_v4, at_v6) = (
-        IpEndpoint { addr: v4, port: 80 },
-        IpEndpoint { addr: v6, port: 80 },
-    );
-    let found = [
-        IpEndpoint::from((ipv4, 80)) == at_v4,
-        IpEndpoint::from((ipv6, 80)) == at_v6,
-        IpEndpoint::from((v4, 80)) == at_v4,
-        IpEndpoint::new(v4, 80) == at_v4,
-        at_v4.text().as_str() == "192.168.1.1:80",
-    ];
-    assert_eq!(rt; found, [true; 5]);
+/// 192.168.1.1.
+fn v4() -> IpAddress {
+    IpAddress::v4(192, 168, 1, 1)
+}
+
+/// `::1`.
+fn v6() -> IpAddress {
+    IpAddress::v6(0, 0, 0, 0, 0, 0, 0, 1)
+}
+
+/// A listening endpoint of this address and port.
+fn listening(addr: Option<IpAddress>, port: u16) -> IpListenEndpoint {
+    IpListenEndpoint { addr, port }
 }
 
 #[test]
-fn listens_at_an_address_and_a_port(rt: HostRuntime) {
+fn converts_from_an_address_and_a_port(rt: HostRuntime) {
     let (ipv4, ipv6) = (Ipv4Address::new(192, 168, 1, 1), Ipv6Address::LOCALHOST);
-    let (v4, v6) = (Some(IpAddress::Ipv4(ipv4)), Some(IpAddress::Ipv6(ipv6)));
-    let at_v4 = IpListenEndpoint { addr: v4, port: 80 };
-    let unspecified = IpListenEndpoint::from((Ipv4Address::UNSPECIFIED, 80));
     let found = [
-        IpListenEndpoint::from((ipv4, 80)) == at_v4,
-        IpListenEndpoint::from((ipv6, 80)) == IpListenEndpoint { addr: v6, port: 80 },
-        IpListenEndpoint::from((IpAddress::Ipv4(ipv4), 80)) == at_v4,
-        IpListenEndpoint::default()
-            == IpListenEndpoint {
-                addr: None,
-                port: 0,
-            },
-        // It is specified by an address and a port.
-        !IpListenEndpoint::default().is_specified(),
-        !IpListenEndpoint {
-            addr: None,
-            port: 80,
-        }
-        .is_specified(),
-        !IpListenEndpoint { addr: v4, port: 0 }.is_specified(),
-        at_v4.is_specified(),
-        unspecified.is_specified(),
+        IpEndpoint::from((ipv4, 80)) == IpEndpoint::new(v4(), 80),
+        IpEndpoint::from((ipv6, 80)) == IpEndpoint::new(v6(), 80),
+        IpEndpoint::from((v4(), 80)) == IpEndpoint::new(v4(), 80),
+        IpEndpoint::new(v4(), 80).text().as_str() == "192.168.1.1:80",
+        IpListenEndpoint::from((ipv4, 80)) == listening(Some(v4()), 80),
+        IpListenEndpoint::from((ipv6, 80)) == listening(Some(v6()), 80),
+        IpListenEndpoint::from((v4(), 80)) == listening(Some(v4()), 80),
+        IpListenEndpoint::default() == listening(None, 0),
     ];
-    assert_eq!(rt; found, [true; 9]);
+    assert_eq!(rt; found, [true; 8]);
+}
+
+#[test]
+fn is_specified_by_an_address_and_a_port(rt: HostRuntime) {
+    let found = [
+        listening(None, 0).is_specified(),
+        listening(None, 80).is_specified(),
+        listening(Some(v4()), 0).is_specified(),
+        listening(Some(v4()), 80).is_specified(),
+        listening(Some(IpAddress::v4(0, 0, 0, 0)), 80).is_specified(),
+    ];
+    assert_eq!(rt; found, [false, false, false, true, true]);
 }
 
 #[test]

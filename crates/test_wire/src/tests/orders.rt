@@ -1,5 +1,6 @@
 //! Types with an order, each with values in ascending order.
 
+use ip_wire::laws::addr::order_agrees;
 use ip_wire::{
     ArpHardware, ArpOperation, EthernetAddress, EthernetProtocol, IpAddress, IpCidr, IpEndpoint,
     IpListenEndpoint, IpProtocol, IpVersion, Ipv4Address, Ipv4Cidr, Ipv4FragKey, Ipv6Address,
@@ -121,66 +122,75 @@ fn orders_keys_by_identification_addresses_and_protocol(rt: HostRuntime) {
 }
 
 #[test]
-fn orders_addresses_by_version_and_bytes_and_blocks_by_address_and_prefix(rt: HostRuntime) {
-    let (v4, v4_next) = (Ipv4Address::new(10, 0, 0, 0), Ipv4Address::new(10, 0, 0, 1));
-    let before = Ipv4Address::new(9, 255, 255, 255);
-    let low = Ipv6Address::new(0xfe80, 0, 0, 0, 0, 0, 0, 1);
-    let high = Ipv6Address::new(0xfe80, 0, 0, 0, 0, 0, 0, 2);
-    let zeros = IpAddress::Ipv6(Ipv6Address::UNSPECIFIED);
-    let addresses = [
-        IpAddress::Ipv4(before),
-        IpAddress::Ipv4(v4),
-        IpAddress::Ipv4(Ipv4Address::BROADCAST),
-        zeros,
-        IpAddress::Ipv6(Ipv6Address::LOCALHOST),
-        IpAddress::Ipv6(low),
-    ];
-    let blocks = [
-        IpCidr::new(IpAddress::Ipv4(v4), 31),
-        IpCidr::new(IpAddress::Ipv4(v4), 32),
-        IpCidr::new(IpAddress::Ipv4(v4_next), 8),
-        IpCidr::new(zeros, 0),
-    ];
+fn orders_addresses_by_version_and_bytes(rt: HostRuntime) {
     let found = [
-        are_in_order(&addresses),
-        are_in_order(&[before, v4, v4_next]),
         are_in_order(&[
-            Ipv6Address::UNSPECIFIED,
-            Ipv6Address::LOCALHOST,
-            Ipv6Address::new(1, 0, 0, 0, 0, 0, 0, 0),
+            IpAddress::v4(9, 255, 255, 255),
+            IpAddress::v4(10, 0, 0, 0),
+            IpAddress::v4(255, 255, 255, 255),
+            IpAddress::v6(0, 0, 0, 0, 0, 0, 0, 0),
+            IpAddress::v6(0, 0, 0, 0, 0, 0, 0, 1),
+            IpAddress::v6(0xfe80, 0, 0, 0, 0, 0, 0, 1),
         ]),
         are_in_order(&[
-            Ipv4Cidr::new(before, 32),
-            Ipv4Cidr::new(v4, 8),
-            Ipv4Cidr::new(v4, 9),
+            Ipv4Address::new(9, 255, 255, 255),
+            Ipv4Address::new(10, 0, 0, 0),
+            Ipv4Address::new(10, 0, 0, 1),
+        ]),
+        are_in_order(&[
+            Ipv6Address::new(0, 0, 0, 0, 0, 0, 0, 0),
+            Ipv6Address::new(0, 0, 0, 0, 0, 0, 0, 1),
+            Ipv6Address::new(1, 0, 0, 0, 0, 0, 0, 0),
+        ]),
+    ];
+    assert_eq!(rt; found, [true; 3]);
+}
+
+#[test]
+fn orders_blocks_by_address_and_prefix(rt: HostRuntime) {
+    let (low, high) = (
+        Ipv6Address::new(0xfe80, 0, 0, 0, 0, 0, 0, 1),
+        Ipv6Address::new(0xfe80, 0, 0, 0, 0, 0, 0, 2),
+    );
+    order_agrees(&Ipv6Cidr::new(low, 128), &Ipv6Cidr::new(high, 10));
+    let found = [
+        are_in_order(&[
+            Ipv4Cidr::new(Ipv4Address::new(9, 255, 255, 255), 32),
+            Ipv4Cidr::new(Ipv4Address::new(10, 0, 0, 0), 8),
+            Ipv4Cidr::new(Ipv4Address::new(10, 0, 0, 0), 9),
         ]),
         are_in_order(&[
             Ipv6Cidr::new(low, 128),
             Ipv6Cidr::new(high, 10),
             Ipv6Cidr::new(high, 64),
         ]),
-        are_in_order(&blocks),
+        are_in_order(&[
+            IpCidr::new(IpAddress::v4(10, 0, 0, 0), 31),
+            IpCidr::new(IpAddress::v4(10, 0, 0, 0), 32),
+            IpCidr::new(IpAddress::v4(10, 0, 0, 1), 8),
+            IpCidr::new(IpAddress::v6(0, 0, 0, 0, 0, 0, 0, 0), 0),
+        ]),
     ];
-    assert_eq!(rt; found, [true; 6]);
+    assert_eq!(rt; found, [true; 3]);
 }
 
 #[test]
 fn orders_endpoints_by_address_and_port(rt: HostRuntime) {
-    let (low, high) = (IpAddress::v4(1, 2, 3, 4), IpAddress::v4(1, 2, 3, 5));
-    let endpoints = [
-        IpEndpoint::new(low, 80),
-        IpEndpoint::new(low, 65535),
-        IpEndpoint::new(high, 1),
-        IpEndpoint::new(IpAddress::Ipv6(Ipv6Address::UNSPECIFIED), 0),
+    let found = [
+        are_in_order(&[
+            IpEndpoint::new(IpAddress::v4(1, 2, 3, 4), 80),
+            IpEndpoint::new(IpAddress::v4(1, 2, 3, 4), 65535),
+            IpEndpoint::new(IpAddress::v4(1, 2, 3, 5), 1),
+            IpEndpoint::new(IpAddress::v6(0, 0, 0, 0, 0, 0, 0, 0), 0),
+        ]),
+        are_in_order(&[
+            IpListenEndpoint::from(65535),
+            IpListenEndpoint::from((IpAddress::v4(1, 2, 3, 4), 0)),
+            IpListenEndpoint::from((IpAddress::v4(1, 2, 3, 4), 65535)),
+            IpListenEndpoint::from((IpAddress::v4(1, 2, 3, 5), 1)),
+        ]),
     ];
-    let listening = [
-        IpListenEndpoint::from(65535),
-        IpListenEndpoint::from((low, 0)),
-        IpListenEndpoint::from((low, 65535)),
-        IpListenEndpoint::from((high, 1)),
-    ];
-    assert!(rt; are_in_order(&endpoints));
-    assert!(rt; are_in_order(&listening));
+    assert_eq!(rt; found, [true; 2]);
 }
 
 /// The number of different values.

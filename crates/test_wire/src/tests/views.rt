@@ -347,43 +347,55 @@ fn keeps(format: Format, bytes: &[u8], buffer: &mut [u8]) -> bool {
             let view = EthernetFrame::new_unchecked(bytes);
             let mutable = EthernetFrameMut::new_unchecked(buffer);
             mutable.as_view() == view
-                && [mutable.as_bytes(), view.as_bytes()] == [bytes, bytes]
-                && [mutable.into_inner(), view.into_inner()] == [bytes, bytes]
+                && mutable.as_bytes() == bytes
+                && view.as_bytes() == bytes
+                && &*mutable.into_inner() == bytes
+                && view.into_inner() == bytes
         }
         Format::Arp => {
             let view = ArpPacket::new_unchecked(bytes);
             let mutable = ArpPacketMut::new_unchecked(buffer);
             mutable.as_view() == view
-                && [mutable.as_bytes(), view.as_bytes()] == [bytes, bytes]
-                && [mutable.into_inner(), view.into_inner()] == [bytes, bytes]
+                && mutable.as_bytes() == bytes
+                && view.as_bytes() == bytes
+                && &*mutable.into_inner() == bytes
+                && view.into_inner() == bytes
         }
         Format::Fragment => {
             let view = Ipv6FragmentHeader::new_unchecked(bytes);
             let mutable = Ipv6FragmentHeaderMut::new_unchecked(buffer);
             mutable.as_view() == view
-                && [mutable.as_bytes(), view.as_bytes()] == [bytes, bytes]
-                && [mutable.into_inner(), view.into_inner()] == [bytes, bytes]
+                && mutable.as_bytes() == bytes
+                && view.as_bytes() == bytes
+                && &*mutable.into_inner() == bytes
+                && view.into_inner() == bytes
         }
         Format::Udp => {
             let view = UdpPacket::new_unchecked(bytes);
             let mutable = UdpPacketMut::new_unchecked(buffer);
             mutable.as_view() == view
-                && [mutable.as_bytes(), view.as_bytes()] == [bytes, bytes]
-                && [mutable.into_inner(), view.into_inner()] == [bytes, bytes]
+                && mutable.as_bytes() == bytes
+                && view.as_bytes() == bytes
+                && &*mutable.into_inner() == bytes
+                && view.into_inner() == bytes
         }
         Format::Tcp => {
             let view = TcpPacket::new_unchecked(bytes);
             let mutable = TcpPacketMut::new_unchecked(buffer);
             mutable.as_view() == view
-                && [mutable.as_bytes(), view.as_bytes()] == [bytes, bytes]
-                && [mutable.into_inner(), view.into_inner()] == [bytes, bytes]
+                && mutable.as_bytes() == bytes
+                && view.as_bytes() == bytes
+                && &*mutable.into_inner() == bytes
+                && view.into_inner() == bytes
         }
         Format::Icmp => {
             let view = IcmpPacket::new_unchecked(bytes);
             let mutable = IcmpPacketMut::new_unchecked(buffer);
             mutable.as_view() == view
-                && [mutable.as_bytes(), view.as_bytes()] == [bytes, bytes]
-                && [mutable.into_inner(), view.into_inner()] == [bytes, bytes]
+                && mutable.as_bytes() == bytes
+                && view.as_bytes() == bytes
+                && &*mutable.into_inner() == bytes
+                && view.into_inner() == bytes
         }
         Format::Ip | Format::Ipv4 | Format::Ipv6 => false,
     }

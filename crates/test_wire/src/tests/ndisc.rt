@@ -1,0 +1,201 @@
+//! Neighbour solicitations and advertisements. Their bytes come from the Linux kernel: of duplicate address
+//! detection, and of the first packet to a neighbour.
+
+use net_base::ChecksumCapabilities;
+use test_support::bytes::copy_to;
+use test_support::texts::prints;
+use wire_addr::Ipv6Address;
+use wire_icmp::IcmpPacket;
+use wire_ndisc::{NDISC_HOP_LIMIT, NdiscRepr};
+
+/// A solicitation from `::` to the solicited-node group of its target. Its option is a nonce (RFC 3971).
+const PROBE: [u8; 32] = [
+    0x87, 0x00, 0xd2, 0x4d, 0, 0, 0, 0, 0x20, 0x01, 0x0d, 0xb8, 0, 0, 0, 0, 0, 0, 0, 0, 0, 0, 0,
+    0x0b, 0x0e, 0x01, 0xa0, 0xa1, 0x91, 0xbf, 0x3a, 0x21,
+];
+
+/// A solicitation from host a to the same group.
+const SOLICIT: [u8; 32] = [
+    0x87, 0x00, 0x1c, 0x03, 0, 0, 0, 0, 0x20, 0x01, 0x0d, 0xb8, 0, 0, 0, 0, 0, 0, 0, 0, 0, 0, 0,
+    0x0b, 0x01, 0x01, 0x02, 0, 0, 0, 0, 0x0a,
+];
+
+/// The advertisement that answers it.
+const ADVERT: [u8; 32] = [
+    0x88, 0x00, 0x8a, 0x4d, 0x60, 0, 0, 0, 0x20, 0x01, 0x0d, 0xb8, 0, 0, 0, 0, 0, 0, 0, 0, 0, 0, 0,
+    0x0b, 0x02, 0x01, 0x02, 0, 0, 0, 0, 0x0b,
+];
+
+/// The addresses: none, hosts a, b and c, the solicited-node group of host b, and all nodes.
+const NONE: [u16; 8] = [0; 8];
+
+const A: [u16; 8] = [0x2001, 0xdb8, 0, 0, 0, 0, 0, 0x0a];
+
+const B: [u16; 8] = [0x2001, 0xdb8, 0, 0, 0, 0, 0, 0x0b];
+
+const C: [u16; 8] = [0x2001, 0xdb8, 0, 0, 0, 0, 0, 0x0c];
+
+const GROUP: [u16; 8] = [0xff02, 0, 0, 0, 0, 1, 0xff00, 0x0b];
+
+const NODES: [u16; 8] = [0xff02, 0, 0, 0, 0, 0, 0, 1];
+
+/// The texts of values. A text has all fields of a value.
+const PLAIN: Option<&str> = Some("NDISC solicit target=2001:db8::b");
+
+const FROM_A: Option<&str> = Some("NDISC solicit target=2001:db8::b lladdr=02-00-00-00-00-0a");
+
+const FROM_B: Option<&str> = Some("NDISC solicit target=2001:db8::b lladdr=02-00-00-00-00-0b");
+
+const SOLICITED: Option<&str> = Some(
+    "NDISC advert target=2001:db8::b solicited lladdr=02-00-00-00-00-0b",
+);
+
+const BOTH: Option<&str> = Some(
+    "NDISC advert target=2001:db8::b solicited override lladdr=02-00-00-00-00-0b",
+);
+
+const ROUTER: Option<&str> = Some(
+    "NDISC advert target=2001:db8::b router lladdr=02-00-00-00-00-0b",
+);
+
+const ROUTER_AND_OVERRIDE: Option<&str> = Some(
+    "NDISC advert target=2001:db8::b router override lladdr=02-00-00-00-00-0b",
+);
+
+const OVERRIDE: Option<&str> = Some(
+    "NDISC advert target=2001:db8::b override lladdr=02-00-00-00-00-0b",
+);
+
+const NO_FLAG: Option<&str> = Some("NDISC advert target=2001:db8::b lladdr=02-00-00-00-00-0b");
+
+/// Messages with their source and destination, and the texts of their values with the checksum verified.
+const MESSAGES: &[([u8; 32], [u16; 8], [u16; 8], Option<&str>)] = &[
+    (PROBE, NONE, GROUP, PLAIN),
+    (SOLICIT, A, GROUP, FROM_A),
+    (ADVERT, B, A, BOTH),
+    (ADVERT, B, C, None),
+];
+
+#[test]
+fn reads_and_writes_what_a_kernel_sends(rt: HostRuntime) {
+    let caps = ChecksumCapabilities::default();
+    for (bytes, src, dst, text) in MESSAGES {
+        let (src, dst) = (Ipv6Address::from(*src), Ipv6Address::from(*dst));
+        let packet = IcmpPacket::new_unchecked(bytes);
+        match (
+            NdiscRepr::parse(&packet, &src, &dst, NDISC_HOP_LIMIT, &caps),
+            text,
+        ) {
+            (Ok(value), Some(text)) => {
+                let mut out = [0x55; 34];
+                let len = value.try_emit(&mut out, &src, &dst, &caps);
+                assert!(rt; prints(&value, text), "{text}");
+                // The nonce is not kept.
+                if value.lladdr().is_some() {
+                    assert!(rt; len == Some(32) && &out[..32] == bytes.as_slice(), "{text}");
+                }
+            }
+            (found, text) => assert!(rt; found.is_err() && text.is_none(), "{bytes:?}"),
+        }
+    }
+}
+
+/// A message, a place in it, its byte there, the number of its bytes, its hop limit and its ends.
+type Changed = ([u8; 32], usize, u8, usize, u8, [u16; 8], [u16; 8]);
+
+/// Changed messages, and the texts of their values with the checksum not verified.
+const CHANGED: &[(Changed, Option<&str>)] = &[
+    // Reserved, a router solicitation, a code, a multicast target
+    ((SOLICIT, 4, 0xff, 32, 255, A, GROUP), FROM_A),
+    ((SOLICIT, 0, 0x85, 32, 255, A, GROUP), None),
+    ((SOLICIT, 1, 0x01, 32, 255, A, GROUP), None),
+    ((SOLICIT, 8, 0xff, 32, 255, A, GROUP), None),
+    // An option of no length, and one that passes the end
+    ((SOLICIT, 25, 0x00, 32, 255, A, GROUP), None),
+    ((SOLICIT, 25, 0x02, 32, 255, A, GROUP), None),
+    ((SOLICIT, 0, 0x87, 32, 254, A, GROUP), None),
+    ((SOLICIT, 0, 0x87, 23, 255, A, GROUP), None),
+    ((SOLICIT, 0, 0x87, 24, 255, A, GROUP), PLAIN),
+    ((SOLICIT, 0, 0x87, 25, 255, A, GROUP), None),
+    ((SOLICIT, 0, 0x87, 32, 255, NONE, GROUP), None),
+    ((PROBE, 0, 0x87, 32, 255, NONE, B), None),
+    ((PROBE, 0, 0x87, 32, 255, A, B), PLAIN),
+    // Each flag
+    ((ADVERT, 4, 0x00, 32, 255, B, A), NO_FLAG),
+    ((ADVERT, 4, 0x80, 32, 255, B, A), ROUTER),
+    ((ADVERT, 4, 0x40, 32, 255, B, A), SOLICITED),
+    ((ADVERT, 4, 0x20, 32, 255, B, A), OVERRIDE),
+    ((ADVERT, 4, 0xa0, 32, 255, B, A), ROUTER_AND_OVERRIDE),
+    ((ADVERT, 4, 0x1f, 32, 255, B, A), NO_FLAG),
+    // To all nodes
+    ((ADVERT, 4, 0x00, 32, 255, B, NODES), NO_FLAG),
+    ((ADVERT, 4, 0x80, 32, 255, B, NODES), ROUTER),
+    ((ADVERT, 4, 0x40, 32, 255, B, NODES), None),
+    ((ADVERT, 4, 0x20, 32, 255, B, NODES), OVERRIDE),
+    ((ADVERT, 4, 0x1f, 32, 255, B, NODES), NO_FLAG),
+];
+
+#[test]
+fn rejects_what_is_invalid_and_reads_each_flag(rt: HostRuntime) {
+    let caps = ChecksumCapabilities::ignored();
+    for (changed, want) in CHANGED {
+        let (mut bytes, place, octet, len, hop_limit, src, dst) = *changed;
+        bytes[place.min(31)] = octet;
+        let packet = IcmpPacket::new_unchecked(&bytes[..len.min(32)]);
+        let (src, dst) = (Ipv6Address::from(src), Ipv6Address::from(dst));
+        match (
+            NdiscRepr::parse(&packet, &src, &dst, hop_limit, &caps),
+            want,
+        ) {
+            (Ok(value), Some(text)) => assert!(rt; prints(&value, text), "{place} {octet}"),
+            (found, want) => assert!(rt; found.is_err() && want.is_none(), "{place} {octet}"),
+        }
+    }
+}
+
+/// Options of a solicitation, and the texts of its value.
+const OPTIONS: &[([u8; 24], Option<&str>)] = &[
+    (
+        [
+            1, 1, 2, 0, 0, 0, 0, 0x0a, 1, 1, 2, 0, 0, 0, 0, 0x0b, 2, 1, 2, 0, 0, 0, 0, 0x0b,
+        ],
+        FROM_A,
+    ),
+    // After another option
+    (
+        [
+            14, 2, 0, 0, 0, 0, 0, 0, 1, 1, 2, 0, 0, 0, 0, 0x0a, 1, 1, 2, 0, 0, 0, 0, 0x0b,
+        ],
+        FROM_B,
+    ),
+    // Of a target
+    (
+        [
+            2, 1, 2, 0, 0, 0, 0, 0x0a, 2, 2, 0, 0, 0, 0, 0, 0, 0, 0, 0, 0, 0, 0, 0, 0,
+        ],
+        PLAIN,
+    ),
+    // Too long
+    (
+        [
+            1, 2, 2, 0, 0, 0, 0, 0x0a, 0, 0, 0, 0, 0, 0, 0, 0, 1, 1, 2, 0, 0, 0, 0, 0x0b,
+        ],
+        None,
+    ),
+];
+
+#[test]
+fn takes_the_first_address_option(rt: HostRuntime) {
+    let caps = ChecksumCapabilities::ignored();
+    let (src, dst) = (Ipv6Address::from(A), Ipv6Address::from(GROUP));
+    for (options, want) in OPTIONS {
+        let mut bytes = [0; 48];
+        copy_to(&mut bytes[..24], &SOLICIT[..24]);
+        copy_to(&mut bytes[24..], options);
+        let packet = IcmpPacket::new_unchecked(&bytes);
+        match (NdiscRepr::parse(&packet, &src, &dst, 255, &caps), want) {
+            (Ok(value), Some(text)) => assert!(rt; prints(&value, text), "{options:?}"),
+            (found, want) => assert!(rt; found.is_err() && want.is_none(), "{options:?}"),
+        }
+    }
+}

@@ -1,0 +1,62 @@
+//! UDP packets. `tests/data/calls/worked_transport.call` has more examples.
+
+use super::packets::UDP;
+use ip_wire::{IpAddress, UdpPacket, UdpPacketMut};
+
+/// Checksums of the packet, and whether each covers all of it and only the pseudo-header.
+const CHECKSUMS: &[(u16, [bool; 2])] = &[
+    (0x124d, [true, false]),
+    (0x124e, [false, false]),
+    (0x8371, [false, true]),
+    (0x0000, [true, false]),
+];
+
+#[test]
+fn verifies_whole_and_partial_checksums(rt: HostRuntime) {
+    let (src, dst) = (IpAddress::v4(192, 168, 1, 1), IpAddress::v4(192, 168, 1, 2));
+    for (checksum, want) in CHECKSUMS {
+        let mut buffer = [0x55; 14];
+        buffer[..12].copy_from_slice(&UDP);
+        let mut packet = UdpPacketMut::new_unchecked(&mut buffer);
+        packet.set_checksum(*checksum);
+        assert!(rt; [packet.src_port(), packet.dst_port()] == [48896, 53]);
+        assert!(rt; [packet.len(), packet.checksum()] == [12, *checksum]);
+        assert!(rt; packet.check_len().is_ok(), "{checksum}");
+        if packet.check_len().is_ok() {
+            assert!(rt; packet.verify_checksum(&src, &dst) == want[0], "{checksum}");
+            assert!(rt;
+                packet.verify_partial_checksum(&src, &dst) == want[1],
+                "{checksum}"
+            );
+        }
+    }
+}
+
+/// Packets, and whether each has a valid checksum over IPv4 and over IPv6.
+const PACKETS: &[(&[u8], [bool; 2])] = &[
+    (&UDP, [true, false]),
+    (b"\0\x01\0\x02\0\x0c\x02\x4e\xff\xff\xff\xff", [false, true]),
+    (b"\xbf\0\0\x35\0\x0c\0\0\xaa\0\0\xff", [true, false]),
+];
+
+#[test]
+fn a_checksum_is_left_out_over_ipv4_only(rt: HostRuntime) {
+    let (src, dst) = (IpAddress::v4(192, 168, 1, 1), IpAddress::v4(192, 168, 1, 2));
+    let src_ipv6 = IpAddress::v6(0xfe80, 0, 0, 0, 0, 0, 0, 1);
+    let dst_ipv6 = IpAddress::v6(0xff02, 0, 0, 0, 0, 0, 0, 1);
+    for (bytes, want) in PACKETS {
+        match UdpPacket::new_checked(bytes) {
+            Ok(packet) => {
+                assert!(rt;
+                    packet.has_valid_checksum(&src, &dst) == want[0],
+                    "{bytes:?}"
+                );
+                assert!(rt;
+                    packet.has_valid_checksum(&src_ipv6, &dst_ipv6) == want[1],
+                    "{bytes:?}"
+                );
+            }
+            Err(_) => assert!(rt; false, "{bytes:?}"),
+        }
+    }
+}
