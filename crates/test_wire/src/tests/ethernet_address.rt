@@ -57,33 +57,28 @@ fn has_classes_and_an_eui_64(rt: HostRuntime) {
             address.is_local(),
             address.is_broadcast(),
         ];
-        assert!(rt; found == *classes, "{octets:?}");
-        assert!(rt; address.as_eui_64() == Some(*eui_64), "{octets:?}");
-        assert!(rt; address.as_bytes() == octets.as_slice(), "{octets:?}");
+        let has_bytes = address.as_bytes() == octets.as_slice();
+        let has_eui_64 = address.as_eui_64() == Some(*eui_64);
+        assert!(rt; found == *classes && has_bytes && has_eui_64, "{octets:?}");
     }
 }
 
 #[test]
 fn a_hardware_address_answers_as_its_ethernet_address(rt: HostRuntime) {
     for (octets, eui_64, classes) in ADDRESSES {
-        let ethernet = EthernetAddress(*octets);
-        let address = HardwareAddress::from(ethernet);
-        assert!(rt; address == HardwareAddress::Ethernet(ethernet));
-        assert!(rt; address.ethernet_or_panic() == ethernet);
-        assert!(rt; address.as_bytes() == octets.as_slice(), "{octets:?}");
-        assert!(rt; [address.is_unicast(), address.is_broadcast()] == [classes[0], classes[3]]);
-        assert!(rt; address.as_eui_64() == Some(*eui_64), "{octets:?}");
-        assert!(rt; address.medium() == Medium::Ethernet);
+        let address = HardwareAddress::from(EthernetAddress(*octets));
+        let found = [address.is_unicast(), address.is_broadcast()];
+        let is_ethernet = address.ethernet_or_panic().as_bytes() == octets.as_slice()
+            && address.as_bytes() == octets.as_slice()
+            && address.medium() == Medium::Ethernet;
+        let has_eui_64 = address.as_eui_64() == Some(*eui_64);
+        assert!(rt;
+            found == [classes[0], classes[3]] && is_ethernet && has_eui_64,
+            "{octets:?}"
+        );
     }
-}
-
-#[test]
-fn has_constants(rt: HostRuntime) {
-    let found = [
-        EthernetAddress::default() == EthernetAddress([0; 6]),
-        EthernetAddress::BROADCAST == EthernetAddress([0xff; 6]),
-        HardwareAddress::Ip.medium() == Medium::Ip,
-        HardwareAddress::Ip.as_eui_64().is_none(),
-    ];
-    assert_eq!(rt; found, [true; 4]);
+    let none = HardwareAddress::Ip;
+    assert!(rt; none.medium() == Medium::Ip && none.as_eui_64().is_none());
+    assert!(rt; EthernetAddress::default() == EthernetAddress([0; 6]));
+    assert!(rt; EthernetAddress::BROADCAST == EthernetAddress([0xff; 6]));
 }

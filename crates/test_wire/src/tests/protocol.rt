@@ -44,8 +44,10 @@ const PROTOCOLS: &[(u8, IpProtocol)] = &[
 #[test]
 fn names_the_protocols_of_the_table(rt: HostRuntime) {
     for (number, name) in PROTOCOLS {
-        assert!(rt; IpProtocol::from(*number) == *name, "{number}");
-        assert!(rt; name.number() == *number, "{number}");
+        assert!(rt;
+            IpProtocol::from(*number) == *name && name.number() == *number,
+            "{number}"
+        );
     }
 }
 
@@ -60,8 +62,10 @@ const ETHERTYPES: &[(u16, EthernetProtocol)] = &[
 #[test]
 fn names_the_types_of_the_table(rt: HostRuntime) {
     for (number, name) in ETHERTYPES {
-        assert!(rt; EthernetProtocol::from(*number) == *name, "{number}");
-        assert!(rt; name.number() == *number, "{number}");
+        assert!(rt;
+            EthernetProtocol::from(*number) == *name && name.number() == *number,
+            "{number}"
+        );
     }
 }
 
@@ -82,23 +86,28 @@ const OPERATIONS: &[(u16, ArpOperation)] = &[
 #[test]
 fn names_hardware_and_operations(rt: HostRuntime) {
     for (number, name) in HARDWARE {
-        assert!(rt; ArpHardware::from(*number) == *name, "{number}");
-        assert!(rt; name.number() == *number, "{number}");
+        assert!(rt;
+            ArpHardware::from(*number) == *name && name.number() == *number,
+            "{number}"
+        );
     }
     for (number, name) in OPERATIONS {
-        assert!(rt; ArpOperation::from(*number) == *name, "{number}");
-        assert!(rt; name.number() == *number, "{number}");
+        assert!(rt;
+            ArpOperation::from(*number) == *name && name.number() == *number,
+            "{number}"
+        );
     }
 }
 
+/// An unlisted name of a listed number differs from the listed name, and keeps the number.
 #[test]
 fn an_unlisted_name_of_a_listed_number_keeps_it(rt: HostRuntime) {
-    let found = [
-        IpProtocol::Unknown(6).number() == 6,
-        EthernetProtocol::Unknown(0x0800).number() == 0x0800,
-        EthernetProtocol::Unknown(0x0800) != EthernetProtocol::Ipv4,
-        ArpHardware::Unknown(1).number() == 1,
-        ArpOperation::Unknown(1).number() == 1,
+    let names = EthernetProtocol::Unknown(0x0800) != EthernetProtocol::Ipv4;
+    let numbers = [
+        IpProtocol::Unknown(6).number().into(),
+        EthernetProtocol::Unknown(0x0800).number(),
+        ArpHardware::Unknown(1).number(),
+        ArpOperation::Unknown(1).number(),
     ];
-    assert_eq!(rt; found, [true; 5]);
+    assert!(rt; names && numbers == [6, 0x0800, 1, 1]);
 }

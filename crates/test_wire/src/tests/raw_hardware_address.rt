@@ -20,16 +20,17 @@ fn keeps_bytes_and_parses_six_on_ethernet(rt: HostRuntime) {
     for octets in ADDRESSES {
         let len = octets.len().min(MAX_HARDWARE_ADDRESS_LEN);
         let address = RawHardwareAddress::from_bytes(&octets[..len]);
-        assert!(rt; address.as_bytes() == *octets, "{octets:?}");
-        assert!(rt; (address.len(), address.is_empty()) == (octets.len(), octets.is_empty()));
-        assert!(rt; address.parse(Medium::Ip).is_err(), "{octets:?}");
-        match address.parse(Medium::Ethernet) {
-            Ok(parsed) => assert!(rt;
-                octets.len() == 6 && parsed.as_bytes() == *octets,
-                "{octets:?}"
-            ),
-            Err(_) => assert!(rt; octets.len() != 6, "{octets:?}"),
-        }
+        let keeps = address.as_bytes() == *octets
+            && address.len() == octets.len()
+            && address.is_empty() == octets.is_empty();
+        let parses = match address.parse(Medium::Ethernet) {
+            Ok(parsed) => octets.len() == 6 && parsed.as_bytes() == *octets,
+            Err(_) => octets.len() != 6,
+        };
+        assert!(rt;
+            keeps && parses && address.parse(Medium::Ip).is_err(),
+            "{octets:?}"
+        );
     }
 }
 
