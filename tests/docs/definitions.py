@@ -14,7 +14,7 @@ import re
 import sys
 
 PINS = {
-    "wire": "crates/test_wire*/src/tests/{}.rt",
+    "wire": "crates/test_wire/src/tests/{}.rt",
     "apps": "crates/test_apps/src/tests/{}.rt",
     "promises": "crates/test_promises/src/{}.rt",
     "cases": "tests/data/cases/{}.hex",

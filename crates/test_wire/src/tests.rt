@@ -1,15 +1,24 @@
 //! Worked examples, value by value and byte by byte. The rows of single calls are in tests/data/calls.
 
+mod arp;
 mod checksum;
 mod common;
+mod ethernet;
 mod ethernet_address;
 mod frame;
+mod hardware_address;
 mod icmp;
+mod icmp_repr;
 mod ip;
 mod ip_address;
+mod ip_cidr;
 mod ip_endpoint;
+mod ip_version;
+mod ipv4;
 mod ipv4_address;
+mod ipv6;
 mod ipv6_address;
+mod ipv6fragment;
 mod ndisc;
 mod nested;
 mod orders;
@@ -19,6 +28,8 @@ mod protocol;
 mod raw_hardware_address;
 mod sums;
 mod tcp;
+mod tcp_options;
+mod tcp_repr;
 mod texts;
 mod udp;
 mod values;

@@ -1,10 +1,9 @@
-//! Ethernet addresses, and hardware addresses by their medium.
+//! Ethernet addresses.
 
-use net_base::Medium;
-use wire_addr::{EthernetAddress, HardwareAddress};
+use wire_addr::EthernetAddress;
 
 /// Addresses, with their EUI-64 and whether each is unicast, multicast, locally administered and broadcast.
-const ADDRESSES: &[([u8; 6], [u8; 8], [bool; 4])] = &[
+pub(super) const ADDRESSES: &[([u8; 6], [u8; 8], [bool; 4])] = &[
     (
         [0x02, 0, 0, 0, 0, 0x01],
         [0, 0, 0, 0xff, 0xfe, 0, 0, 0x01],
@@ -61,24 +60,4 @@ fn has_classes_and_an_eui_64(rt: HostRuntime) {
         let has_eui_64 = address.as_eui_64() == Some(*eui_64);
         assert!(rt; found == *classes && has_bytes && has_eui_64, "{octets:?}");
     }
-}
-
-#[test]
-fn a_hardware_address_answers_as_its_ethernet_address(rt: HostRuntime) {
-    for (octets, eui_64, classes) in ADDRESSES {
-        let address = HardwareAddress::from(EthernetAddress(*octets));
-        let found = [address.is_unicast(), address.is_broadcast()];
-        let is_ethernet = address.ethernet_or_panic().as_bytes() == octets.as_slice()
-            && address.as_bytes() == octets.as_slice()
-            && address.medium() == Medium::Ethernet;
-        let has_eui_64 = address.as_eui_64() == Some(*eui_64);
-        assert!(rt;
-            found == [classes[0], classes[3]] && is_ethernet && has_eui_64,
-            "{octets:?}"
-        );
-    }
-    let none = HardwareAddress::Ip;
-    assert!(rt; none.medium() == Medium::Ip && none.as_eui_64().is_none());
-    assert!(rt; EthernetAddress::default() == EthernetAddress([0; 6]));
-    assert!(rt; EthernetAddress::BROADCAST == EthernetAddress([0xff; 6]));
 }

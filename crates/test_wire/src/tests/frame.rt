@@ -1,6 +1,6 @@
 //! Whole frames.
 
-use super::tcp::SYN_VALUE;
+use super::tcp_repr::SYN_VALUE;
 use ip_wire::{
     ArpOperation, ArpRepr, Carried, EthernetAddress, EthernetProtocol, Frame, IpAddress,
     IpProtocol, IpRepr, IpVersion, Ipv4Address, Packet, TcpControl, TcpRepr, TcpSeqNumber,

@@ -5,6 +5,7 @@ ghost use Rattle.std.specs.Prelude.{◌≡◌};
 ghost use Rattle.wire_ends.specs.IpAddress.{version_of};
 
 use super::packets::ECHO;
+use super::views::Format;
 use net_base::ChecksumCapabilities;
 use wire_ends::{IpAddress, IpVersion};
 use wire_icmp::{
@@ -42,6 +43,12 @@ fn ends(version: IpVersion) -> (IpAddress, IpAddress)
         ),
     }
 }
+
+/// Packets, the least number of their bytes that the checks accept, and the least that parses.
+pub(super) const LENGTHS: &[(Format, &[u8], usize, usize)] = &[(Format::Icmp, &ECHO, 8, 8)];
+
+/// Packets with padding after them, and where their payloads begin and end.
+pub(super) const PAYLOADS: &[(Format, &[u8], usize, usize)] = &[(Format::Icmp, &ECHO, 8, 17)];
 
 /// Messages: version, header, payload and value. They go from the first host to the second; the sum is the same
 /// the other way.
@@ -305,74 +312,6 @@ fn rejects_other_messages(rt: HostRuntime) {
         let packet = IcmpPacket::new_unchecked(&header);
         let found = IcmpRepr::parse(&packet, &src, &dst, &caps).ok();
         assert!(rt; found == *value, "{msg_type} {code}");
-    }
-}
-
-/// Values that do not fit, and their normal forms.
-const NORMAL: &[(IpVersion, IcmpRepr, IcmpRepr)] = &[
-    (
-        IpVersion::Ipv4,
-        IcmpRepr::PktTooBig { mtu: 65536 },
-        IcmpRepr::PktTooBig { mtu: 65535 },
-    ),
-    (
-        IpVersion::Ipv6,
-        IcmpRepr::PktTooBig { mtu: 65536 },
-        IcmpRepr::PktTooBig { mtu: 65536 },
-    ),
-    (
-        IpVersion::Ipv4,
-        IcmpRepr::ParamProblem {
-            code: 0,
-            pointer: 256,
-        },
-        IcmpRepr::ParamProblem {
-            code: 0,
-            pointer: 255,
-        },
-    ),
-    (
-        IpVersion::Ipv6,
-        IcmpRepr::ParamProblem {
-            code: 0,
-            pointer: 256,
-        },
-        IcmpRepr::ParamProblem {
-            code: 0,
-            pointer: 256,
-        },
-    ),
-    (
-        IpVersion::Ipv4,
-        IcmpRepr::DstUnreachable {
-            reason: Unreachable::Other(4),
-        },
-        IcmpRepr::PktTooBig { mtu: 0 },
-    ),
-    (
-        IpVersion::Ipv6,
-        IcmpRepr::DstUnreachable {
-            reason: Unreachable::Other(4),
-        },
-        IcmpRepr::DstUnreachable {
-            reason: Unreachable::Port,
-        },
-    ),
-    (
-        IpVersion::Ipv4,
-        IcmpRepr::TimeExceeded {
-            reason: Exceeded::Other(0),
-        },
-        IcmpRepr::TimeExceeded {
-            reason: Exceeded::HopLimit,
-        },
-    ),
-];
-
-#[test]
-fn a_value_that_does_not_fit_has_a_normal_form(rt: HostRuntime) {
-    for (version, value, normal) in NORMAL {
-        assert!(rt; value.normal(*version) == *normal, "{value}");
     }
 }
 

@@ -1,49 +1,55 @@
 //! Headers of either version. `tests/data/calls/worked_headers.call` has more examples.
 
-use super::packets::{IPV4_FRAGMENT, IPV4_PACKET, IPV6_PACKET};
-use ip_wire::{
-    ETHERNET_HEADER_LEN, EthernetFrame, IPV4_HEADER_LEN, IPV6_HEADER_LEN, IpAddress, IpProtocol,
-    IpRepr, IpVersion, Ipv4Address, Ipv4FragKey, Ipv4Packet, Ipv4PacketMut, Ipv6Packet,
-    UDP_HEADER_LEN,
-};
+use super::packets::{IPV4_PACKET, IPV6_PACKET};
+use super::values::Emitted;
+use super::views::{Format, payload};
+use ip_wire::{IpAddress, IpPacket, IpProtocol, IpRepr, IpVersion};
 
-/// Words of flags and offset, and whether the packet is a fragment: it has an offset, or more follows.
-const FRAGMENTS: &[([u8; 2], bool)] = &[
-    ([0x00, 0x00], false),
-    ([0x40, 0x00], false),
-    ([0x80, 0x00], false),
-    ([0x20, 0x00], true),
-    ([0x00, 0x01], true),
-    ([0x1f, 0xff], true),
-    ([0x3f, 0xff], true),
+/// Packets with padding after them, and where their payloads begin and end.
+pub(super) const PAYLOADS: &[(Format, &[u8], usize, usize)] = &[(
+    Format::Ip,
+    b"\x45\0\0\x18\0\0\x40\0\x40\x01\xd2\x79\x11\x12\x13\x14\x21\x22\x23\x24\xaa\0\0\xff\0\0",
+    20,
+    24,
+)];
+
+/// Packets, and what their values emit.
+pub(super) const EMITTED: &[(Emitted, &[u8], &[u8])] = &[
+    (
+        Emitted::Ip,
+        &IPV4_PACKET,
+        b"\x45\0\0\x18\0\0\x40\0\x40\x01\xd2\x79\x11\x12\x13\x14\x21\x22\x23\x24",
+    ),
+    (
+        Emitted::Ip,
+        &IPV6_PACKET,
+        b"\x60\0\0\0\0\x0c\x11\x40\xfe\x80\0\0\0\0\0\0\0\0\0\0\0\0\0\x01\xff\x02\0\0\0\0\0\0\0\0\0\0\0\0\0\x01",
+    ),
+];
+
+/// Packets of other versions than 4 and 6, and less than a packet.
+const WITHOUT_PAYLOAD: &[&[u8]] = &[
+    &[],
+    b"\x45\0\0\x18\0\0\x40\0\x40\x01\xd2\x79\x11\x12\x13\x14\x21\x22\x23\x24\xaa\0\0",
+    b"\x55\0\0\x18\0\0\x40\0\x40\x01\xd2\x79\x11\x12\x13\x14\x21\x22\x23\x24\xaa\0\0\xff\0\0",
 ];
 
 #[test]
-fn a_fragment_has_an_offset_or_more_after_it(rt: HostRuntime) {
-    for (word, is_fragment) in FRAGMENTS {
-        let mut bytes = IPV4_PACKET;
-        bytes[6..8].copy_from_slice(word);
-        assert!(rt;
-            Ipv4Packet::new_unchecked(&bytes).is_fragment() == *is_fragment,
-            "{word:?}"
-        );
+fn an_ip_view_has_the_payload_of_its_version(rt: HostRuntime) {
+    for bytes in WITHOUT_PAYLOAD {
+        assert!(rt; payload(Format::Ip, bytes).is_none(), "{bytes:?}");
     }
-}
-
-#[test]
-fn keys_tell_packets_apart(rt: HostRuntime) {
-    let key = Ipv4FragKey {
-        id: 0x102,
-        src_addr: Ipv4Address::new(17, 18, 19, 20),
-        dst_addr: Ipv4Address::new(33, 34, 35, 36),
-        protocol: IpProtocol::Icmp,
-    };
-    let mut buffer = IPV4_FRAGMENT;
-    let read = Ipv4Packet::new_unchecked(&buffer).get_key();
-    buffer[5] = 1;
-    let earlier = Ipv4PacketMut::new_unchecked(&mut buffer).get_key();
-    assert!(rt; read == key);
-    assert!(rt; earlier < key);
+    assert!(rt; IpPacket::new_unchecked(&[]).check_len().is_err());
+    assert!(rt; IpPacket::new_unchecked(&IPV4_PACKET).check_len().is_ok());
+    let packet = IpPacket::new_unchecked(&IPV6_PACKET);
+    assert!(rt; packet.payload() == Ok(&IPV6_PACKET[40..]));
+    assert!(rt;
+        [
+            packet.version(),
+            IpPacket::new_unchecked(&IPV4_PACKET).version()
+        ] == [6, 4]
+    );
+    assert!(rt; packet.into_inner() == IPV6_PACKET.as_slice());
 }
 
 #[test]
@@ -76,21 +82,4 @@ fn builds_a_header_of_either_version(rt: HostRuntime) {
         [v6.header_len(), v6.payload_len(), v6.buffer_len()] == [40, 12, 52],
     ];
     assert_eq!(rt; found, [true; 10]);
-}
-
-#[test]
-fn has_lengths(rt: HostRuntime) {
-    let mut buffer = IPV6_PACKET;
-    buffer[5] = 10;
-    let packet = Ipv6Packet::new_unchecked(&buffer);
-    assert!(rt; [packet.header_len(), packet.total_len()] == [40, 50]);
-    let lens = [
-        ETHERNET_HEADER_LEN,
-        EthernetFrame::header_len(),
-        EthernetFrame::buffer_len(50),
-        IPV4_HEADER_LEN,
-        IPV6_HEADER_LEN,
-        UDP_HEADER_LEN,
-    ];
-    assert_eq!(rt; lens, [14, 14, 64, 20, 40, 8]);
 }

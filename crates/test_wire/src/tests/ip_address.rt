@@ -1,25 +1,15 @@
-//! Addresses and blocks of either version. `tests/data/calls/worked_addresses.call` has more examples.
+//! Addresses of either version. `tests/data/calls/worked_addresses.call` has more examples.
 
 use std::net::{IpAddr, Ipv4Addr, Ipv6Addr};
-use wire_addr::{Ipv4Address, Ipv4Cidr, Ipv6Address, Ipv6Cidr};
-use wire_ends::{IpAddress, IpCidr, IpVersion};
+use wire_addr::{Ipv4Address, Ipv6Address};
+use wire_ends::{IpAddress, IpVersion};
 
 #[test]
-fn converts_from_an_address_and_a_block_of_a_version(rt: HostRuntime) {
+fn converts_from_an_address_of_a_version(rt: HostRuntime) {
     let v4 = IpAddress::from(Ipv4Address::new(1, 2, 3, 4));
     let v6 = IpAddress::from(Ipv6Address::LOCALHOST);
-    let block4 = IpCidr::from(Ipv4Cidr::new(Ipv4Address::new(10, 0, 0, 0), 8));
-    let block6 = IpCidr::from(Ipv6Cidr::new(Ipv6Address::LOCALHOST, 128));
-    let found = [
-        v4 == IpAddress::v4(1, 2, 3, 4),
-        v6 == IpAddress::v6(0, 0, 0, 0, 0, 0, 0, 1),
-        v4.version() == IpVersion::Ipv4,
-        v6.version() == IpVersion::Ipv6,
-        block4 == IpCidr::new(IpAddress::v4(10, 0, 0, 0), 8),
-        block6 == IpCidr::new(IpAddress::v6(0, 0, 0, 0, 0, 0, 0, 1), 128),
-        [block4.prefix_len(), block6.prefix_len()] == [8, 128],
-    ];
-    assert_eq!(rt; found, [true; 7]);
+    let is_same = v4 == IpAddress::v4(1, 2, 3, 4) && v6 == IpAddress::v6(0, 0, 0, 0, 0, 0, 0, 1);
+    assert!(rt; is_same && v4.version() == IpVersion::Ipv4 && v6.version() == IpVersion::Ipv6);
 }
 
 #[test]

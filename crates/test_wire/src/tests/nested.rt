@@ -1,7 +1,7 @@
 //! Views on payloads that other views borrow.
 
 use super::packets::SYN;
-use super::tcp::SYN_VALUE;
+use super::tcp_repr::SYN_VALUE;
 use ip_wire::{
     EthernetFrame, EthernetFrameMut, EthernetProtocol, EthernetRepr, IpAddress, IpProtocol,
     Ipv4Address, Ipv4Packet, Ipv4PacketMut, Ipv4Repr, Ipv6Address, Ipv6FragmentHeaderMut,

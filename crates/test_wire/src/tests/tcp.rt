@@ -1,13 +1,98 @@
-//! TCP segments, their values and their sequence numbers. `tests/data/calls/worked_transport.call` has more examples.
+//! TCP segments and sequence numbers. `tests/data/calls/worked_transport.call` has more examples.
 
 use super::packets::{SEGMENT, SYN};
+use super::pretty_print::Shown;
+use super::views::{Format, NEVER};
 use ip_wire::{
-    IpAddress, SACK_BLOCKS, TcpControl, TcpOption, TcpPacket, TcpPacketMut, TcpRepr, TcpSeqNumber,
-    TcpTimestampGenerator, TcpTimestampRepr,
+    IpAddress, TcpControl, TcpPacket, TcpPacketMut, TcpSeqNumber, TcpTimestampGenerator,
+    TcpTimestampRepr,
 };
-use net_base::ChecksumCapabilities;
 use std::cmp::Ordering;
-use test_support::bytes::{copy_to, has_front};
+use test_support::bytes::copy_to;
+
+/// Texts of packets and values.
+pub(super) const SHOWN: &[(Shown, &str)] = &[
+    (
+        Shown::Tcp(&SYN),
+        "TCP src=48896 dst=80 syn seq=19088743 win=291 len=4",
+    ),
+    (
+        Shown::Tcp(&SEGMENT),
+        "TCP src=48896 dst=80 fin rst seq=19088743 ack=2309737967 win=291 urg=513 len=4 ws=12",
+    ),
+    // The option aa of no length
+    (
+        Shown::Tcp(b"\xbf\0\0\x50\x01\x23\x45\x67\0\0\0\0\x60\x02\x01\x23\x7a\x8d\0\0\xaa\0\0\xff"),
+        "TCP src=48896 dst=80 syn seq=19088743 win=291 len=0 (wire::Error)",
+    ),
+    (
+        Shown::Tcp(b"\xbf\0\0\x50\x01\x23\x45\x67\0\0\0\0\x50\x02\x01\x23\x7a\x8d\0\0"),
+        "TCP src=48896 dst=80 syn seq=19088743 win=291 len=0",
+    ),
+    // Headers of 16 and 60 bytes, and less than a header
+    (
+        Shown::Tcp(b"\xbf\0\0\x50\x01\x23\x45\x67\0\0\0\0\x40\x02\x01\x23\x7a\x8d\0\0\xaa\0\0\xff"),
+        "TCP (wire::Error)",
+    ),
+    (
+        Shown::Tcp(b"\xbf\0\0\x50\x01\x23\x45\x67\0\0\0\0\xf0\x02\x01\x23\x7a\x8d\0\0\xaa\0\0\xff"),
+        "TCP (wire::Error)",
+    ),
+    (
+        Shown::Tcp(b"\xbf\0\0\x50\x01\x23\x45\x67\0\0\0\0\x50\x02\x01\x23\x7a\x8d\0"),
+        "TCP (wire::Error)",
+    ),
+    (
+        Shown::Tcp(
+            b"\xbf\0\0\x50\x01\x23\x45\x67\x89\xab\xcd\xef\x60\x35\x01\x23\x01\xb6\x02\x01\x03\x03\x0c",
+        ),
+        "TCP (wire::Error)",
+    ),
+    (Shown::Tcp(&[]), "TCP (wire::Error)"),
+];
+
+/// Packets, the least number of their bytes that the checks accept, and the least that parses.
+pub(super) const LENGTHS: &[(Format, &[u8], usize, usize)] = &[
+    (Format::Tcp, &SYN, 20, 20),
+    (Format::Tcp, &SEGMENT, 24, 24),
+    // The header length: 0, 16, 24, 28 and 60 bytes
+    (
+        Format::Tcp,
+        b"\xbf\0\0\x50\x01\x23\x45\x67\0\0\0\0\0\x02\x01\x23\x7a\x8d\0\0\xaa\0\0\xff",
+        NEVER,
+        NEVER,
+    ),
+    (
+        Format::Tcp,
+        b"\xbf\0\0\x50\x01\x23\x45\x67\0\0\0\0\x40\x02\x01\x23\x7a\x8d\0\0\xaa\0\0\xff",
+        NEVER,
+        NEVER,
+    ),
+    (
+        Format::Tcp,
+        b"\xbf\0\0\x50\x01\x23\x45\x67\0\0\0\0\x60\x02\x01\x23\x7a\x8d\0\0\xaa\0\0\xff",
+        24,
+        24,
+    ),
+    (
+        Format::Tcp,
+        b"\xbf\0\0\x50\x01\x23\x45\x67\0\0\0\0\x70\x02\x01\x23\x7a\x8d\0\0\xaa\0\0\xff",
+        NEVER,
+        NEVER,
+    ),
+    (
+        Format::Tcp,
+        b"\xbf\0\0\x50\x01\x23\x45\x67\0\0\0\0\xf0\x02\x01\x23\x7a\x8d\0\0\xaa\0\0\xff",
+        NEVER,
+        NEVER,
+    ),
+];
+
+/// Packets with padding after them, and where their payloads begin and end.
+pub(super) const PAYLOADS: &[(Format, &[u8], usize, usize)] = &[
+    (Format::Tcp, &SYN, 20, 24),
+    (Format::Tcp, &SEGMENT, 24, 28),
+];
 
 #[test]
 fn writes_options_and_payload(rt: HostRuntime) {
@@ -135,189 +220,4 @@ fn counts_modulo_2_to_the_32_and_replies_to_timestamps(rt: HostRuntime) {
         TcpTimestampRepr::generate_reply_with_tsval(None, 7).is_none(),
     ];
     assert_eq!(rt; found, [true; 9]);
-}
-
-/// No ranges.
-const NO_RANGES: [Option<(u32, u32)>; SACK_BLOCKS] = [None; SACK_BLOCKS];
-
-/// Ranges, and the bytes of the option with them.
-const RANGES: &[([Option<(u32, u32)>; SACK_BLOCKS], &[u8])] = &[
-    (
-        [None, Some((1, 2)), Some((3, 4)), None],
-        &[0x05, 0x12, 0, 0, 0, 1, 0, 0, 0, 2, 0, 0, 0, 3, 0, 0, 0, 4],
-    ),
-    (NO_RANGES, &[0x05, 0x02]),
-];
-
-#[test]
-fn writes_ranges_without_gaps(rt: HostRuntime) {
-    for (ranges, bytes) in RANGES {
-        let option = TcpOption::SackRange(*ranges);
-        let mut buffer = [0xff; 36];
-        let len = option.buffer_len();
-        let rest = option.emit(&mut buffer).len();
-        assert!(rt; len + rest == 36 && len == bytes.len() && has_front(&buffer, bytes, 0xff));
-    }
-}
-
-/// The values of the segment with SYN and no option.
-pub(super) const SYN_VALUE: TcpRepr<'static> = TcpRepr {
-    src_port: 48896,
-    dst_port: 80,
-    control: TcpControl::Syn,
-    seq_number: TcpSeqNumber(0x01234567),
-    ack_number: None,
-    window_len: 0x0123,
-    window_scale: None,
-    max_seg_size: None,
-    sack_permitted: false,
-    sack_ranges: NO_RANGES,
-    timestamp: None,
-    payload: &[0xaa, 0x00, 0x00, 0xff],
-};
-
-/// The values of a segment without a payload that acknowledges.
-const ACK: TcpRepr<'static> = TcpRepr {
-    control: TcpControl::None,
-    ack_number: Some(TcpSeqNumber(0x09abcdef)),
-    payload: &[],
-    ..SYN_VALUE
-};
-
-/// Segments, and their values.
-const SEGMENTS: &[(&[u8], TcpRepr<'static>)] = &[
-    (&SYN, SYN_VALUE),
-    // SACK permitted, and one range, which is not emitted beside it
-    (
-        &[
-            0xbf, 0x00, 0x00, 0x50, 0x01, 0x23, 0x45, 0x67, 0x09, 0xab, 0xcd, 0xef, 0x80, 0x10,
-            0x01, 0x23, 0x7a, 0x8d, 0x00, 0x00, 0x04, 0x02, 0x05, 0x0a, 0, 0, 0, 1, 0, 0, 0, 2,
-        ],
-        TcpRepr {
-            sack_permitted: true,
-            sack_ranges: [Some((1, 2)), None, None, None],
-            ..ACK
-        },
-    ),
-    // Two ranges, which are not emitted without an acknowledgement
-    (
-        &[
-            0xbf, 0x00, 0x00, 0x50, 0x01, 0x23, 0x45, 0x67, 0x09, 0xab, 0xcd, 0xef, 0xa0, 0x00,
-            0x01, 0x23, 0x7a, 0x8d, 0x00, 0x00, 0x05, 0x12, 0, 0, 0, 1, 0, 0, 0, 2, 0, 0, 0, 3, 0,
-            0, 0, 4, 0, 0,
-        ],
-        TcpRepr {
-            ack_number: None,
-            sack_ranges: [Some((1, 2)), Some((3, 4)), None, None],
-            ..ACK
-        },
-    ),
-];
-
-#[test]
-fn reads_segments(rt: HostRuntime) {
-    let (src, dst) = (IpAddress::v4(192, 168, 1, 1), IpAddress::v4(192, 168, 1, 2));
-    let caps = ChecksumCapabilities::ignored();
-    for (bytes, value) in SEGMENTS {
-        let packet = TcpPacket::new_unchecked(bytes);
-        assert!(rt;
-            TcpRepr::parse(&packet, &src, &dst, &caps) == Ok(*value),
-            "{value}"
-        );
-    }
-}
-
-/// Values, how many sequence numbers they take, and whether they are empty.
-const VALUES: &[(TcpRepr<'static>, usize, bool)] = &[
-    (SYN_VALUE, 5, false),
-    (ACK, 0, true),
-    (
-        TcpRepr {
-            control: TcpControl::Psh,
-            ..ACK
-        },
-        0,
-        true,
-    ),
-    (
-        TcpRepr {
-            control: TcpControl::Psh,
-            payload: &[0xaa, 0, 0, 0xff],
-            ..ACK
-        },
-        4,
-        false,
-    ),
-    (
-        TcpRepr {
-            control: TcpControl::Fin,
-            ..ACK
-        },
-        1,
-        false,
-    ),
-    (
-        TcpRepr {
-            control: TcpControl::Rst,
-            ..ACK
-        },
-        0,
-        false,
-    ),
-    (
-        TcpRepr {
-            max_seg_size: Some(1460),
-            window_scale: Some(7),
-            timestamp: Some(TcpTimestampRepr { tsval: 1, tsecr: 2 }),
-            sack_ranges: [Some((1, 2)), Some((3, 4)), Some((5, 6)), None],
-            ..ACK
-        },
-        0,
-        true,
-    ),
-    (
-        TcpRepr {
-            timestamp: Some(TcpTimestampRepr { tsval: 1, tsecr: 2 }),
-            sack_ranges: [Some((1, 2)), Some((3, 4)), Some((5, 6)), Some((7, 8))],
-            ..ACK
-        },
-        0,
-        true,
-    ),
-    (
-        TcpRepr {
-            sack_permitted: true,
-            sack_ranges: [Some((1, 2)), None, None, None],
-            ..ACK
-        },
-        0,
-        true,
-    ),
-];
-
-#[test]
-fn values_count_as_their_segments(rt: HostRuntime) {
-    for (value, count, is_empty) in VALUES {
-        if value.payload.len() <= 4 {
-            assert!(rt;
-                value.segment_len() == *count && value.is_empty() == *is_empty,
-                "{value}"
-            );
-        }
-    }
-}
-
-#[test]
-fn a_checksum_covers_the_whole_buffer(rt: HostRuntime) {
-    let (src, dst) = (IpAddress::v4(192, 168, 1, 1), IpAddress::v4(192, 168, 1, 2));
-    let mut want = [0xa5; 26];
-    want[..24].copy_from_slice(&SYN);
-    want[16..18].copy_from_slice(&[0xd4, 0xe5]);
-    let mut buffer = [0xa5; 26];
-    let value = SYN_VALUE;
-    if value.header_len() == 20 && value.payload.len() == 4 {
-        let mut packet = TcpPacketMut::new_unchecked(&mut buffer);
-        value.emit(&mut packet, &src, &dst, &ChecksumCapabilities::default());
-    }
-    assert!(rt; buffer == want);
 }

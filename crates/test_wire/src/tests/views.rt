@@ -1,9 +1,7 @@
 //! What the views of all formats have in common: length checks, payloads and all bytes.
 
-use super::packets::{
-    ARP, ECHO, ETHERNET, FRAGMENT_HEADER, IPV4_FRAGMENT, IPV4_PACKET, IPV6_FRAGMENT, IPV6_PACKET,
-    SEGMENT, SHORT_ARP, SYN, UDP,
-};
+use super::packets::{ECHO, ETHERNET, FRAGMENT_HEADER, SEGMENT, SHORT_ARP};
+use super::{arp, ethernet, icmp, ip, ipv4, ipv6, ipv6fragment, tcp, udp};
 use ip_wire::{
     ArpPacket, ArpPacketMut, ArpRepr, EthernetFrame, EthernetFrameMut, EthernetRepr, IpPacket,
     Ipv4Packet, Ipv4PacketMut, Ipv4Repr, Ipv6FragmentHeader, Ipv6FragmentHeaderMut,
@@ -16,7 +14,7 @@ use wire_icmp::{IcmpPacket, IcmpPacketMut};
 
 /// A format with views.
 #[derive(Clone, Copy)]
-enum Format {
+pub(super) enum Format {
     Ethernet,
     Arp,
     Ip,
@@ -112,105 +110,49 @@ fn parses(format: Format, bytes: &[u8]) -> Option<bool> {
     }
 }
 
-/// Packets, the least number of their bytes that the checks accept, and the least that parses.
-const LENGTHS: &[(Format, &[u8], usize, usize)] = &[
-    (Format::Ethernet, &ETHERNET, 14, 14),
-    (Format::Arp, &ARP, 28, 28),
-    (Format::Ipv4, &IPV4_PACKET, 24, 24),
-    (Format::Ipv4, &IPV4_FRAGMENT, 30, 30),
-    (Format::Ipv6, &IPV6_PACKET, 52, 52),
-    (Format::Ipv6, &IPV6_FRAGMENT, 48, 48),
-    // Versions 4 and 7 in 40 bytes
-    (
-        Format::Ipv6,
-        b"\x40\0\0\0\0\0\x11\x40\xfe\x80\0\0\0\0\0\0\0\0\0\0\0\0\0\x01\xff\x02\0\0\0\0\0\0\0\0\0\0\0\0\0\x01",
-        40,
-        NEVER,
-    ),
-    (
-        Format::Ipv6,
-        b"\x70\0\0\0\0\0\x11\x40\xfe\x80\0\0\0\0\0\0\0\0\0\0\0\0\0\x01\xff\x02\0\0\0\0\0\0\0\0\0\0\0\0\0\x01",
-        40,
-        NEVER,
-    ),
-    (Format::Fragment, &FRAGMENT_HEADER, 6, 6),
-    (Format::Udp, &UDP, 12, 12),
-    // The length field: 0, 7, 8 and 13
-    (
-        Format::Udp,
-        b"\xbf\0\0\x35\0\0\x12\x4d\xaa\0\0\xff",
-        NEVER,
-        NEVER,
-    ),
-    (
-        Format::Udp,
-        b"\xbf\0\0\x35\0\x07\x12\x4d\xaa\0\0\xff",
-        NEVER,
-        NEVER,
-    ),
-    (Format::Udp, b"\xbf\0\0\x35\0\x08\x12\x4d\xaa\0\0\xff", 8, 8),
-    (
-        Format::Udp,
-        b"\xbf\0\0\x35\0\x0d\x12\x4d\xaa\0\0\xff",
-        NEVER,
-        NEVER,
-    ),
-    (Format::Tcp, &SYN, 20, 20),
-    (Format::Tcp, &SEGMENT, 24, 24),
-    // The header length: 0, 16, 24, 28 and 60 bytes
-    (
-        Format::Tcp,
-        b"\xbf\0\0\x50\x01\x23\x45\x67\0\0\0\0\0\x02\x01\x23\x7a\x8d\0\0\xaa\0\0\xff",
-        NEVER,
-        NEVER,
-    ),
-    (
-        Format::Tcp,
-        b"\xbf\0\0\x50\x01\x23\x45\x67\0\0\0\0\x40\x02\x01\x23\x7a\x8d\0\0\xaa\0\0\xff",
-        NEVER,
-        NEVER,
-    ),
-    (
-        Format::Tcp,
-        b"\xbf\0\0\x50\x01\x23\x45\x67\0\0\0\0\x60\x02\x01\x23\x7a\x8d\0\0\xaa\0\0\xff",
-        24,
-        24,
-    ),
-    (
-        Format::Tcp,
-        b"\xbf\0\0\x50\x01\x23\x45\x67\0\0\0\0\x70\x02\x01\x23\x7a\x8d\0\0\xaa\0\0\xff",
-        NEVER,
-        NEVER,
-    ),
-    (
-        Format::Tcp,
-        b"\xbf\0\0\x50\x01\x23\x45\x67\0\0\0\0\xf0\x02\x01\x23\x7a\x8d\0\0\xaa\0\0\xff",
-        NEVER,
-        NEVER,
-    ),
-    (Format::Icmp, &ECHO, 8, 8),
+/// No number of bytes is enough.
+pub(super) const NEVER: usize = usize::MAX;
+
+/// Packets of all formats.
+const LENGTHS: [&[(Format, &[u8], usize, usize)]; 8] = [
+    arp::LENGTHS,
+    ethernet::LENGTHS,
+    icmp::LENGTHS,
+    ipv4::LENGTHS,
+    ipv6::LENGTHS,
+    ipv6fragment::LENGTHS,
+    tcp::LENGTHS,
+    udp::LENGTHS,
 ];
 
-/// No number of bytes is enough.
-const NEVER: usize = usize::MAX;
+/// Whether the checks accept exactly so many bytes of a packet and more, and whether as many parse.
+fn has_lengths(format: Format, bytes: &[u8], least: usize, parsed: usize) -> bool {
+    for len in 0..=bytes.len().min(64) {
+        let mut buffer = [0; 64];
+        copy_to(&mut buffer[..len], &bytes[..len]);
+        let are_accepted = checks(format, &mut buffer[..len]) == [len >= least; 4];
+        let is_parsed = match parses(format, &bytes[..len]) {
+            Some(is_parsed) => is_parsed,
+            None => len >= parsed,
+        };
+        if !are_accepted || is_parsed != (len >= parsed) {
+            return false;
+        }
+    }
+    true
+}
 
 #[test]
 fn rejects_less_than_the_packet(rt: HostRuntime) {
-    for (format, bytes, least, parsed) in LENGTHS {
-        for len in 0..=bytes.len().min(64) {
-            let mut buffer = [0; 64];
-            copy_to(&mut buffer[..len], &bytes[..len]);
-            let found = checks(*format, &mut buffer[..len]);
-            assert!(rt; found == [len >= *least; 4], "{bytes:?} {len}");
-            if let Some(is_parsed) = parses(*format, &bytes[..len]) {
-                assert!(rt; is_parsed == (len >= *parsed), "{bytes:?} {len}");
-            }
+    for table in LENGTHS {
+        for (format, bytes, least, parsed) in table {
+            assert!(rt; has_lengths(*format, bytes, *least, *parsed), "{bytes:?}");
         }
     }
 }
 
 /// The payload that a view finds.
-fn payload(format: Format, bytes: &[u8]) -> Option<&[u8]> {
+pub(super) fn payload(format: Format, bytes: &[u8]) -> Option<&[u8]> {
     match format {
         Format::Ethernet => Some(EthernetFrame::new_checked(bytes).ok()?.payload()),
         Format::Arp | Format::Fragment => None,
@@ -260,84 +202,38 @@ fn fill(format: Format, bytes: &mut [u8]) {
     }
 }
 
-/// Packets with padding after them, and where their payloads begin and end.
-const PAYLOADS: &[(Format, &[u8], usize, usize)] = &[
-    (Format::Ethernet, &ETHERNET, 14, 20),
-    (
-        Format::Ip,
-        b"\x45\0\0\x18\0\0\x40\0\x40\x01\xd2\x79\x11\x12\x13\x14\x21\x22\x23\x24\xaa\0\0\xff\0\0",
-        20,
-        24,
-    ),
-    (Format::Ipv4, &IPV4_PACKET, 20, 24),
-    (
-        Format::Ipv4,
-        b"\x45\0\0\x1e\x01\x02\x62\x03\x1a\x01\xd5\x6e\x11\x12\x13\x14\x21\x22\x23\x24\xaa\0\0\0\0\0\0\0\0\xff\0",
-        20,
-        30,
-    ),
-    (Format::Ipv6, &IPV6_PACKET, 40, 52),
-    (
-        Format::Ipv6,
-        b"\x60\0\0\0\0\x02\x11\x40\xfe\x80\0\0\0\0\0\0\0\0\0\0\0\0\0\x01\xff\x02\0\0\0\0\0\0\0\0\0\0\0\0\0\x01\xaa\xff\x55\x55",
-        40,
-        42,
-    ),
-    (Format::Udp, b"\xbf\0\0\x35\0\x08\x12\x4d\xaa\0\0\xff", 8, 8),
-    (
-        Format::Udp,
-        b"\xbf\0\0\x35\0\x0c\x12\x4d\xaa\0\0\xff\x55\x55",
-        8,
-        12,
-    ),
-    (Format::Tcp, &SYN, 20, 24),
-    (Format::Tcp, &SEGMENT, 24, 28),
-    (Format::Icmp, &ECHO, 8, 17),
+/// Packets of all formats.
+const PAYLOADS: [&[(Format, &[u8], usize, usize)]; 7] = [
+    ethernet::PAYLOADS,
+    icmp::PAYLOADS,
+    ip::PAYLOADS,
+    ipv4::PAYLOADS,
+    ipv6::PAYLOADS,
+    tcp::PAYLOADS,
+    udp::PAYLOADS,
 ];
+
+/// Whether the payload of a packet begins and ends here, and a mutable view borrows it.
+fn has_payload(format: Format, bytes: &[u8], start: usize, end: usize) -> bool {
+    let mut buffer = [0; 64];
+    let mut want = [0; 64];
+    let len = bytes.len().min(64);
+    copy_to(&mut buffer[..len], &bytes[..len]);
+    copy_to(&mut want[..len], &bytes[..len]);
+    if let Some(part) = want.get_mut(start..end) {
+        part.fill(0x5a);
+    }
+    fill(format, &mut buffer[..len]);
+    buffer == want && payload(format, bytes) == bytes.get(start..end)
+}
 
 #[test]
 fn padding_is_no_payload(rt: HostRuntime) {
-    for (format, bytes, start, end) in PAYLOADS {
-        let mut buffer = [0; 64];
-        let mut want = [0; 64];
-        let len = bytes.len().min(64);
-        copy_to(&mut buffer[..len], &bytes[..len]);
-        copy_to(&mut want[..len], &bytes[..len]);
-        assert!(rt;
-            payload(*format, bytes) == bytes.get(*start..*end),
-            "{bytes:?}"
-        );
-        if let Some(part) = want.get_mut(*start..*end) {
-            part.fill(0x5a);
+    for table in PAYLOADS {
+        for (format, bytes, start, end) in table {
+            assert!(rt; has_payload(*format, bytes, *start, *end), "{bytes:?}");
         }
-        fill(*format, &mut buffer[..len]);
-        assert!(rt; buffer == want, "{bytes:?}");
     }
-}
-
-/// Packets of other versions than 4 and 6, and less than a packet.
-const WITHOUT_PAYLOAD: &[&[u8]] = &[
-    &[],
-    b"\x45\0\0\x18\0\0\x40\0\x40\x01\xd2\x79\x11\x12\x13\x14\x21\x22\x23\x24\xaa\0\0",
-    b"\x55\0\0\x18\0\0\x40\0\x40\x01\xd2\x79\x11\x12\x13\x14\x21\x22\x23\x24\xaa\0\0\xff\0\0",
-];
-
-#[test]
-fn an_ip_view_has_the_payload_of_its_version(rt: HostRuntime) {
-    for bytes in WITHOUT_PAYLOAD {
-        assert!(rt; payload(Format::Ip, bytes).is_none(), "{bytes:?}");
-    }
-    assert!(rt; IpPacket::new_unchecked(&[]).check_len().is_err());
-    assert!(rt; IpPacket::new_unchecked(&IPV4_PACKET).check_len().is_ok());
-    let packet = IpPacket::new_unchecked(&IPV6_PACKET);
-    assert!(rt; packet.payload() == Ok(&IPV6_PACKET[40..]));
-    assert!(rt;
-        [
-            packet.version(),
-            IpPacket::new_unchecked(&IPV4_PACKET).version()
-        ] == [6, 4]
-    );
-    assert!(rt; packet.into_inner() == IPV6_PACKET.as_slice());
 }
 
 /// Whether a view and a mutable view have all bytes.
