@@ -245,9 +245,6 @@ fn parses_a_packet_and_a_payload_by_themselves(rt: HostRuntime) {
 #[test]
 fn puts_layers_together(rt: HostRuntime) {
     let caps = ChecksumCapabilities::default();
-    let over_ipv4 = header(IpVersion::Ipv4, IpProtocol::Unknown(99), 0);
-    let over_ipv6 = header(IpVersion::Ipv6, IpProtocol::Unknown(99), 0);
-    let icmp = header(IpVersion::Ipv4, IpProtocol::Icmp, 0);
     let request = ArpRepr::EthernetIpv4 {
         operation: ArpOperation::Request,
         source_hardware_addr: SRC,
@@ -255,13 +252,25 @@ fn puts_layers_together(rt: HostRuntime) {
         target_hardware_addr: EthernetAddress([0x31, 0x32, 0x33, 0x34, 0x35, 0x36]),
         target_protocol_addr: Ipv4Address::new(65, 66, 67, 68),
     };
+    let (v4, v6, unknown) = (IpVersion::Ipv4, IpVersion::Ipv6, IpProtocol::Unknown(99));
+    let udp = Frame::udp(SRC, DST, header(v4, unknown, 0), PORTS, &UDP[42..]);
+    let udp_over_ipv6 = Frame::udp(
+        SRC,
+        DST,
+        header(v6, unknown, 0),
+        PORTS_OVER_IPV6,
+        &[0xff; 4],
+    );
+    let tcp = Frame::tcp(SRC, DST, header(v4, unknown, 0), SEGMENT);
+    let other = Transport::Other(&ECHO[34..]);
+    let echo = Frame::packet(SRC, DST, header(v4, IpProtocol::Icmp, 0), other);
+    let arp = Frame::arp(SRC, DST, request);
     let built = [
-        Frame::udp(SRC, DST, over_ipv4, PORTS, &UDP[42..]) == Frame::parse(&UDP, &caps),
-        Frame::udp(SRC, DST, over_ipv6, PORTS_OVER_IPV6, &[0xff; 4])
-            == Frame::parse(&UDP_OVER_IPV6, &caps),
-        Frame::tcp(SRC, DST, over_ipv4, SEGMENT) == Frame::parse(&SYN, &caps),
-        Frame::packet(SRC, DST, icmp, Transport::Other(&ECHO[34..])) == Frame::parse(&ECHO, &caps),
-        Ok(Frame::arp(SRC, DST, request)) == Frame::parse(&ARP, &caps),
+        udp == Frame::parse(&UDP, &caps),
+        udp_over_ipv6 == Frame::parse(&UDP_OVER_IPV6, &caps),
+        tcp == Frame::parse(&SYN, &caps),
+        echo == Frame::parse(&ECHO, &caps),
+        Ok(arp) == Frame::parse(&ARP, &caps),
     ];
     assert_eq!(rt; built, [true; 5]);
 }

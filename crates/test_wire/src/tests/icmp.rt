@@ -7,6 +7,7 @@ ghost use Rattle.wire_ends.specs.IpAddress.{version_of};
 use super::packets::ECHO;
 use super::views::Format;
 use net_base::ChecksumCapabilities;
+use test_support::bytes::has_front;
 use wire_ends::{IpAddress, IpVersion};
 use wire_icmp::{
     Exceeded, ICMP_HEADER_LEN, IcmpPacket, IcmpPacketMut, IcmpRepr, Unreachable, protocol_of,
@@ -101,7 +102,7 @@ fn is_message(version: IpVersion, header: &[u8; 8], payload: &[u8], value: IcmpR
     let is_emitted = value.try_emit(&mut buffer, &src, &dst, payload, &caps) == Some(len)
         && &buffer[..8] == header.as_slice()
         && &buffer[8..len] == payload
-        && buffer[len..].iter().all(|byte| *byte == 0x55);
+        && has_front(&buffer[len..], &[], 0x55);
     let packet = IcmpPacket::new_unchecked(&buffer[..len]);
     let is_parsed = IcmpRepr::parse(&packet, &src, &dst, &caps) == Ok(value);
     buffer[3] = !buffer[3];

@@ -127,7 +127,7 @@ const SHOWN: [(Shown, &str); 34] = [
 ];
 
 #[test]
-fn prints_values_and_ignores_the_width_of_a_format(rt: HostRuntime) {
+fn prints_values(rt: HostRuntime) {
     for (shown, text) in &SHOWN {
         assert!(rt; is_shown(shown, text), "{text}");
     }
