@@ -17,13 +17,13 @@ use Rattle.app_edit.specs.declared.places.Segment.{Segment}
 
 -- ---- protocols
 
--- Pinned by: `apps/edits`
+-- Pinned by: `worked/edit`
 -- whether this is IPv4
 abbrev pub is_ipv4 : IpVersion → Bool
 is_ipv4 version.Ipv4 = true
 is_ipv4 version.Ipv6 = false
 
--- Pinned by: `apps/edits`
+-- Pinned by: `worked/edit`
 -- whether it is the protocol of a transport packet with a checksum: TCP, UDP, ICMP over IPv4, ICMPv6 over IPv6
 abbrev pub has_checksum : Bool → IpProtocol → Bool
 has_checksum over_ipv4 protocol.Tcp = true
@@ -32,7 +32,7 @@ has_checksum over_ipv4 protocol.Icmp = over_ipv4
 has_checksum over_ipv4 protocol.Icmpv6 = not over_ipv4
 has_checksum over_ipv4 _ = false
 
--- Pinned by: `apps/edits`
+-- Pinned by: `worked/edit`
 -- whether it is the number of a header after which the transport packet is not looked for: the authentication header
 -- (RFC 4302), and over IPv6 hop-by-hop options, routing, fragment, destination options (RFC 8200, section 4)
 abbrev pub hides_next : Bool → IpProtocol → Bool
@@ -53,26 +53,26 @@ covers_addresses over_ipv4 (protocol.Unknown n) =
     n == 33 || n == 89 || n == 112 || n == 136 || n == 139 || (not over_ipv4 && (n == 103 || n == 135))
 covers_addresses over_ipv4 _ = false
 
--- Pinned by: `apps/edits`
+-- Pinned by: `worked/edit`
 -- the offset of the checksum field in a transport header (RFC 9293, RFC 768, RFC 792, RFC 4443)
 abbrev pub checksum_offset : IpProtocol → ℕ
 checksum_offset protocol.Tcp = 16
 checksum_offset protocol.Udp = 6
 checksum_offset _ = 2
 
--- Pinned by: `apps/edits`
+-- Pinned by: `worked/edit`
 -- the place of the checksum field of a transport packet
 abbrev pub checksum_place : Segment → ℕ
 checksum_place s = s.start + checksum_offset s.protocol
 
 -- ---- what a packet carries
 
--- Pinned by: `apps/edits`
+-- Pinned by: `worked/edit`
 -- the length field of a UDP packet at this place
 abbrev pub datagram_len : List ℕ → ℕ → ℕ
 datagram_len frame start = big_number 2 (drop (start + 4) frame)
 
--- Pinned by: `apps/edits`
+-- Pinned by: `worked/edit`
 -- the UDP packet from `start` on: its checksum covers as many bytes as its length field says
 abbrev pub datagram_at : List ℕ → ℕ → ℕ → Bool → Carried
 datagram_at frame start end whole =
@@ -84,7 +84,7 @@ datagram_at frame start end whole =
       is_whole = whole && nat_le (start + datagram_len frame start) end;
     })
 
--- Pinned by: `apps/edits`
+-- Pinned by: `worked/edit`
 -- the transport packet of a protocol with a checksum, from `start` up to `end`
 abbrev pub segment_at : List ℕ → IpProtocol → ℕ → ℕ → Bool → Carried
 segment_at frame protocol.Udp start end whole = if nat_lt end (start + 8) then carried.Hidden else datagram_at frame start end whole
@@ -92,7 +92,7 @@ segment_at frame p start end whole =
     if nat_lt end (start + checksum_offset p + 2) then carried.Hidden
     else carried.Segment (record { protocol = p; start = start; end = end; is_whole = whole })
 
--- Pinned by: `apps/edits`
+-- Pinned by: `worked/edit`
 -- what a packet of this protocol carries from `start` up to `end`, if it is no later fragment
 abbrev pub carried_by : List ℕ → Bool → IpProtocol → ℕ → ℕ → Bool → Carried
 carried_by frame over_ipv4 p start end whole =
@@ -102,7 +102,7 @@ carried_by frame over_ipv4 p start end whole =
 
 -- ---- the places in a frame
 
--- Pinned by: `apps/edits`
+-- Pinned by: `worked/edit`
 -- what an IPv4 packet carries from `start` up to `end`
 abbrev pub ipv4_carried : List ℕ → ℕ → ℕ → Carried
 ipv4_carried frame start end =
@@ -110,7 +110,7 @@ ipv4_carried frame start end =
     if ipv4.fragment_offset bytes == 0 then carried_by frame true (protocol_of (field bytes 72 8)) start end (not (field bytes 50 1 == 1))
     else carried.Fragment
 
--- Pinned by: `apps/edits`
+-- Pinned by: `worked/edit`
 -- the places in a frame with the EtherType of IPv4, if its header parses; its checksum is not verified
 abbrev pub ipv4_places : List ℕ → Option Places
 ipv4_places frame =
@@ -119,14 +119,14 @@ ipv4_places frame =
     if ipv4.is_read false (drop 14 frame) then Some (record { version = version.Ipv4; start = start; end = end; carried = ipv4_carried frame start end })
     else None
 
--- Pinned by: `apps/edits`
+-- Pinned by: `worked/edit`
 -- what an IPv6 packet with a fragment header right after the IPv6 header carries (RFC 8200, section 4.5)
 abbrev pub fragment_carried : List ℕ → ℕ → Carried
 fragment_carried frame end =
     if field (drop 56 frame) 0 13 == 0 then carried_by frame false (protocol_of (slice_index frame 54)) 62 end (not (field (drop 56 frame) 15 1 == 1))
     else carried.Fragment
 
--- Pinned by: `apps/edits`
+-- Pinned by: `worked/edit`
 -- the places of an IPv6 packet with this next header and length in bytes
 abbrev pub places_after : List ℕ → IpProtocol → ℕ → Places
 places_after frame protocol.Ipv6Frag len =
@@ -134,33 +134,33 @@ places_after frame protocol.Ipv6Frag len =
     else record { version = version.Ipv6; start = 54; end = 14 + len; carried = carried_by frame false protocol.Ipv6Frag 54 (14 + len) true }
 places_after frame p len = record { version = version.Ipv6; start = 54; end = 14 + len; carried = carried_by frame false p 54 (14 + len) true }
 
--- Pinned by: `apps/edits`
+-- Pinned by: `worked/edit`
 -- the places in a frame with the EtherType of IPv6, if its header parses
 abbrev pub ipv6_places : List ℕ → Option Places
 ipv6_places frame =
     let bytes = drop 14 frame in
     if ipv6.is_read bytes then Some (places_after frame (protocol_of (field bytes 48 8)) (ipv6.total_len bytes)) else None
 
--- Pinned by: `apps/edits`
+-- Pinned by: `worked/edit`
 -- the places in a frame with this EtherType
 abbrev pub places_by : EthernetProtocol → List ℕ → Option Places
 places_by ethertype.Ipv4 frame = ipv4_places frame
 places_by ethertype.Ipv6 frame = ipv6_places frame
 places_by _ frame = None
 
--- Pinned by: `apps/edits`
+-- Pinned by: `worked/edit`
 -- the places in an Ethernet II frame, if its packet is IPv4 or IPv6
 unfoldable pub places_of : List ℕ → Option Places
 places_of frame = if nat_lt (length frame) 14 then None else places_by (ethernet.protocol_of (field frame 96 16)) frame
 
 -- ---- places that are in a frame
 
--- Pinned by: `apps/edits`
+-- Pinned by: `worked/edit`
 -- where the two addresses begin (RFC 791, section 3.1; RFC 8200, section 3)
 abbrev pub addresses_start : IpVersion → ℕ
 addresses_start v = if is_ipv4 v then 26 else 22
 
--- Pinned by: `apps/edits`
+-- Pinned by: `worked/edit`
 -- where they end
 abbrev pub addresses_end : IpVersion → ℕ
 addresses_end v = if is_ipv4 v then 34 else 54

@@ -57,14 +57,14 @@ pub record IsBetweenHosts (ours : Interface) (link : EthernetRepr) (v : IpRepr) 
   pub to_addr : IsHostAddr (dst_addr_of v)
   pub own : IsHostAddr (src_addr_of (header_from ours v))
 
--- Pinned by: `apps/icmp`
+-- Pinned by: `worked/icmp`
 -- The bytes of the packet that an error quotes. The packet with the error has at most 576 bytes over IPv4 (RFC 1812,
 -- section 4.3.2.3), and 1,280 over IPv6 (RFC 4443, section 2.4 c). Padding after the packet is not quoted.
 abbrev pub quoted : IpVersion → List ℕ → List ℕ
 quoted version.Ipv4 bytes = take (min 548 (ipv4.total_len bytes)) bytes
 quoted version.Ipv6 bytes = take (min 1232 (ipv6.total_len bytes)) bytes
 
--- Pinned by: `apps/icmp`; too wide: `MessagesOnce`, `calls/host`
+-- Pinned by: `worked/icmp`; too wide: `MessagesOnce`, `calls/host`
 -- The second frame carries an ICMP error with this message about the packet with this header in the first frame. An
 -- error may be sent about it.
 pub record IsErrorAbout (ours : Interface) (frame : List ℕ) (v : IpRepr) (message : IcmpRepr) (header : EthernetRepr) (carried : Carried) : Type 0 where
@@ -78,7 +78,7 @@ pub record IsErrorAbout (ours : Interface) (frame : List ℕ) (v : IpRepr) (mess
       let bytes = bytes_of message (quoted (version_of v) (drop 14 frame)) (src_addr_of back) (dst_addr_of back) true in
       packet (header_before back (protocol_of (version_of v)) (length bytes)) (other bytes))
 
--- Pinned by: `apps/icmp`; too wide: `MessagesOnce`, `calls/host`
+-- Pinned by: `worked/icmp`; too wide: `MessagesOnce`, `calls/host`
 -- the second frame carries an ICMP error with this message about the packet in the first frame
 abbrev pub IsError : Interface → List ℕ → IcmpRepr → EthernetRepr → Carried → Type 0
 IsError ours frame message header carried = (v : IpRepr) × IsErrorAbout ours frame v message header carried

@@ -32,7 +32,7 @@ use Rattle.app_nat.specs.declared.packet.Packet.{Packet}
 
 -- ---- values
 
--- Pinned by: `apps/nat_errors`
+-- Pinned by: `worked/nat`
 -- the other side: destination for source, source for destination
 abbrev pub opposite : Side → Side
 opposite Source = Destination
@@ -62,7 +62,7 @@ abbrev pub with_tcp_port : Side → ℕ → TcpHeader → TcpHeader
 with_tcp_port Source port v = record v { src_port = port }
 with_tcp_port Destination port v = record v { dst_port = port }
 
--- Pinned by: `apps/nat`, `apps/nat_echo`
+-- Pinned by: `apps/nat`, `worked/nat`
 -- what a NAT translates in a packet: a UDP packet, a TCP segment, or an ICMP echo message with its identifier, its sequence
 -- number and its data
 pub data Transport : Type 0 where
@@ -71,13 +71,13 @@ pub data Transport : Type 0 where
   request : ℕ → ℕ → List ℕ → Transport
   reply : ℕ → ℕ → List ℕ → Transport
 
--- Pinned by: `apps/nat`, `apps/nat_echo`
+-- Pinned by: `apps/nat`, `worked/nat`
 -- the port on a side, of a source and a destination port
 abbrev pub on_side : ℕ → ℕ → Side → ℕ
 on_side src dst Source = src
 on_side src dst Destination = dst
 
--- Pinned by: `apps/nat`, `apps/nat_echo`
+-- Pinned by: `apps/nat`, `worked/nat`
 -- The port of a transport on a side. The identifier of an echo message counts as its port on either side (RFC 5508,
 -- section 3.1).
 abbrev pub port_of : Side → Transport → ℕ
@@ -86,7 +86,7 @@ port_of side (segment v payload) = on_side v.src_port v.dst_port side
 port_of side (request ident seq_no payload) = ident
 port_of side (reply ident seq_no payload) = ident
 
--- Pinned by: `apps/nat`, `apps/nat_echo`
+-- Pinned by: `apps/nat`, `worked/nat`
 -- the transport with another port on this side
 abbrev pub with_port : Side → ℕ → Transport → Transport
 with_port side port (datagram v payload) = datagram (with_udp_port side port v) payload
@@ -94,7 +94,7 @@ with_port side port (segment v payload) = segment (with_tcp_port side port v) pa
 with_port side port (request ident seq_no payload) = request port seq_no payload
 with_port side port (reply ident seq_no payload) = reply port seq_no payload
 
--- Pinned by: `apps/nat`, `apps/nat_echo`; too wide: `NatOnce`
+-- Pinned by: `apps/nat`, `worked/nat`; too wide: `NatOnce`
 -- A receiver accepts this port on this side: any source port of a UDP packet, where 0 means that no reply is expected
 -- (RFC 768), any identifier of an echo message, else any port but 0.
 abbrev pub AllowsPort : Side → Transport → ℕ → Type 0
@@ -103,7 +103,7 @@ AllowsPort side (request ident seq_no payload) port = ⊤
 AllowsPort side (reply ident seq_no payload) port = ⊤
 AllowsPort _ _ port = port ≢ 0
 
--- Pinned by: `apps/nat`, `apps/nat_echo`
+-- Pinned by: `apps/nat`, `worked/nat`
 -- the kind of a transport, with the control flag of a TCP segment
 abbrev pub kind_of : Transport → Kind
 kind_of (datagram v payload) = kind.Udp
@@ -142,7 +142,7 @@ with_udp_end = with_end_by udp.with_updated_checksum
 abbrev pub with_tcp_end : Side → List ℕ → List ℕ → ℕ → List ℕ → List ℕ
 with_tcp_end = with_end_by tcp.with_updated_checksum
 
--- Pinned by: `apps/nat_echo`
+-- Pinned by: `worked/nat`
 -- The bytes of an echo message with this identifier and a new checksum. Over IPv4 the checksum covers no address.
 abbrev pub with_echo_ident : List ℕ → ℕ → List ℕ → List ℕ
 with_echo_ident addr ident bytes = icmp.with_checksum (address.Ipv4 addr) (address.Ipv4 addr) (with_field bytes 32 16 ident)
@@ -188,13 +188,13 @@ LacksChecksum frame = (protocol_of (field (drop 14 frame) 72 8) ≡ protocol.Udp
 
 -- ---- accepted frames
 
--- Pinned by: `apps/nat`, `apps/nat_echo`; too wide: `NatOnce`
+-- Pinned by: `apps/nat`, `worked/nat`; too wide: `NatOnce`
 -- the payload of a packet with this header is an ICMP message that parses as this value and data, with its checksum
 abbrev pub ReadsMessage : Ipv4Repr → List ℕ → IcmpRepr → List ℕ → Type 0
 ReadsMessage header bytes v payload =
     (header.next_header ≡ protocol.Icmp) × icmp.Reads bytes (address.Ipv4 header.src_addr) (address.Ipv4 header.dst_addr) true v payload
 
--- Pinned by: `apps/nat`, `apps/nat_echo`; too wide: `NatOnce`
+-- Pinned by: `apps/nat`, `worked/nat`; too wide: `NatOnce`
 -- the payload of a packet with this header parses as this transport, with its checksum
 abbrev pub ReadsPorts : Ipv4Repr → List ℕ → Transport → Type 0
 ReadsPorts header bytes (datagram v payload) = ReadsTransport all_checked (Ipv4 header) bytes (whole.datagram v payload)
@@ -202,7 +202,7 @@ ReadsPorts header bytes (segment v payload) = ReadsTransport all_checked (Ipv4 h
 ReadsPorts header bytes (request ident seq_no payload) = ReadsMessage header bytes (EchoRequest ident seq_no) payload
 ReadsPorts header bytes (reply ident seq_no payload) = ReadsMessage header bytes (EchoReply ident seq_no) payload
 
--- Pinned by: `apps/nat`, `apps/nat_echo`; too wide: `NatOnce`
+-- Pinned by: `apps/nat`, `worked/nat`; too wide: `NatOnce`
 -- the bytes are an IPv4 packet with this header that is no fragment and carries this transport; all checksums are valid
 pub record CarriesPorts (bytes : List ℕ) (header : Ipv4Repr) (transport : Transport) : Type 0 where
   pub reads : ReadsPacket all_checked bytes (Ipv4 header)
@@ -229,14 +229,14 @@ pub record CarriesWhole (frame : List ℕ) (header : Ipv4Repr) (payload : List �
   pub reads : ReadsPacket all_checked (drop 14 frame) (Ipv4 header)
   pub inner : payload ≡ ipv4_payload (drop 14 frame)
 
--- Pinned by: `apps/nat`, `apps/nat_echo`; too wide: `NatOnce`
+-- Pinned by: `apps/nat`, `worked/nat`; too wide: `NatOnce`
 -- the transport of a packet with this payload, as a receiver without ICMP parses it
 abbrev pub plain : Transport → List ℕ → whole.Transport
 plain (datagram v payload) bytes = whole.datagram v payload
 plain (segment v payload) bytes = whole.segment v payload
 plain _ bytes = whole.other bytes
 
--- Pinned by: `apps/nat`, `apps/nat_echo`; too wide: `NatOnce`
+-- Pinned by: `apps/nat`, `worked/nat`; too wide: `NatOnce`
 -- the frame has this Ethernet header, and carries an IPv4 packet with this header and this transport; all checksums
 -- are valid
 pub record Carries (frame : List ℕ) (link : EthernetRepr) (header : Ipv4Repr) (transport : Transport) : Type 0 where
@@ -251,25 +251,25 @@ pub record IsPacket (frame : List ℕ) (p : Packet) : Type 0 where
   pub carries : Carries frame link p.header transport
   pub described : Describes p transport
 
--- Pinned by: `apps/nat`, `apps/nat_echo`
+-- Pinned by: `apps/nat`, `worked/nat`
 -- why a packet that parses as this transport is not translated, or does not parse: it is neither UDP nor TCP
 abbrev pub ports_fault : Option whole.Transport → Option Rejection
 ports_fault None = Some BadTransport
 ports_fault (Some (whole.other bytes)) = Some OtherProtocol
 ports_fault (Some t) = None
 
--- Pinned by: `apps/nat_echo`
+-- Pinned by: `worked/nat`
 -- the kind of an ICMP message with this type and code, if it is an echo request or an echo reply (RFC 792)
 abbrev pub echo_kind : ℕ → ℕ → Option Kind
 echo_kind type code =
     if type == 8 && code == 0 then Some kind.EchoRequest else if type == 0 && code == 0 then Some kind.EchoReply else None
 
--- Pinned by: `apps/nat_echo`, `apps/nat_errors`
+-- Pinned by: `worked/nat`
 -- the bytes are long enough for an ICMP message over IPv4, and have its checksum
 abbrev pub is_message : List ℕ → Bool
 is_message bytes = icmp.has_header bytes && sum_of_bytes bytes == 65535
 
--- Pinned by: `apps/nat_echo`
+-- Pinned by: `worked/nat`
 -- Why this ICMP message is not translated: it is no echo, or it is too short or has a wrong checksum. In a message of less
 -- than 2 bytes, the type and the code count as 0 if they are missing.
 abbrev pub echo_fault : List ℕ → Option Rejection
@@ -278,13 +278,13 @@ echo_fault bytes =
     else if is_message bytes then None
     else Some BadTransport
 
--- Pinned by: `apps/nat`, `apps/nat_echo`
+-- Pinned by: `apps/nat`, `worked/nat`
 -- why the payload of a packet of this protocol, with this header, is not translated
 abbrev pub transport_fault_by : IpProtocol → Ipv4Repr → List ℕ → Option Rejection
 transport_fault_by protocol.Icmp v bytes = echo_fault bytes
 transport_fault_by p v bytes = ports_fault (transport_by all_checked p (address.Ipv4 v.src_addr) (address.Ipv4 v.dst_addr) bytes)
 
--- Pinned by: `apps/nat`, `apps/nat_echo`
+-- Pinned by: `apps/nat`, `worked/nat`
 -- why the payload of a packet with this header is not translated
 abbrev pub transport_fault : Ipv4Repr → List ℕ → Option Rejection
 transport_fault v bytes = transport_fault_by v.next_header v bytes
@@ -307,18 +307,18 @@ whole_fault_by _ bytes = Some NotIpv4
 abbrev pub whole_fault : List ℕ → Option Rejection
 whole_fault frame = option_map_or (λ link. whole_fault_by link.ethertype (drop 14 frame)) (ethernet_of frame) (Some NotIpv4)
 
--- Pinned by: `apps/nat`, `apps/nat_echo`
+-- Pinned by: `apps/nat`, `worked/nat`
 -- why a frame is rejected: it carries no whole IPv4 packet, or else for the reason that this function gives for its header
 -- and payload
 abbrev pub frame_fault : (Ipv4Repr → List ℕ → Option Rejection) → List ℕ → Option Rejection
 frame_fault fault_of frame = option_or (whole_fault frame) (fault_of (ipv4.header_of (drop 14 frame)) (ipv4_payload (drop 14 frame)))
 
--- Pinned by: `apps/nat`, `apps/nat_echo`
+-- Pinned by: `apps/nat`, `worked/nat`
 -- why a frame does not carry one of these transports
 abbrev pub packet_fault : List ℕ → Option Rejection
 packet_fault frame = frame_fault transport_fault frame
 
--- Pinned by: `apps/nat`, `apps/nat_echo`
+-- Pinned by: `apps/nat`, `worked/nat`
 -- the frame is rejected for this reason
 abbrev pub IsRejected : List ℕ → Rejection → Type 0
 IsRejected frame reason = packet_fault frame ≡ Some reason

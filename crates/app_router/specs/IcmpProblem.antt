@@ -29,7 +29,7 @@ HasProblem Expired v bytes = hop_limit_of v ≤ 1
 HasProblem (TooLong mtu) v bytes = IsTooLong mtu v bytes
 HasProblem _ v bytes = ⊤
 
--- Pinned by: `apps/icmp`
+-- Pinned by: `worked/icmp`
 -- the ICMP message that reports a problem
 abbrev pub message_of : Problem → IcmpRepr
 message_of Expired = TimeExceeded exceeded.HopLimit
@@ -38,7 +38,7 @@ message_of NoRoute = DstUnreachable unreachable.NoRoute
 message_of NoNeighbour = DstUnreachable unreachable.Host
 message_of Prohibited = DstUnreachable unreachable.Prohibited
 
--- Pinned by: `apps/icmp`
+-- Pinned by: `worked/icmp`
 -- the second frame carries the ICMP error about the packet in the first frame, which has the problem
 abbrev pub Tells : Interface → List ℕ → Problem → EthernetRepr → Carried → Type 0
 Tells ours frame problem header carried =

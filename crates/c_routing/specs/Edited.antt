@@ -14,7 +14,7 @@ offload_of number =
     else if int_eq number (pos 2) then offload.Complete
     else offload.Guess
 
--- Pinned by: `apps/edits`, `judge`
+-- Pinned by: `worked/edit`, `judge`
 -- 1 is returned, and these are the new bytes of the frame; or 0, if there are none, and the frame is unchanged
 abbrev pub Edits : Option (List ℕ) → List ℕ → List ℕ → ℤ → Type 0
 Edits edited old new answer = (answer ≡ pos (flag (is_some edited))) × (new ≡ unwrap_or edited old)
