@@ -12,7 +12,7 @@ use Rattle.app_host.specs.Message.{HasClass, dscp_of}
 use Rattle.app_host.specs.declared.interface.Interface.{Interface}
 use Rattle.app_host.specs.declared.message.MessageFrame.{MessageFrame}
 
--- Pinned by: `worked/icmp`; too wide: `MessagesOnce`, `calls/host`
+-- Pinned by: `worked/hosts`; too wide: `MessagesOnce`, `calls/host`
 -- A frame with these values is an echo request for us, and the other frame is the reply to it. It has the same
 -- identifier, sequence number and data.
 pub record IsIcmpEcho (ours : Interface) (asked_header : EthernetRepr) (asked : Carried) (header : EthernetRepr) (carried : Carried) : Type 0 where
@@ -45,7 +45,7 @@ HasDscpOf ours request bytes f =
     (header : EthernetRepr) (asked carried : Carried) → 16 ≤ length bytes → carried_of request.carried ≡ Some asked → (e : IsIcmpEcho ours request.header asked header carried)
     → (version_of f.ip ≡ version_of e.ip) × (f.dscp ≡ dscp_of (version_of e.ip) (drop 14 bytes))
 
--- Pinned by: `worked/icmp`; too wide: `MessagesOnce`, `calls/host`
+-- Pinned by: `worked/hosts`; too wide: `MessagesOnce`, `calls/host`
 -- the values of our echo reply to a frame
 abbrev pub RepliesEchoFrame : Interface → Frame → EthernetRepr → Carried → Type 0
 RepliesEchoFrame ours request header carried =

@@ -19,13 +19,13 @@ use Rattle.app_host.specs.declared.message.MessageFrame.{MessageFrame}
 use Rattle.app_host.specs.declared.message.Reply.{Reply}
 use Rattle.app_host.specs.declared.message.Reply.TheVariants as reply
 
--- Pinned by: `worked/icmp`
+-- Pinned by: `worked/hosts`, `worked/icmp`
 -- the bytes of a message in a packet with this header, with its checksum
 abbrev pub message_bytes : IpRepr → Message → List ℕ
 message_bytes v (Icmp value payload) = icmp.bytes_of value payload.now (src_addr_of v) (dst_addr_of v) true
 message_bytes v (Ndisc value) = ndisc.bytes_of value (address_bytes (src_addr_of v)) (address_bytes (dst_addr_of v)) true
 
--- Pinned by: `worked/icmp`
+-- Pinned by: `worked/hosts`, `worked/icmp`
 -- the number of bytes of a message
 abbrev pub message_len : Message → ℕ
 message_len (Icmp value payload) = 8 + length payload.now
@@ -37,12 +37,12 @@ abbrev pub IsOfVersion : Message → IpRepr → Type 0
 IsOfVersion (Icmp value payload) v = ⊤
 IsOfVersion (Ndisc value) v = version_of v ≡ version.Ipv6
 
--- Pinned by: `worked/icmp`
+-- Pinned by: `worked/hosts`, `worked/icmp`
 -- the values of what the frame of a message carries
 abbrev pub values_of : MessageFrame → Carried
 values_of f = packet f.ip (other (message_bytes f.ip f.message))
 
--- Pinned by: `worked/icmp`
+-- Pinned by: `worked/hosts`, `worked/icmp`
 -- the emitted bytes of the frame of a message
 abbrev pub frame_bytes : MessageFrame → List ℕ
 frame_bytes f = ethernet.bytes_of f.header ++ (ip.bytes_of f.ip true ++ message_bytes f.ip f.message)
@@ -65,7 +65,7 @@ Composes header v =
     (bytes padding : List ℕ) → header.ethertype ≡ type_of v → next_header_of v ≡ protocol_of (version_of v) → payload_len_of v ≡ length bytes
     → IsReadWhole (ethernet.bytes_of header ++ (ip.bytes_of v true ++ bytes) ++ padding) header (packet v (other bytes))
 
--- Pinned by: `worked/icmp`
+-- Pinned by: `worked/hosts`, `worked/icmp`
 -- the result is a frame with the values of a reply that can be emitted, or there is no reply
 abbrev pub Gives : (EthernetRepr → Carried → Type 0) → Option MessageFrame → Type 0
 Gives IsReply None = (header : EthernetRepr) (carried : Carried) → ¬ IsReply header carried
@@ -133,7 +133,7 @@ abbrev pub IsSendableReply : Reply → Type 0
 IsSendableReply (reply.Frame f) = frame.IsSendable f
 IsSendableReply (reply.Message f) = IsSendable f
 
--- Pinned by: `worked/icmp`
+-- Pinned by: `worked/hosts`, `worked/icmp`
 -- the result is a reply with these values that can be emitted, or there is no reply
 abbrev pub GivesReply : (EthernetRepr → Carried → Type 0) → Option Reply → Type 0
 GivesReply IsReply None = (header : EthernetRepr) (carried : Carried) → ¬ IsReply header carried
@@ -154,7 +154,7 @@ IsReplyMarked (reply.Message f) bytes = IsMarked f bytes
 
 -- ---- frames that are put together
 
--- Pinned by: `worked/icmp`
+-- Pinned by: `worked/hosts`, `worked/icmp`
 -- the frame between two hosts with this message, in a packet with the addresses and the hop limit of a header, and with
 -- DSCP 0
 abbrev pub message_frame : EthernetAddress → EthernetAddress → IpRepr → Message → MessageFrame

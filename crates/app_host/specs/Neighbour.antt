@@ -57,19 +57,19 @@ IsAnsweredTo ours link ip named hardware dst solicited =
     ((ip.src_addr ≡ ipv6_unspecified) × (dst ≡ all_nodes) × (hardware.0 ≡ group_hardware all_nodes) × (solicited ≡ false))
     ⊎ (¬ IsInvalidSource ours (address.Ipv6 ip.src_addr) × (dst ≡ ip.src_addr) × (hardware ≡ hardware_of named link.src_addr) × IsUnicast hardware.0 × (solicited ≡ true))
 
--- Pinned by: proof of `reply`; `worked/icmp`
+-- Pinned by: proof of `reply`; `worked/hosts`
 -- The advertisement of our hardware address, which replaces another one that is known. A router sets the flag R: a
 -- host that gets R of 0 no longer sends through it (RFC 4861, sections 7.2.4 and 7.2.5).
 abbrev pub advert_of : Interface → Bool → NdiscRepr
 advert_of ours solicited =
     NeighborAdvert (record { router = ours.is_router; solicited = solicited; override_ = true }) ours.ipv6_addr (Some ours.hardware_addr)
 
--- Pinned by: proof of `reply`; `worked/icmp`
+-- Pinned by: proof of `reply`; `worked/hosts`
 -- the IPv6 header of our advertisement, before its length is filled in
 abbrev pub advert_header : Interface → List ℕ → Ipv6Repr
 advert_header ours dst = record { src_addr = ours.ipv6_addr; dst_addr = dst; next_header = protocol.Icmpv6; payload_len = 0; hop_limit = 255 }
 
--- Pinned by: `worked/icmp`; too wide: `MessagesOnce`, `calls/host`
+-- Pinned by: `worked/hosts`; too wide: `MessagesOnce`, `calls/host`
 -- A frame with these values asks for our IPv6 address, and the other frame is the reply to it, which names our
 -- hardware address.
 pub record IsNeighbourReply (ours : Interface) (asked_header : EthernetRepr) (asked : Carried) (header : EthernetRepr) (carried : Carried) : Type 0 where
@@ -87,7 +87,7 @@ pub record IsNeighbourReply (ours : Interface) (asked_header : EthernetRepr) (as
   pub tells : carried ≡ (let bytes = bytes_of (advert_of ours solicited) ours.ipv6_addr dst true in
       packet (Ipv6 (record (advert_header ours dst) { payload_len = length bytes })) (other bytes))
 
--- Pinned by: `worked/icmp`; too wide: `MessagesOnce`, `calls/host`
+-- Pinned by: `worked/hosts`; too wide: `MessagesOnce`, `calls/host`
 -- the values of our advertisement in reply to a frame
 abbrev pub AdvertisesFrame : Interface → Frame → EthernetRepr → Carried → Type 0
 AdvertisesFrame ours request header carried =

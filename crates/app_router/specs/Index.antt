@@ -38,7 +38,7 @@ IsBlock block = IsAddress (block_address block) × (block_prefix_len block ≤ b
 abbrev pub block_at : List IpCidr → ℕ → IpCidr
 block_at blocks i = slice_index_or blocks i (cidr.Ipv4 (record { address = replicate 4 0; prefix_len = 0 }))
 
--- Pinned by: `apps/routes`; too wide: `RoutesOnce`
+-- Pinned by: `worked/route`; too wide: `RoutesOnce`
 -- The block at index i contains the address, and has the longest prefix of those that do. Of several with that length
 -- it is the first.
 pub record IsChosenAt (blocks : List IpCidr) (addr : IpAddress) (i : ℕ) : Type 0 where
@@ -144,7 +144,7 @@ pub record IsFilled (blocks : List IpCidr) (nodes : List Node) : Type 0 where
   pub len : length nodes ≡ length blocks
   pub each : (i : ℕ) → i < length blocks → IsBlock (block_at blocks i) × (node_at nodes i ≡ node_of (block_at blocks i) i)
 
--- Pinned by: `apps/routes`; too wide: proof of `find`
+-- Pinned by: `worked/route`; too wide: proof of `find`
 -- the index of these blocks: the node of each block once, in their order and with their links
 pub record IsIndex (blocks : List IpCidr) (nodes : List Node) : Type 0 where
   pub count : length blocks < 2 ^ 32

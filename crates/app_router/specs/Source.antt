@@ -7,12 +7,12 @@ use Rattle.app_router.specs.declared.source.SourceFault.{SourceFault}
 use Rattle.app_router.specs.declared.source.SourceFault.TheVariants.{Martian, NoRoute, OtherInterface}
 use Rattle.ip_wire.specs.declared.IpAddress.{IpAddress}
 
--- Pinned by: `apps/routes`; too wide: `apps/routes`
+-- Pinned by: `worked/route`; too wide: `worked/route`
 -- no host may send a packet from this address (RFC 1812, section 5.3.7; RFC 4291, section 2.7)
 abbrev pub IsMartian : IpAddress → Type 0
 IsMartian addr = IsThisHost addr ⊎ IsNoHost addr
 
--- Pinned by: `apps/routes`; too wide: `RoutesOnce`
+-- Pinned by: `worked/route`; too wide: `RoutesOnce`
 -- why a packet from a source address that came in by an interface is dropped, if the route back to it leads to this
 -- interface, or there is none
 abbrev pub IsFault : IpAddress → ℕ → Option ℕ → SourceFault → Type 0
@@ -20,12 +20,12 @@ IsFault src interface back Martian = IsMartian src
 IsFault src interface back NoRoute = ¬ IsMartian src × (back ≡ None)
 IsFault src interface back OtherInterface = ¬ IsMartian src × ((other : ℕ) × (back ≡ Some other) × (other ≢ interface))
 
--- Pinned by: `apps/routes`; too wide: `RoutesOnce`
+-- Pinned by: `worked/route`; too wide: `RoutesOnce`
 -- the packet is accepted exactly if its source is not martian and the route back leads to the interface
 abbrev pub ChecksSource : IpAddress → ℕ → Option ℕ → Option SourceFault → Type 0
 ChecksSource src interface back fault = MatchOption fault (¬ IsMartian src × (back ≡ Some interface)) (IsFault src interface back)
 
--- Pinned by: `apps/routes`; too wide: proof of `check_source_by_index`
+-- Pinned by: `worked/route`; too wide: proof of `check_source_by_index`
 -- the interface of the route to an address, if there is a route
 abbrev pub IsBack : List Route → IpAddress → Option ℕ → Type 0
 IsBack routes addr back = MatchOption back (All (λ route. ¬ Leads addr route) routes)

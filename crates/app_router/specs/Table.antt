@@ -120,7 +120,7 @@ ranges_in n cells = take (2 * (n + 1)) (drop (n + 1) (drop (2 * (n + 1)) cells))
 abbrev pub AreEnough : List IpCidr → List ℕ → Type 0
 AreEnough blocks cells = 5 * (length blocks + 1) ≤ length cells
 
--- Pinned by: proof of `fill`; `apps/routes`; too wide: proof of `find`
+-- Pinned by: proof of `fill`; `worked/route`; too wide: proof of `find`
 -- The table of n blocks. Its first 2n + 2 cells are entries of parts, then come n + 1 cells of hints, and 2n + 2 ranges. Fewer
 -- cells, or none, say nothing.
 pub record IsTable (blocks : List IpCidr) (cells : List ℕ) : Type 0 where

@@ -3,7 +3,7 @@ use Rattle.std.specs.Prelude.{ℕ, ◌≡◌, ◌<◌, Some}
 use Rattle.ip_wire.specs.TcpRepr.{TcpHeader}
 use Rattle.ip_wire.specs.declared.TcpControl.TheVariants as control
 
--- Pinned by: `apps/uses`
+-- Pinned by: `worked/route`
 -- a SYN or SYN-ACK with a maximum segment size above the limit
 pub record IsAbove (limit : ℕ) (v : TcpHeader) : Type 0 where
   pub syn : v.control ≡ control.Syn
