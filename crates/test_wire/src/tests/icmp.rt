@@ -7,10 +7,11 @@ ghost use Rattle.wire_ends.specs.IpAddress.{version_of};
 use super::packets::ECHO;
 use super::views::Format;
 use net_base::ChecksumCapabilities;
-use test_support::bytes::has_front;
+use test_support::bytes::{OLD, has_front};
 use wire_ends::{IpAddress, IpVersion};
 use wire_icmp::{
-    Exceeded, ICMP_HEADER_LEN, IcmpPacket, IcmpPacketMut, IcmpRepr, Unreachable, protocol_of,
+    Exceeded, ICMP_HEADER_LEN, IcmpHeader, IcmpPacket, IcmpPacketMut, IcmpRepr, Unreachable,
+    protocol_of,
 };
 
 /// The data of each echo.
@@ -353,6 +354,35 @@ fn knows_the_queries(rt: HostRuntime) {
         protocol_of(IpVersion::Ipv6).number(),
     ];
     assert!(rt; numbers == [1, 58]);
+}
+
+const HEADER: IcmpHeader = IcmpHeader {
+    msg_type: 8,
+    msg_code: 0,
+    word: 0x1234_0001,
+};
+
+/// The echo request without its checksum.
+const UNSUMMED: [u8; 17] = [
+    0x08, 0x00, 0, 0, 0x12, 0x34, 0x00, 0x01, 0xa1, 0xb2, 0xc3, 0, 0, 0, 0, 0, 0x43,
+];
+
+#[test]
+fn writes_a_message_and_leaves_the_rest(rt: HostRuntime) {
+    let (src, dst) = ends(IpVersion::Ipv4);
+    let (caps, ignored) = (
+        ChecksumCapabilities::default(),
+        ChecksumCapabilities::ignored(),
+    );
+    for old in OLD {
+        let (mut whole, mut without) = ([old; 19], [old; 19]);
+        let mut packet = IcmpPacketMut::new_unchecked(&mut whole);
+        HEADER.emit(&mut packet, &src, &dst, &DATA, &caps);
+        let mut packet = IcmpPacketMut::new_unchecked(&mut without);
+        REQUEST.emit(&mut packet, &src, &dst, &DATA, &ignored);
+        let is_whole = has_front(&whole, &ECHO, old);
+        assert!(rt; is_whole && has_front(&without, &UNSUMMED, old), "{old}");
+    }
 }
 
 #[test]
