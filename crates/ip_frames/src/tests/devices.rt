@@ -64,9 +64,10 @@ fn fails_to_read(alloc: Global, input: &[u8], left: usize, before: u64, after: u
 #[test]
 fn a_source_that_fails_leaves_nothing_written(rt: HostRuntime) {
     for (input, _) in EXAMPLES {
-        for left in 0..=input.len() {
+        for left in 0..input.len() {
             assert!(rt; fails_to_read(rt.alloc(), input, left, 0, 1));
         }
+        assert!(rt; fails_to_read(rt.alloc(), input, input.len(), 0, 1));
         assert!(rt; fails_to_read(rt.alloc(), input, 0, u64::MAX, u64::MAX));
     }
 }
@@ -104,14 +105,20 @@ fn a_flush_that_fails_is_a_write_that_fails(rt: HostRuntime) {
     }
 }
 
+// Whether a run to a sink in memory is `Ok`.
+fn appends(alloc: Global, input: &[u8], sink: &mut MemorySink<'_>) -> bool {
+    let mut source = MemorySource::new(input);
+    run(alloc, &mut source, sink).is_ok()
+}
+
 #[test]
 fn what_was_written_before_stays(rt: HostRuntime) {
-    let mut room = [0; 64];
+    let mut room = [0; ROOM];
     let mut sink = MemorySink::new(&mut room);
-    let mut source = MemorySource::new(b"0g\n");
-    assert!(rt; run(rt.alloc(), &mut source, &mut sink).is_ok());
-    let mut source = MemorySource::new(b"\r\n\n");
-    assert!(rt; run(rt.alloc(), &mut source, &mut sink).is_ok());
-    let output: &[u8] = b"not hex\n\nEthernetII (wire::Error)\n\nEthernetII (wire::Error)\n\n";
-    assert!(rt; sink.written() == output);
+    assert!(rt; appends(rt.alloc(), b"0g\n", &mut sink));
+    assert!(rt; appends(rt.alloc(), b"\r\n\n", &mut sink));
+    assert!(rt;
+        sink.written()
+            == b"not hex\n\nEthernetII (wire::Error)\n\nEthernetII (wire::Error)\n\n".as_slice()
+    );
 }

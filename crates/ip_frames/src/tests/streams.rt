@@ -3,8 +3,7 @@
 ghost use Rattle.std.specs.Prelude.{Some};
 
 use crate::devices::{FrameSink, FrameSource};
-use crate::memory::MemorySink;
-use crate::run::{RunError, run};
+use crate::run::RunError;
 use crate::streams::{StreamSink, StreamSource, run_streams};
 use std::alloc::{AllocError, Global};
 use std::io::{self, ErrorKind, Read, Write};
@@ -36,22 +35,11 @@ impl Read for InterruptedReader<'_> {
     }
 }
 
-#[test]
-fn an_interruption_is_no_failure(rt: HostRuntime) {
-    let mut room = [0; 64];
-    let mut source = StreamSource::new(InterruptedReader {
-        rest: INPUT,
-        ready: false,
-    });
-    let mut sink = MemorySink::new(&mut room);
-    assert!(rt; run(rt.alloc(), &mut source, &mut sink).is_ok());
-    assert!(rt; source.failures() == 0 && sink.written() == OUTPUT);
-}
-
-/// A writer with an error before each write, which takes some bytes at a time.
+/// A writer with an error before each write. It takes some bytes at a time, and so many.
 #[derive(Drop)]
 struct FailingWriter<'a> {
     taken: &'a mut Vec<u8>,
+    room: usize,
     error: ErrorKind,
     ready: bool,
 }
@@ -62,7 +50,9 @@ impl Write for FailingWriter<'_> {
         if self.ready {
             return Err(io::Error::from(self.error));
         }
-        self.taken.write(&buf[..buf.len().min(4096)])
+        let n = buf.len().min(self.room).min(4096);
+        self.room -= n;
+        self.taken.write(&buf[..n])
     }
 
     fn flush(&mut self) -> io::Result<()> {
@@ -70,66 +60,76 @@ impl Write for FailingWriter<'_> {
     }
 }
 
-// Whether a run to a writer ends so. All is flushed unless it fails, and it fails once.
-fn ends<W: Write + Drop>(
+// Whether a run to a writer with this error and room ends so, and the writer has so many bytes, which begin so. All is
+// flushed unless the sink fails, and it fails once. The source is interrupted, and does not fail.
+fn ends(
     alloc: Global,
     input: &[u8],
-    writer: W,
+    error: ErrorKind,
+    room: usize,
     wanted: Result<(), RunError>,
+    len: usize,
+    output: &[u8],
 ) -> Result<bool, AllocError> {
-    let mut source = StreamSource::new(input);
-    let mut sink = StreamSink::new(alloc, writer)?;
-    let result = run_streams(alloc, &mut source, &mut sink);
-    Ok(
-        result == wanted
-            && sink.flushed() == wanted.is_ok()
-            && sink.failures() == u64::from(wanted.is_err()),
-    )
+    let mut taken = Vec::new(alloc);
+    let mut source = StreamSource::new(InterruptedReader {
+        rest: input,
+        ready: false,
+    });
+    let mut sink = StreamSink::new(
+        alloc,
+        FailingWriter {
+            taken: &mut taken,
+            room,
+            error,
+            ready: false,
+        },
+    )?;
+    let is_so = run_streams(alloc, &mut source, &mut sink) == wanted
+        && source.failures() == 0
+        && sink.flushed() == wanted.is_ok()
+        && sink.failures() == u64::from(wanted.is_err());
+    drop(sink);
+    Ok(is_so && taken.len() == len && taken.as_slice().starts_with(output))
 }
 
 #[test]
 fn a_writer_that_is_full_has_the_beginning(rt: HostRuntime) -> Result<(), AllocError> {
+    let (error, wanted) = (ErrorKind::Interrupted, Err(RunError::Write));
     for n in 0..OUTPUT.len() {
-        let mut room = [0; 64];
-        let wanted = Err(RunError::Write);
-        assert!(rt; n < 64 && ends(rt.alloc(), INPUT, &mut room[..n], wanted)?);
-        assert!(rt; OUTPUT.starts_with(&room[..n]));
+        assert!(rt; ends(rt.alloc(), INPUT, error, n, wanted, n, &OUTPUT[..n])?);
     }
     Ok(())
 }
 
-// What is written for `INPUT` and a line of zeros starts so.
-const LONG_OUTPUT: &[u8] = b"EthernetII (wire::Error)\n\nnot hex\n\n\
+// What is written for an empty line and one of zeros starts so.
+const LONG_OUTPUT: &[u8] = b"EthernetII (wire::Error)\n\n\
     EthernetII src=00-00-00-00-00-00 dst=00-00-00-00-00-00 type=0x0000\nagain 0000";
 
-// The last block does not fit the buffer.
+// The last block of the second run does not fit the buffer.
 #[test]
-fn a_writer_that_is_interrupted_takes_all(rt: HostRuntime) -> Result<(), AllocError> {
-    let mut input = vec![in rt.alloc(); b'0'; 80004]?;
-    input.as_mut_slice()[..4].copy_from_slice(INPUT);
-    let mut taken = Vec::new(rt.alloc());
-    let writer = FailingWriter {
-        taken: &mut taken,
-        error: ErrorKind::Interrupted,
-        ready: false,
-    };
-    assert!(rt; ends(rt.alloc(), input.as_slice(), writer, Ok(()))?);
-    let bytes = taken.as_slice();
+fn an_interruption_is_no_failure(rt: HostRuntime) -> Result<(), AllocError> {
+    let (error, room) = (ErrorKind::Interrupted, 100_000);
+    assert!(rt; ends(rt.alloc(), INPUT, error, room, Ok(()), 35, OUTPUT)?);
+    let mut input = vec![in rt.alloc(); b'0'; 80001]?;
+    input.as_mut_slice()[0] = b'\n';
     assert!(rt;
-        bytes.len() == 80110 && bytes.starts_with(LONG_OUTPUT) && bytes.ends_with(b"0000\n\n")
+        ends(
+            rt.alloc(),
+            input.as_slice(),
+            error,
+            room,
+            Ok(()),
+            80101,
+            LONG_OUTPUT
+        )?
     );
     Ok(())
 }
 
 #[test]
 fn what_was_reported_as_failed_is_not_written_again(rt: HostRuntime) -> Result<(), AllocError> {
-    let mut taken = Vec::new(rt.alloc());
-    let writer = FailingWriter {
-        taken: &mut taken,
-        error: ErrorKind::StorageFull,
-        ready: false,
-    };
-    assert!(rt; ends(rt.alloc(), INPUT, writer, Err(RunError::Write))?);
-    assert!(rt; taken.is_empty());
+    let (error, wanted) = (ErrorKind::StorageFull, Err(RunError::Write));
+    assert!(rt; ends(rt.alloc(), INPUT, error, 100, wanted, 0, b"")?);
     Ok(())
 }
