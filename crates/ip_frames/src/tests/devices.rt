@@ -45,7 +45,7 @@ fn a_sink_that_is_full_has_the_beginning(rt: HostRuntime) {
     }
 }
 
-// Whether a run over a source that fails after so many bytes ends so, with nothing written. The source counts the failure.
+// Whether a run over a source that fails after `left` bytes fails to read, with nothing written. The source counts it.
 fn fails_to_read(alloc: Global, input: &[u8], left: usize, before: u64, after: u64) -> bool {
     let mut bytes = [0; ROOM];
     let mut source = FailingSource {
@@ -72,8 +72,8 @@ fn a_source_that_fails_leaves_nothing_written(rt: HostRuntime) {
     }
 }
 
-// Whether a run to a sink that takes one byte at a time, and so many, fails to write, with this written. The sink counts
-// the failure.
+// Whether a run to a sink that takes one byte at a time, and not more than `room`, fails to write, with this written.
+// The sink counts the failure.
 fn sticks(alloc: Global, input: &[u8], room: usize, output: &[u8], counts: (u64, u64)) -> bool {
     let mut bytes = [0; ROOM];
     let mut source = MemorySource::new(input);
