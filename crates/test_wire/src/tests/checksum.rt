@@ -19,27 +19,6 @@ fn combines_sums(rt: HostRuntime) {
     }
 }
 
-/// A checksum, a word and its new value, and the new checksum.
-const UPDATES: &[(u16, u16, u16, u16)] = &[
-    // RFC 1624, section 4, and back.
-    (0xdd2f, 0x5555, 0x3285, 0x0000),
-    (0x0000, 0x3285, 0x5555, 0xdd2f),
-    (0xffff, 0x3285, 0x5555, 0xdd2f),
-    // The hop limit of an IPv4 header, from 64 to 63.
-    (0xb861, 0x4011, 0x3f11, 0xb961),
-    // The sum of its source address, from 192.168.0.1 to 203.0.113.5.
-    (0xb861, 0xc0a9, 0x3c06, 0x3d05),
-    // Nothing changes.
-    (0xdd2f, 0x5555, 0x5555, 0xdd2f),
-];
-
-#[test]
-fn updates_checksums(rt: HostRuntime) {
-    for (old, word, new_word, new) in UPDATES {
-        assert!(rt; checksum::update(*old, *word, *new_word) == *new, "{new}");
-    }
-}
-
 #[test]
 fn sums_pseudo_headers(rt: HostRuntime) {
     let v4_src = Ipv4Address::new(192, 168, 1, 1);

@@ -4,21 +4,6 @@ use ip_wire::{Error, IPV4_MIN_MTU, IPV6_MIN_MTU};
 use net_base::{Checksum, ChecksumCapabilities, Medium};
 use std::error::Error as StdError;
 
-/// Choices, and whether the library verifies and computes a checksum by them.
-const CHOICES: &[(Checksum, [bool; 2])] = &[
-    (Checksum::Both, [true, true]),
-    (Checksum::Rx, [true, false]),
-    (Checksum::Tx, [false, true]),
-    (Checksum::None, [false, false]),
-];
-
-#[test]
-fn checksums_are_left_to_the_library_by_the_table(rt: HostRuntime) {
-    for (checksum, want) in CHOICES {
-        assert!(rt; [checksum.rx(), checksum.tx()] == *want, "{checksum:?}");
-    }
-}
-
 /// The value of a type that is an error.
 fn error<E: StdError>(value: E) -> E {
     value

@@ -4,7 +4,7 @@ use super::packets::UDP;
 use super::pretty_print::Shown;
 use super::values::Emitted;
 use super::views::{Format, NEVER};
-use ip_wire::{IpAddress, UdpPacket, UdpPacketMut, UdpRepr};
+use ip_wire::{IpAddress, UdpPacketMut, UdpRepr};
 
 /// Texts of packets and values.
 pub(super) const SHOWN: &[(Shown, &str)] = &[
@@ -91,26 +91,5 @@ fn verifies_whole_and_partial_checksums(rt: HostRuntime) {
             && packet.verify_checksum(&src, &dst) == want[0]
             && packet.verify_partial_checksum(&src, &dst) == want[1];
         assert!(rt; found && fields == [48896, 53, 12, *checksum], "{checksum}");
-    }
-}
-
-/// Packets, and whether each has a valid checksum over IPv4 and over IPv6.
-const PACKETS: &[(&[u8], [bool; 2])] = &[
-    (&UDP, [true, false]),
-    (b"\0\x01\0\x02\0\x0c\x02\x4e\xff\xff\xff\xff", [false, true]),
-    (b"\xbf\0\0\x35\0\x0c\0\0\xaa\0\0\xff", [true, false]),
-];
-
-#[test]
-fn a_checksum_is_left_out_over_ipv4_only(rt: HostRuntime) {
-    let (src, dst) = (IpAddress::v4(192, 168, 1, 1), IpAddress::v4(192, 168, 1, 2));
-    let src_ipv6 = IpAddress::v6(0xfe80, 0, 0, 0, 0, 0, 0, 1);
-    let dst_ipv6 = IpAddress::v6(0xff02, 0, 0, 0, 0, 0, 0, 1);
-    for (bytes, want) in PACKETS {
-        let packet = UdpPacket::new_unchecked(bytes);
-        let found = packet.check_len().is_ok()
-            && packet.has_valid_checksum(&src, &dst) == want[0]
-            && packet.has_valid_checksum(&src_ipv6, &dst_ipv6) == want[1];
-        assert!(rt; found, "{bytes:?}");
     }
 }
