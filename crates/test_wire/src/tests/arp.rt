@@ -5,6 +5,7 @@ use super::pretty_print::Shown;
 use super::values::{Emitted, emit};
 use super::views::Format;
 use ip_wire::{ArpHardware, ArpOperation, ArpPacket};
+use test_support::bytes::change;
 
 /// Texts of packets and values.
 pub(super) const SHOWN: &[(Shown, &str)] = &[
@@ -59,7 +60,7 @@ const CHANGES: &[(usize, u8, bool, bool)] = &[
 fn reads_only_ethernet_and_ipv4(rt: HostRuntime) {
     for (place, byte, is_whole, is_read) in CHANGES {
         let mut packet = ARP;
-        packet[(*place).min(27)] = *byte;
+        change(&mut packet, &[(*place, *byte)]);
         let mut buffer = [0xa5; 64];
         let is_emitted = emit(Emitted::Arp, &packet, &mut buffer) == 28
             && buffer[..28].starts_with(&packet);

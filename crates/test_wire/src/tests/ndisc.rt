@@ -2,6 +2,7 @@
 //! detection, and of the first packet to a neighbour.
 
 use net_base::ChecksumCapabilities;
+use test_support::bytes::change;
 use test_support::texts::prints;
 use wire_addr::Ipv6Address;
 use wire_icmp::IcmpPacket;
@@ -143,12 +144,10 @@ const CHANGED: &[(Changed, Ends, Option<&str>)] = &[
 fn rejects_what_is_invalid_and_reads_each_flag(rt: HostRuntime) {
     for (changed, ends, want) in CHANGED {
         let (mut bytes, place, octet, len) = *changed;
-        bytes[place.min(31)] = octet;
+        change(&mut bytes, &[(place, octet)]);
+        let part = bytes.get(..len).unwrap_or(&[]);
         let caps = ChecksumCapabilities::ignored();
-        assert!(rt;
-            reads(&bytes[..len.min(32)], ends, &caps, *want),
-            "{place} {octet}"
-        );
+        assert!(rt; reads(part, ends, &caps, *want), "{place} {octet}");
     }
 }
 
