@@ -5,7 +5,7 @@ use super::pretty_print::Shown;
 use super::values::{Emitted, emit};
 use super::views::Format;
 use ip_wire::{ArpHardware, ArpOperation, ArpPacket};
-use test_support::bytes::change;
+use test_support::bytes::{change, has_front};
 
 /// Texts of packets and values.
 pub(super) const SHOWN: &[(Shown, &str)] = &[
@@ -63,7 +63,7 @@ fn reads_only_ethernet_and_ipv4(rt: HostRuntime) {
         change(&mut packet, &[(*place, *byte)]);
         let mut buffer = [0xa5; 64];
         let is_emitted = emit(Emitted::Arp, &packet, &mut buffer) == 28
-            && buffer[..28].starts_with(&packet);
+            && has_front(&buffer, &packet, 0xa5);
         let found = ArpPacket::new_checked(&packet).is_ok();
         assert!(rt;
             found == *is_whole && is_emitted == *is_read,

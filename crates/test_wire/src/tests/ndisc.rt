@@ -140,14 +140,18 @@ const CHANGED: &[(Changed, Ends, Option<&str>)] = &[
     ((ADVERT, 4, 0x1f, 32), (B, NODES, 255), NO_FLAG),
 ];
 
+/// Whether a changed message reads as this text.
+fn reads_changed(changed: &Changed, ends: &Ends, want: Option<&str>) -> bool {
+    let (mut bytes, place, octet, len) = *changed;
+    change(&mut bytes, &[(place, octet)]);
+    let part = bytes.get(..len).unwrap_or(&[]);
+    reads(part, ends, &ChecksumCapabilities::ignored(), want)
+}
+
 #[test]
 fn rejects_what_is_invalid_and_reads_each_flag(rt: HostRuntime) {
     for (changed, ends, want) in CHANGED {
-        let (mut bytes, place, octet, len) = *changed;
-        change(&mut bytes, &[(place, octet)]);
-        let part = bytes.get(..len).unwrap_or(&[]);
-        let caps = ChecksumCapabilities::ignored();
-        assert!(rt; reads(part, ends, &caps, *want), "{place} {octet}");
+        assert!(rt; reads_changed(changed, ends, *want), "{changed:?}");
     }
 }
 
