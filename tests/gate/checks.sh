@@ -66,6 +66,12 @@ build_the_library() {
     return 1
 }
 
+# beside_addresses COMMAND..: runs the command while the gate proves wire_addr, which leaves most processors idle
+beside_addresses() {
+    tests/gate/proved.py wait wire_addr
+    nice -n 19 "$@"
+}
+
 # after_library COMMAND..: runs the command once the library is built, or cannot be
 after_library() {
     tail --pid="${begun[library]}" -f /dev/null
