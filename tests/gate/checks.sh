@@ -85,11 +85,11 @@ keeps_verdicts() {
 }
 
 # Runs the gate, and counts its checks. The libraries that it proved are kept in out/proved. If ANEW is set, it uses no
-# verdict of an earlier run. By itself rt plans for a proof two to three times the memory that it takes, and lets processors wait.
+# verdict of an earlier run.
 run_the_gate() {
     local gate built anew=
     [ -z "${ANEW:-}" ] || ! keeps_verdicts || anew=--anew
-    (cd "$copy" && RT_JOBS=$(tests/gate/lanes) tests/gate/progress.py "$OLDPWD/out/test.log" rt ci $anew)
+    (cd "$copy" && tests/gate/progress.py "$OLDPWD/out/test.log" rt ci $anew)
     gate=$?
     ln -s "$PWD/out" "$copy/out"
     rm -rf "$program" "$calls"

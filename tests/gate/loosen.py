@@ -10,8 +10,8 @@ proved. One of them must not be proved then.
 A weaker statement that no need notices loses nothing if it implies what it lost, by itself or with the definitions alone. Any
 other one must be in tests/data/unneeded.txt, and nothing else may be there. With names it tries the statements of these
 functions, types or crates. tests/data/tried.txt gets a line for each crate whose weaker statements are all as they must be.
-With --untried these are the crates that changed since they got theirs. Beside the gate some of one other crate join them,
-by the commit, each as soon as the libraries under its needs are proved. What rattle prints is in out/loosen.log.
+With --untried these are the crates that changed since they got theirs, or have none. Beside the gate it tries a tenth of those
+that have none, and some of one other crate, by the commit, each as soon as the libraries under its needs are proved. What rattle prints is in out/loosen.log.
 """
 import collections
 import functools
@@ -488,9 +488,13 @@ def main():
     calls = {name_of(it): list(calls_of(it, found)) for it in weaker}
     crates = sums(weaker, calls)
     beside_gate = asked == ["--beside-gate"]
-    chosen = set(untried.differing("weaker", crates) if beside_gate or asked == ["--untried"] else asked or crates)
+    new = untried.untried("weaker", crates)
+    chosen = set(asked or crates)
+    if beside_gate or asked == ["--untried"]:
+        chosen = set(untried.changed("weaker", crates) + ([] if beside_gate else new))
     now = [it for it in weaker if chosen & {it.statement.item.name, it.statement.crate, it.statement.owner}]
     if beside_gate:
+        now += untried.one_in(10, [it for it in weaker if it.statement.crate in new])
         now += some_of([it for it in weaker if [it.statement.crate] == untried.another("weaker", crates)])
     noticed, alike, faults = verdicts(sources, now, calls, beside_gate)
     names = {name_of(it) for it in now}
