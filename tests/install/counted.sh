@@ -17,6 +17,11 @@ check() {
     fi
 }
 
+# finds WORD..: grep that reads to the end, so that what writes to it does not fail
+finds() {
+    grep "$@" > /dev/null
+}
+
 # check_with TOOL NAME COMMAND..: a check that needs a tool
 check_with() {
     if eval "$1" > /dev/null 2>&1; then
