@@ -10,7 +10,8 @@ A proof of a function cites only the contracts of the functions that it calls. S
 functions are applied together, and only these functions are checked, over the libraries that
 make test proved. tests/data/tried.txt gets a line for each crate whose edits are all as they must be. With --untried these are
 the crates that changed since they got theirs, or have none. Beside the gate it tries a third of those that have none, and one
-other crate, by the commit, each as soon as the libraries under it are proved. What rattle prints is in out/wrong.log. The last line counts the edits.
+other crate, by the commit, each as soon as the libraries under it are proved. What rattle prints is in out/wrong.log. The last
+line counts the edits.
 """
 import collections
 import os
