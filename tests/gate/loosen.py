@@ -10,8 +10,8 @@ proved. One of them must not be proved then.
 A weaker statement that no need notices loses nothing if it implies what it lost, by itself or with the definitions alone. Any
 other one must be in tests/data/unneeded.txt, and nothing else may be there. With names it tries the statements of these
 functions, types or crates. tests/data/tried.txt gets a line for each crate whose weaker statements are all as they must be.
-With --untried these are the crates that changed since they got theirs, or have none. Beside the gate it tries a tenth of those
-that have none, and some of one other crate, by the commit, each as soon as the libraries under its needs are proved. What rattle prints is in out/loosen.log.
+With --untried these are the crates that changed since they got theirs, or have none. Beside the gate it tries these, and some of
+one other crate, by the commit, each as soon as the libraries under its needs are proved. What rattle prints is in out/loosen.log.
 """
 import collections
 import functools
@@ -354,13 +354,13 @@ class Trial:
         path = self.public((statement.crate, *statement.module.path, statement.item.name))
         return "::".join(path)
 
-    def run(self, kept):
+    def run(self, kept, jobs):
         """Runs rattle over what the trials of this crate before it kept in a folder."""
         with tempfile.TemporaryDirectory() as room:
             folder = pathlib.Path(room)
             self.write(folder)
             only = [word for name in self.of for word in ("--only", name)]
-            words = [*proved.command_line("check", self.crate), *self.more_externs(), "--incremental", kept, *only]
+            words = [*proved.command_line("check", self.crate), *self.more_externs(), "--incremental", kept, "--jobs", str(jobs), *only]
             ran = subprocess.run(words, cwd=folder, stdin=subprocess.DEVNULL, stdout=subprocess.PIPE, stderr=subprocess.STDOUT, text=True, errors="replace")
             self.log = ran.stdout
             for keep in ([KEEP / self.crate] if KEEP else []):
@@ -411,13 +411,18 @@ def tried(pool, sources, entries, beside_gate):
     by_crate = collections.defaultdict(list)
     for entry in entries:
         by_crate[home_of(*entry)].append(entry)
+    unfinished = set(by_crate)
 
     def run(crate):
-        some = by_crate[crate]
+        some, trials = by_crate[crate], []
         if beside_gate:
             proved.wait(crate)
         with tempfile.TemporaryDirectory() as kept:
-            return [Trial(sources, crate, some[first : first + ROUND]).run(kept) for first in range(0, len(some), ROUND)]
+            for first in range(0, len(some), ROUND):
+                # The last crates use the processors of those that are done.
+                trials.append(Trial(sources, crate, some[first : first + ROUND]).run(kept, max(1, PROCESSORS // len(unfinished))))
+        unfinished.discard(crate)
+        return trials
 
     for trials in pool.map(run, [name for name in NEEDS if name in by_crate]):
         for trial in trials:
@@ -488,13 +493,9 @@ def main():
     calls = {name_of(it): list(calls_of(it, found)) for it in weaker}
     crates = sums(weaker, calls)
     beside_gate = asked == ["--beside-gate"]
-    new = untried.untried("weaker", crates)
-    chosen = set(asked or crates)
-    if beside_gate or asked == ["--untried"]:
-        chosen = set(untried.changed("weaker", crates) + ([] if beside_gate else new))
+    chosen = set(untried.due("weaker", crates, asked))
     now = [it for it in weaker if chosen & {it.statement.item.name, it.statement.crate, it.statement.owner}]
     if beside_gate:
-        now += untried.one_in(10, [it for it in weaker if it.statement.crate in new])
         now += some_of([it for it in weaker if [it.statement.crate] == untried.another("weaker", crates)])
     noticed, alike, faults = verdicts(sources, now, calls, beside_gate)
     names = {name_of(it) for it in now}

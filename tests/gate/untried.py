@@ -1,8 +1,7 @@
 """The record of what `make mutants` tried: which crates' wrong bodies and weaker statements were tried as they are now.
 
 tests/data/tried.txt has a line for the trials of a crate: their kind, the crate, and a sum of all that they depend on.
-Where the sum differs now, make test tries all of the crate. It also tries some of one other crate, and a part of the crates
-that have no line, by the commit.
+Where the sum differs now, or there is none, make test tries all of the crate. It also tries one other crate, by the commit.
 """
 import collections
 import fcntl
@@ -84,25 +83,19 @@ def recorded():
 
 
 def changed(kind, sums):
-    """The crates that are not as they were when all of their trials were made."""
-    known = recorded()
-    return [crate for crate, found in sums.items() if known.get((kind, crate), found) != found]
-
-
-def untried(kind, sums):
-    """The crates of which not all trials were made yet."""
-    return [crate for crate in sums if (kind, crate) not in recorded()]
+    """The crates that are not as they were when all of their trials were made, or of which not all were made yet."""
+    return [crate for crate, found in sums.items() if recorded().get((kind, crate)) != found]
 
 
 def another(kind, sums):
     """One crate of which all trials were made, by the commit; none if there is none."""
-    done = [crate for crate, found in sums.items() if recorded().get((kind, crate)) == found]
+    done = [crate for crate in sums if crate not in changed(kind, sums)]
     return done[proved.by_commit(len(done)) :][:1] if done else []
 
 
-def one_in(number, items):
-    """One in so many of a list, from a place on that the commit tells: those of other commits are others."""
-    return items[proved.by_commit(number) :: number]
+def due(kind, sums, asked):
+    """The crates whose trials are made, as the command line asks."""
+    return changed(kind, sums) if asked in (["--beside-gate"], ["--untried"]) else asked or list(sums)
 
 
 def record(kind, sums, crates):

@@ -9,9 +9,8 @@ shows nothing of the contract, and counts as a failure.
 A proof of a function cites only the contracts of the functions that it calls. So edits of different
 functions are applied together, and only these functions are checked, over the libraries that
 make test proved. tests/data/tried.txt gets a line for each crate whose edits are all as they must be. With --untried these are
-the crates that changed since they got theirs, or have none. Beside the gate it tries a third of those that have none, and one
-other crate, by the commit, each as soon as the libraries under it are proved. What rattle prints is in out/wrong.log. The last
-line counts the edits.
+the crates that changed since they got theirs, or have none. Beside the gate it tries these and one other crate, by the commit,
+each as soon as the libraries under it are proved. What rattle prints is in out/wrong.log. The last line counts the edits.
 """
 import collections
 import os
@@ -184,15 +183,11 @@ def sums():
 def main():
     known, asked = sums(), sys.argv[1:]
     beside_gate = asked == ["--beside-gate"]
-    new = untried.untried("wrong", known)
-    crates = asked or list(known)
-    if beside_gate or asked == ["--untried"]:
-        crates = untried.changed("wrong", known) + new + (untried.another("wrong", known) if beside_gate else [])
+    crates = untried.due("wrong", known, asked) + (untried.another("wrong", known) if beside_gate else [])
     unknown = [crate for crate in crates if not (TOP / "crates" / crate / "src").is_dir()]
     if unknown:
         sys.exit(f"tests/gate/wrong.py: there is no crate {', '.join(unknown)}")
-    parts = {crate: 3 for crate in new} if beside_gate else {}
-    trials = [Trial(crate, found) for crate in crates if (found := untried.one_in(parts.get(crate, 1), edits(crate)))]
+    trials = [Trial(crate, found) for crate in crates if (found := edits(crate))]
     trials.sort(key=lambda trial: -len(trial.edits))
     (TOP / "out").mkdir(exist_ok=True)
 
