@@ -13,7 +13,7 @@
 # make mutants        tries the new wrong bodies and weaker statements, or all with ANEW=yes
 # make new            makes a crate of your own, CRATE=name, with one proved call
 # make reference      writes the reference as HTML pages to out/reference
-# make statements     renews docs/audit/statements/, the record of all contracts and definitions
+# make statements     prints the contracts and definitions that differ since a commit, SINCE=HEAD
 # make size           prints the lines, functions, definitions and proofs of each crate
 # make compare        prints the first line that ip_frames and REFERENCE=program print differently
 # make compare-calls  the same for test_calls, which makes one library call per line
@@ -154,7 +154,7 @@ reference:
 	@echo out/reference/index.html
 
 statements:
-	@tests/docs/statements.py --write
+	@tests/docs/statements.py "$$SINCE"
 
 size:
 	@tests/docs/size.py

@@ -1,202 +1,239 @@
 #!/usr/bin/env python3
-"""Compares the statements of the sources with their record in docs/audit/statements/.
+"""Compares what the sources state with what they stated at a commit.
 
-    tests/docs/statements.py [--write]
+    tests/docs/statements.py [COMMIT]
 
-The record has a file for each library and program. It has all names that a library exports. Of each module it has the
-public functions with their conditions and promises, the public types and constants, the members of each `impl` and trait,
-all definitions of specs/, and where each imported name that these use is defined. It has no layout, comments, bodies or
-proofs, and no private item that nothing of this names. A law that returns or changes a value is recorded with its body,
-because it promises something of what the body does. So is each function of test_promises, private ones too. Differences are
-printed, and the status is 1 then. `--write` renews the record.
+The statements are all names that a library exports, the public functions with their conditions and promises, the public
+types and constants, the members of each `impl` and trait, and all definitions of specs/, wherever they stand: no layout,
+comments, bodies or proofs, and no private item that nothing of this names. A law that returns or changes a value is stated
+with its body, because it promises something of what the body does. So is each function of test_promises, private ones too.
+An imported name is the same as long as what it means is the same.
+
+With a commit it prints all that differs. Without one it compares with the commit that the part "Unreleased" of CHANGELOG.md
+names. What is gone since, or asks for more, must be named there as `NAME` or `TYPE::NAME`. The rest is printed, and the status
+is 1 then. It is 77 if there is no such commit here, as in a copy without its history.
 """
-import difflib
+import collections
+import io
 import os
 import re
+import subprocess
 import sys
+import tarfile
+import tempfile
 
 from contracts import ReadError
 from sources import Sources, words_of
 
 TOP = os.path.dirname(os.path.dirname(os.path.dirname(os.path.abspath(__file__))))
-FOLDER = "docs/audit/statements"
-RENEW = "tests/docs/statements.py --write"
+UNRELEASED = re.compile(r"^## Unreleased\n(.*?)(?=^## |\Z)", re.M | re.S)
+SINCE = re.compile(r"`make statements SINCE=(\S+)`")
 # The crates whose functions promise something of what their bodies do, beside the laws.
 PROMISES = {"test_promises"}
 # Attributes that change no statement.
 PLAIN = re.compile(r"(?:inline|allow|tactic|must_use|cold)\b")
-SHOWN = 40
+
+# One thing that the sources state of a name: its kind, the type or crate that the name belongs to, the text, and the full
+# paths of the imported names in the text.
+Fact = collections.namedtuple("Fact", "kind owner name text meanings")
 
 
-def shown_path(path):
-    return ".".join(path[1:]) if path[0] == "Rattle" else "::".join(path)
+def shown(fact):
+    name = f"{fact.owner}::{fact.name}" if fact.owner else fact.name
+    return f"{fact.kind} {name}" + (f": {fact.text}" if fact.text else "")
 
 
-def shown_uses(pairs):
-    """Lines for pairs of a local name and its full path, grouped by the module of the path."""
-    groups = {}
-    for name, path in sorted(set(pairs)):
-        sep = "." if path[0] == "Rattle" else "::"
-        module = shown_path(path[:-1]) + sep if len(path) > 1 and path != ("Rattle",) else ""
-        groups.setdefault(module, []).append(path[-1] if path[-1] == name else f"{path[-1]} as {name}")
-    for module in sorted(groups):
-        names = ", ".join(sorted(groups[module]))
-        yield f"use {module}{{{names}}}"
+def with_attributes(item):
+    attributes = [f"#[{a}] " for a in item.attributes if not PLAIN.match(a)]
+    return "".join(attributes) + (item.visibility + " " if item.visibility else "") + item.text
 
 
-def indented(lines):
-    return ["    " + line for line in lines]
-
-
-class Record:
-    """The record of one crate."""
+class Statements:
+    """What one crate states."""
 
     def __init__(self, sources, crate):
-        self.sources, self.crate, self.module = sources, crate, None
+        self.sources, self.crate = sources, crate
         self.types = self.cited_types()
 
     def cited_types(self):
-        """The names of the types and constants that are public, or that a recorded line names."""
-        modules = self.crate.modules.values()
-        items = [i for m in modules for i in m.items if i.kind not in ("fn", "impl", "mod", "ghost")]
+        """The names of the types and constants that are public, or that a statement names."""
+        items = [i for m in self.crate.modules.values() for i in m.items if i.kind not in ("fn", "impl", "mod", "ghost")]
         self.local = {item.name for item in items}
         self.types, found = set(), {item.name for item in items if item.visibility == "pub"}
         while found != self.types:
             self.types = set(found)
-            words = words_of("\n".join(line for module in modules for line in self.items(module.items)))
+            words = words_of("\n".join(fact.text for fact in self.of_modules()))
             found |= self.local & (words | self.sources.declared_names)
         return found
 
-    def lines(self):
-        yield f"The statements of {self.crate.name}, written by `{RENEW}`."
+    def facts(self):
         if not self.crate.is_program:
-            yield from ["", "exports"]
-            for name, path in sorted(self.sources.exports(self.crate.name).items()):
-                yield f"    {'::'.join(name)} = {shown_path(path)}"
-        for _, module in sorted(self.crate.modules.items()):
-            self.module = module
-            yield from self.section([], list(self.items(module.items)))
-        for _, module in sorted(self.crate.specs.items()):
-            self.module = module
-            given = [(use.name, self.sources.use_target(self.crate, module, use)) for use in module.uses if use.is_public]
-            definitions = (line for d in module.items for line in [d.lines[0], *indented(d.lines[1:])])
-            yield from self.section([f"pub {line}" for line in shown_uses(given)], list(definitions))
+            for name, path in self.sources.exports(self.crate.name).items():
+                yield Fact("export", self.crate.name, "::".join(name), "", {name[-1]: path})
+        yield from self.of_modules()
+        for module in self.crate.specs.values():
+            for use in module.uses:
+                if use.is_public:
+                    yield self.fact("passed on by", "::".join(module.path), use.name, use.name, module, [use])
+            for it in module.items:
+                yield self.fact("definition", "", it.name, "\n    ".join(it.lines), module, module.uses)
 
-    def section(self, given, lines):
-        """What is recorded of a module, below the name of its file and the imports that it uses."""
-        if given or lines:
-            file = self.module.file[len(f"crates/{self.crate.name}/") :]
-            yield from ["", file + (" mod " + self.module.path[-1] if self.module.is_inline else "")]
-            yield from indented([*given, *self.uses(self.module.uses, lines), *lines])
-
-    def uses(self, uses, lines):
-        """The imports that these lines use."""
-        found = list(self.sources.meanings(self.crate, self.module, uses, "\n".join(lines)))
-        for _, path in found:
+    def fact(self, kind, owner, name, text, module, uses):
+        meanings = dict(self.sources.meanings(self.crate, module, uses, text))
+        for path in meanings.values():
             if path[0] == "Rattle" and path[1] in self.sources.crates and path[2] == "proofs":
-                raise ReadError(f"{self.module.file} states something by {shown_path(path)}, which is not in specs/")
-        return shown_uses(found)
+                raise ReadError(f"{module.file} states something by {'.'.join(path[1:])}, which is not in specs/")
+        return Fact(kind, owner, name, text, meanings)
 
-    def items(self, items, block=""):
+    def of_modules(self):
+        for module in self.crate.modules.values():
+            yield from self.of_items(module, module.items, None)
+
+    def of_items(self, module, items, block):
+        """The facts of the items in a module, or in a block: an `impl`, an `impl` of a trait, or a trait."""
         for item in items:
-            lines = list(self.item(item, block))
-            if lines:
-                attributes = [f"#[{a}] " for a in item.attributes if not PLAIN.match(a)]
-                visibility = item.visibility + " " if item.visibility else ""
-                yield "".join(attributes) + visibility + lines[0]
-                yield from indented(lines[1:])
+            if item.kind in ("impl", "trait"):
+                yield from self.of_block(module, item)
+            elif item.kind == "fn":
+                is_named = item.visibility == "pub" or self.crate.name in PROMISES
+                if is_named or block and (block.kind == "trait" or block.trait() and item.clauses):
+                    yield from self.of_function(module, item, block)
+            elif item.kind != "mod" and self.is_stated(item, block):
+                text = "; ".join([with_attributes(item), *(member.text for member in item.members)])
+                yield self.inside(block, item.kind, item.name, text, module)
 
-    def item(self, item, block):
-        """The lines of an item in a module, or in a block: an `impl`, an `impl` of a trait, or a trait."""
-        if item.kind in ("impl", "trait"):
-            yield from self.block(item)
-        elif item.kind == "fn":
-            is_named = item.visibility == "pub" or self.crate.name in PROMISES
-            if is_named or block == "trait" or block == "impl of a trait" and item.clauses:
-                yield from self.function(item, block)
-        elif item.kind != "mod" and self.is_recorded(item, block):
-            yield item.text
-            yield from (member.text for member in item.members)
-
-    def function(self, item, block):
-        yield item.text + (" { .. }" if block == "trait" and item.has_body else "")
-        yield from map(str, item.clauses)
-        is_promise = self.module and ("laws" in self.module.path or self.crate.name in PROMISES)
-        if is_promise and re.search("->|&mut", item.text):
-            yield f"body {{ {item.body} }}"
-
-    def is_recorded(self, item, block):
-        if block in ("trait", "impl of a trait") or item.kind == "ghost":
+    def is_stated(self, item, block):
+        if item.kind == "ghost" or block and (block.kind == "trait" or block.trait()):
             return True
         return item.visibility == "pub" or not block and item.name in self.types
 
-    def block(self, item):
+    def inside(self, block, kind, name, text, module):
+        """A fact of an item in a block, if there is one."""
+        if not block:
+            return self.fact(kind, "", name, text, module, module.uses)
+        owner = block.name if block.kind == "trait" else block.owner()
+        return self.fact(kind, owner, name, f"{block.text}: {text}", module, [*module.uses, *block.uses])
+
+    def of_function(self, module, item, block):
+        has_default = block and block.kind == "trait" and item.has_body
+        yield self.inside(block, "fn", item.name, with_attributes(item) + (" { .. }" if has_default else ""), module)
+        for clause in item.clauses:
+            yield self.inside(block, "condition of" if clause.kind == "requires" else "promise of", item.name, str(clause), module)
+        is_promise = "laws" in module.path or self.crate.name in PROMISES
+        if is_promise and re.search("->|&mut", item.text):
+            yield self.inside(block, "body of", item.name, item.body, module)
+
+    def of_block(self, module, item):
         owner = item.name if item.kind == "trait" else item.owner()
         if owner in self.local and owner not in self.types:
             return
-        kind = "impl of a trait" if item.kind == "impl" and item.trait() else item.kind
-        inner = list(self.items(item.items, kind))
-        if inner or kind != "impl":
-            yield item.text
-            yield from self.uses(item.uses, inner) if self.module else []
+        inner = list(self.of_items(module, item.items, item))
+        if inner or item.kind == "trait" or item.trait():
+            yield self.fact(item.kind, "", owner, with_attributes(item), module, module.uses)
             yield from inner
 
 
-def record(sources):
-    """The text of each file of the record, by its path."""
-    return {
-        f"{FOLDER}/{name}.txt": "\n".join(Record(sources, crate).lines()) + "\n"
-        for name, crate in sources.crates.items() if not crate.is_for_tests
-    }
+def statements_of(sources):
+    """The facts of all libraries and programs."""
+    return [fact for crate in sources.crates.values() if not crate.is_for_tests for fact in Statements(sources, crate).facts()]
 
 
-def recorded(top):
-    folder = os.path.join(top, FOLDER)
-    found = {}
-    for name in sorted(os.listdir(folder)) if os.path.isdir(folder) else []:
-        with open(os.path.join(folder, name), encoding="utf-8") as file:
-            found[f"{FOLDER}/{name}"] = file.read()
-    return found
+def content(sources, path):
+    """What a full path means: the text of the definition or item, or the path itself if it is not of these crates."""
+    at = 1 if path[0] == "Rattle" else 0
+    crate = sources.crates.get(path[at]) if len(path) > at + 1 else None
+    if not crate:
+        return path
+    if at:
+        named = [it for module in crate.specs.values() if module.path == path[3:-1] for it in module.items if it.name == path[-1]]
+        return [it.lines for it in named] or path[3:]
+    # A variant is of the type before it.
+    for end in (len(path), *(n for n, word in enumerate(path) if word == "TheVariants")):
+        items = [it for it in sources.items_at(path[0], path[1 : end - 1]) if it.name == path[end - 1] and it.kind != "impl"]
+        if items:
+            return [(with_attributes(it), it.members) for it in items], path[end:]
+    return path[1:]
 
 
-def write(top, files):
-    os.makedirs(os.path.join(top, FOLDER), exist_ok=True)
-    old = recorded(top)
-    for name in old.keys() - files.keys():
-        os.remove(os.path.join(top, name))
-    for name, text in files.items():
-        if old.get(name) != text:
-            print(name)
-            with open(os.path.join(top, name), "w", encoding="utf-8") as file:
-                file.write(text)
+def is_same(old, new, before, after):
+    """Whether the imported names of one fact mean in the new sources what they meant in the old ones."""
+    return all(
+        name not in after or path == after[name] or content(old, path) == content(new, after[name])
+        for name, path in before.items()
+    )
 
 
 def differences(old, new):
-    """The lines that differ, each with the module above it."""
-    for name in sorted(old.keys() | new.keys()):
-        before, after = old.get(name, "").splitlines(), new.get(name, "").splitlines()
-        if before != after:
-            yield from difflib.unified_diff(before, after, f"{name} as recorded", f"{name} in the sources", lineterm="", n=1)
+    """The facts that only the old sources state, and those that only the new ones state."""
+    left = collections.defaultdict(list)
+    for fact in statements_of(new):
+        left[fact[:4]].append(fact)
+    gone = []
+    for fact in statements_of(old):
+        found = next((it for it in left[fact[:4]] if is_same(old, new, fact.meanings, it.meanings)), None)
+        if found:
+            left[fact[:4]].remove(found)
+        else:
+            gone.append(fact)
+    return gone, [fact for facts in left.values() for fact in facts]
+
+
+def narrowed(old, new):
+    """What is gone, and what asks for more."""
+    gone, added = differences(old, new)
+    known = {(fact.owner, fact.name) for fact in statements_of(old)}
+    yield from (("gone", fact) for fact in gone if fact.kind != "condition of")
+    yield from (("new", fact) for fact in added if fact.kind == "condition of" and (fact.owner, fact.name) in known)
+
+
+def is_told(fact, told):
+    """Whether a fact's name, or that of its type, is one of these."""
+    return not told.isdisjoint({fact.owner, f"{fact.owner}::{fact.name}", "" if fact.owner else fact.name})
+
+
+def sources_of(commit):
+    """The sources of a commit. None if the repository does not have it."""
+    packed = subprocess.run(["git", "-C", TOP, "archive", commit, "crates", "crates.txt"], capture_output=True, check=False)
+    if packed.returncode:
+        return None
+    with tempfile.TemporaryDirectory() as room:
+        tarfile.open(fileobj=io.BytesIO(packed.stdout)).extractall(room)
+        return Sources(room)
+
+
+def told_since():
+    """The commit with which CHANGELOG.md compares, and the names that it tells of since."""
+    with open(os.path.join(TOP, "CHANGELOG.md"), encoding="utf-8") as file:
+        part = UNRELEASED.search(file.read())
+    since = part and SINCE.search(part[1])
+    if not since:
+        sys.exit('CHANGELOG.md: its part "Unreleased" does not say with which commit the statements are compared')
+    return since[1], set(re.findall(r"`([\w:]+)`", part[1]))
 
 
 def main(words):
-    if words not in ([], ["--write"]):
+    if len(words) > 1:
         sys.exit(__doc__)
-    try:
-        new = record(Sources(TOP))
-    except ReadError as error:
-        sys.exit(f"tests/docs/statements.py: {error}")
+    since, told = (words[0], None) if words else told_since()
+    old = sources_of(since)
+    if not old:
+        print(f"tests/docs/statements.py: skipped: there is no commit {since} here")
+        return 77
+    new = Sources(TOP)
     if words:
-        write(TOP, new)
+        gone, added = differences(old, new)
+        found = sorted((shown(fact), sign) for sign, facts in (("-", gone), ("+", added)) for fact in facts)
+        print("".join(f"{sign} {text}\n" for text, sign in found), end="")
         return 0
-    found = list(differences(recorded(TOP), new))
+    found = [f"{how}: {shown(fact)}" for how, fact in narrowed(old, new) if not is_told(fact, told)]
+    print("".join(line + "\n" for line in found), end="")
     if found:
-        print("\n".join(found[:SHOWN]))
-        if found[SHOWN:]:
-            print(f"and {len(found) - SHOWN} lines more")
-        print(f"The statements differ from their record. If each difference is wanted, renew it: {RENEW}")
+        print(f'CHANGELOG.md does not tell of these in its part "Unreleased": they were stated otherwise at {since}')
     return 1 if found else 0
 
 
 if __name__ == "__main__":
-    sys.exit(main(sys.argv[1:]))
+    try:
+        sys.exit(main(sys.argv[1:]))
+    except ReadError as error:
+        sys.exit(f"tests/docs/statements.py: {error}")

@@ -46,7 +46,7 @@ def files(top, crate):
 def read_above(top, sources, crate):
     """What the crates above read of a crate: its statements, and the lemmas that stand in no folder of a function."""
     lemmas = {str(path.name): path.read_bytes() for path in (top / "crates" / crate / "proofs").glob("*.antt")}
-    return untried.Record(sources, sources.crates[crate]).lines(), lemmas
+    return list(untried.Statements(sources, sources.crates[crate]).facts()), lemmas
 
 
 def differing(old, sources):
@@ -58,7 +58,7 @@ def differing(old, sources):
         changed.append(crate)
         if crate in sources.crates:
             (before, lemmas), (now, more) = read_above(old, sources, crate), read_above(TOP, untried.sources(), crate)
-            if list(before) != list(now) or lemmas != more:
+            if before != now or lemmas != more:
                 restated.append(crate)
     return changed, restated
 

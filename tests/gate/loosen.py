@@ -468,7 +468,7 @@ def sums(weaker, calls):
         places = [(TOP / "crates" / home, "/".join(path)) for home, path in sorted(modules[crate])]
         files = untried.files_in(*(path for home, module in places for path in
                                    (home / "specs", home / f"src/{module}.rt", home / "proofs" / module)))
-        return untried.sum_of([own, untried.used_below(crate, own), files])
+        return untried.sum_of([own, untried.used_below(crate, "\n".join(fact.text for fact in own)), files])
 
     return {crate: sum_of(crate) for crate in sorted(modules)}
 

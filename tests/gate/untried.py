@@ -15,7 +15,7 @@ TOP = proved.TOP
 LIST = TOP / "tests/data/tried.txt"
 sys.path.insert(0, str(TOP / "tests/docs"))
 from sources import Sources, words_of  # noqa: E402
-from statements import Record  # noqa: E402
+from statements import Statements  # noqa: E402
 
 
 def sum_of(parts):
@@ -72,8 +72,7 @@ def used_below(crate, text):
 
 
 def statements_of(crate):
-    """The statements of a crate, as text."""
-    return "\n".join(Record(sources(), sources().crates[crate]).lines())
+    return list(Statements(sources(), sources().crates[crate]).facts())
 
 
 def recorded():
