@@ -46,7 +46,7 @@ impl Frame {
         self.ethernet = Ethernet {
             src: header.src_addr.0,
             dst: header.dst_addr.0,
-            ethertype: header.ethertype.into(),
+            r#type: header.ethertype.into(),
         };
         self.follow(14, frame.payload().len());
         match header.ethertype {

@@ -5,10 +5,9 @@
 
 Each call of the header must be a function of c_exports, c/cpu.c or c/names.c with the same types, and the other way round.
 Each struct with `repr(C)` must have the same fields in the same order, and each enum and each failure the same names and
-numbers. So must each struct that the bindings for Rust and Python and bench/structs.rs declare.
-`lk_append` and its struct are in the header only. Each name `lk_..` in
-README.md and docs/ must be in the header. Differences are printed, and the status is 1 then. TOP is the top of the
-repository. tests/install/run compares the header with the man pages.
+numbers. `lk_append` and its struct are in the header only. Each name `lk_..` in README.md and docs/ must be in the header.
+Differences are printed, and the status is 1 then; also if tools/from_header.py would write
+anything else. TOP is the top of the repository. tests/install/run compares the header with the man pages.
 """
 import glob
 import os
@@ -17,6 +16,11 @@ import sys
 
 from sources import Sources
 
+TOP = os.path.dirname(os.path.dirname(os.path.dirname(os.path.abspath(__file__))))
+sys.path.append(os.path.join(TOP, "tools"))
+import from_header  # noqa: E402
+from from_header import ONLY_C, calls_of, read, structs_of, without_comments  # noqa: E402
+
 NUMBERS = {"u8": "uint8_t", "u16": "uint16_t", "u32": "uint32_t", "u64": "uint64_t", "i32": "int", "usize": "size_t",
            "isize": "ptrdiff_t"}
 SAME = {"char": "uint8_t", "int32_t": "int"}
@@ -24,7 +28,6 @@ SAME = {"char": "uint8_t", "int32_t": "int"}
 FIELDS = {"ethertype": "type", "msg_type": "type"}
 # What is in C.
 OF_C = ("/c/cpu.c", "/c/names.c")
-HEADER_ONLY = ("lk_out",)
 # The crates of the structs and calls. The first ones are used without C too, and their structs have other names there.
 OF_LIBRARY = ("app_link", "app_router", "app_nat", "c_structs", "c_icmp", "c_routing", "c_exports")
 STRUCTS = {"Node": "struct lk_route_node", "Mapping": "struct lk_mapping", "Nat": "struct lk_nat"}
@@ -36,33 +39,15 @@ INNER = {"FrameFields": 5}
 TCP_FLAGS = ("FIN", "SYN", "RST", "PSH", "ACK", "URG", "ECE", "CWR")
 
 
-def read(path):
-    with open(path, encoding="utf-8") as file:
-        return file.read()
-
-
-def without_comments(text):
-    return re.sub(r"/\*.*?\*/|//[^\n]*|^#.*?$", " ", text, flags=re.S | re.M)
-
-
-def c_type(declared):
-    """The type in a declaration such as `const char *text`. Bytes of a text are `uint8_t`, and `int32_t` is `int` here."""
-    words = [SAME.get(word, word) for word in re.findall(r"\w+|\*", declared)]
-    return " ".join(words[:-1]) if len(words) > 1 else words[0]
+def c_type(kind):
+    """A type of C. Bytes of a text are `uint8_t`, and `int32_t` is `int` here."""
+    return " ".join(SAME.get(word, word) for word in re.findall(r"\w+|\*", kind))
 
 
 def c_calls(text):
     """Each prototype or definition as a name with its types: those of the parameters, then that of the result."""
-    text = re.sub(r"static inline [^{]*{.*?\n}", "", without_comments(text), flags=re.S)
-    for result, name, parameters in re.findall(r"(\w+ +|\w+ \*)(lk_\w+)\(([^()]*)\)\s*[;{]", text):
-        types = [] if parameters.strip() == "void" else [c_type(p) for p in parameters.split(",")]
-        yield name, [*types, c_type(result) if "*" not in result else "const char *"]
-
-
-def c_structs(text):
-    """Each struct as a name with its fields: name, type and length of an array."""
-    for name, body in re.findall(r"struct (lk_\w+) {(.*?)};", without_comments(text), re.S):
-        yield name, re.findall(r"(\S[\w ]*?(?: \*)?) ?\b(\w+)(?:\[(\d+)\])?;", body)
+    for name, result, parameters in calls_of(text):
+        yield name, [*(c_type(kind) for kind, _ in parameters), c_type(result) if "*" not in result else "const char *"]
 
 
 def c_failures(text):
@@ -162,47 +147,6 @@ class Library:
                 yield self.name(array or plain), FIELDS.get(name, name), self.constants.get(length, length)
 
 
-def snake(name):
-    """The name of a struct in C, such as `lk_tcp_options` of `TcpOptions`."""
-    return "lk" + re.sub(r"([A-Z])", r"_\1", name).lower()
-
-
-def rust_structs(text):
-    """Each struct that a Rust file declares by hand, as `c_structs` gives it."""
-    for name, body in re.findall(r"\bstruct (\w+)(?: = lk_\w+)? {\n(.*?)}", text, re.S):
-        fields = []
-        for field, element, length, pointer, plain in re.findall(r"(\w+): (?:\[(\w+); (\d+)\]|(\*const )?(\w+)),", body):
-            kind = NUMBERS.get(element or plain, f"struct {snake(element or plain)}")
-            fields.append((f"const {kind} *" if pointer else kind, FIELDS.get(field, field), length))
-        yield snake(name), fields
-
-
-def python_structs(text):
-    """The same for the structs of ctypes."""
-    names = {"Hardware": "uint8_t", "c_size_t": "size_t"}
-    for variable, name, body in re.findall(r'^(\w+) = _declare\(\s*"(lk_\w+)",(.*?)\)(?:  # fmt: skip)?$', text, re.S | re.M):
-        fields = []
-        for field, pointer, kind, length in re.findall(r"(\w+)=(POINTER\()?(\w+)\)?(?: \* (\d+))?", body):
-            plain = names.get(kind) or re.sub("^c_", "", kind) + "_t"
-            fields.append((f"const {plain} *" if pointer else plain, field, "6" if kind == "Hardware" else length))
-        names[variable] = f"struct {name}"
-        yield name, fields
-
-
-# The files that declare structs of the header by hand.
-DECLARATIONS = {"bindings/rust/src/sys.rs": rust_structs, "bench/structs.rs": rust_structs, "bindings/python/ip_wire/_c.py": python_structs}
-
-
-def declared_differences(top, structs):
-    for path, read_structs in DECLARATIONS.items():
-        declared = dict(read_structs(read(f"{top}/{path}")))
-        for name, fields in declared.items():
-            if structs.get(name) != fields:
-                yield f"{path}: {name}: the header has {structs.get(name)}, it declares {fields}"
-        if "lk_frame" not in declared:
-            yield f"{path} declares no structs"
-
-
 def differences(header, sources):
     header, sources = dict(header), dict(sources)
     for name in sorted(header.keys() | sources.keys()):
@@ -224,15 +168,14 @@ def main(top):
     calls = dict(c_calls(header))
     found = [
         *differences(calls, [*sources.calls(), *(call for name in OF_C for call in c_calls(read(top + name)))]),
-        *differences((it for it in c_structs(header) if it[0] not in HEADER_ONLY), sources.structs()),
-        *declared_differences(top, dict(c_structs(header))),
+        *differences((it for it in structs_of(header) if it[0] not in ONLY_C), sources.structs()),
         *differences(c_failures(header), sources.failures()),
         *differences(c_enums(header), sources.enums()),
         *unknown_names(top, header),
     ]
     print("".join(line + "\n" for line in found), end="")
-    return 1 if found or not calls else 0
+    return 1 if found or not calls else from_header.main(["--check"])
 
 
 if __name__ == "__main__":
-    sys.exit(main(sys.argv[1] if len(sys.argv) > 1 else os.path.dirname(os.path.dirname(os.path.dirname(os.path.abspath(__file__))))))
+    sys.exit(main(sys.argv[1] if len(sys.argv) > 1 else TOP))

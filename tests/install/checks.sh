@@ -19,18 +19,7 @@ reject_bad_input() {
         rejects 'lines_of_capture.py: neither a pcap nor a pcapng file' examples/lines_of_capture.py < README.md
 }
 
-# The manual pages, the bindings and the newest version in the list of changes name the version of c/ip_wire.h.
+# The newest version in the list of changes is that of c/ip_wire.h.
 names_one_version() {
-    local version page
-    version=$(c/version)
-    for page in man/*; do
-        grep -qx "\.Os ip_wire $version" "$page" || { echo "$page: .Os is not ip_wire $version"; return 1; }
-    done
-    grep -qF "find_package(ip_wire ${version%.*} REQUIRED)" examples/cmake/CMakeLists.txt &&
-        grep -qx "version = \"$version\"" bindings/rust/Cargo.toml &&
-        grep -qx "version = \"$version\"" bindings/rust/Cargo.lock &&
-        grep -qF "\"ip_wire >= $version ip_wire < " bindings/rust/build.rs &&
-        grep -qx "VERSION = \"$version\"" bindings/python/ip_wire/_c.py &&
-        grep -qx "require lerkvist.example/ipwire v$version" examples/go/go.mod &&
-        [[ $(grep -m 1 '^## [0-9]' CHANGELOG.md) == "## $version ("* ]]
+    [[ $(grep -m 1 '^## [0-9]' CHANGELOG.md) == "## $(c/version) ("* ]]
 }

@@ -2,7 +2,7 @@
 
 IP_WIRE_HEADER is the path of ip_wire.h, if it is not that of the source tree or of the release archive.
 """
-import ctypes
+import glob
 import os
 import re
 import subprocess
@@ -21,16 +21,16 @@ from ip_wire import _c as c
 TOP = os.path.join(os.path.dirname(os.path.abspath(__file__)), "..", "..", "..")
 HEADERS = [os.path.join(TOP, folder, "ip_wire.h") for folder in ("c", "include")]
 HEADER = os.environ.get("IP_WIRE_HEADER") or next(filter(os.path.exists, HEADERS), HEADERS[0])
-# The calls of the header that the package lacks. A table saves less time than a call from Python takes. The last four are
-# those with `_as` and LK_GUESS.
+# The calls that the package does not use. The first four are those with `_as` and LK_GUESS. A table saves less time than a call
+# from Python takes.
 UNBOUND = [
-    "lk_check_source_by_table", "lk_choose_route_by_table", "lk_make_route_table", "lk_clamp_mss", "lk_set_addr", "lk_set_bytes",
-    "lk_set_port",
+    "lk_clamp_mss", "lk_set_addr", "lk_set_port", "lk_set_bytes", "lk_make_route_table", "lk_choose_route_by_table",
+    "lk_check_source_by_table",
 ]  # fmt: skip
 
 
 class Declarations(unittest.TestCase):
-    """The calls and numbers are those of ip_wire.h."""
+    """The package uses the calls of ip_wire.h, and has its numbers."""
 
     @classmethod
     def setUpClass(cls):
@@ -38,29 +38,12 @@ class Declarations(unittest.TestCase):
             cls.header = re.sub(r"/\*.*?\*/", " ", file.read(), flags=re.S)
 
     def test_calls(self):
-        plain = {"int": ctypes.c_int, "size_t": ctypes.c_size_t, "ptrdiff_t": ctypes.c_ssize_t, "void": None,
-                 "uint8_t": ctypes.c_uint8, "uint16_t": ctypes.c_uint16, "uint32_t": ctypes.c_uint32, "uint64_t": ctypes.c_uint64,
-                 "int32_t": ctypes.c_int32}  # fmt: skip
-
-        def kind(text):
-            words = " ".join(re.findall(r"\w+|\*", text))
-            struct = re.fullmatch(r"(?:const )?struct (\w+) \*", words)
-            return "pointer to " + struct.group(1) if struct else "bytes" if words.endswith("*") else plain[words]
-
-        def declared(kind):
-            if kind in (ctypes.c_char_p, ctypes.c_void_p, ctypes.POINTER(ctypes.c_uint8)):
-                return "bytes"
-            is_pointer = kind is not None and issubclass(kind, ctypes._Pointer)
-            return "pointer to " + kind._type_.__name__ if is_pointer else kind
-
-        found = {}
-        for result, name, parameters in re.findall(r"^([a-z]\w*(?: \w+)* \*?)(lk_\w+)\(([^()]*)\);", self.header, re.M):
-            types = [re.sub(r"\w+\s*$", "", p) for p in parameters.split(",")] if parameters != "void" else []
-            found[name] = [kind(text) for text in [result, *types]]
-        self.assertEqual(sorted([*c.CALLS, *UNBOUND]), sorted(found))
-        for name, (result, *kinds) in c.CALLS.items():
-            with self.subTest(name):
-                self.assertEqual([declared(kind) for kind in (result, *c.argument_types(kinds))], found[name])
+        sources = ""
+        for path in glob.glob(os.path.join(os.path.dirname(ip_wire.__file__), "*.py")):
+            if not path.endswith("_declarations.py"):
+                with open(path, encoding="utf-8") as file:
+                    sources += file.read()
+        self.assertEqual([name for name in c.CALLS if not re.search(rf"\b{name}\b", sources)], UNBOUND)
 
     def test_numbers(self):
         enums = {"lk_reason": (Reason, 1), "lk_network": (Network, 1), "lk_transport": (Transport, 1),

@@ -1,6 +1,9 @@
 //! Compares the declarations with `ip_wire.h`, by a C compiler.
 
-use super::{Addr, Endpoint, CALLS, STRUCTS};
+use super::c::{
+    lk_failure_name, lk_is_multicast, lk_print_addr, lk_print_endpoint, lk_reason_name, lk_rejection_name,
+};
+use super::{CALLS, STRUCTS};
 use crate::{Error, Network, Offload, Problem, Reason, Rejection, Side, Transport, Verdict};
 use core::ffi::{c_char, c_int, CStr};
 use core::net::{IpAddr, SocketAddr};
@@ -9,39 +12,21 @@ use std::process::Command;
 use std::string::{String, ToString};
 use std::{env, format, fs, println, vec::Vec};
 
-extern "C" {
-    fn lk_failure_name(failure: isize) -> *const c_char;
-    fn lk_reason_name(reason: c_int) -> *const c_char;
-    fn lk_rejection_name(rejection: c_int) -> *const c_char;
-    fn lk_print_addr(addr: &Addr, out: *mut c_char, cap: usize) -> isize;
-    fn lk_print_endpoint(endpoint: &Endpoint, out: *mut c_char, cap: usize) -> isize;
-    fn lk_is_multicast(addr: &Addr) -> c_int;
-}
-
-/// The calls of the header that `CALLS` does not have, and what a program has instead.
-const OTHERS: &[(&str, &str)] = &[
-    ("lk_append", "slices"),
-    ("lk_check_source", "`lk_check_source_by_table` without cells"),
-    ("lk_choose_route", "`lk_choose_route_by_table` without cells"),
-    ("lk_cpu_supported", "`cpu_supported`"),
-    ("lk_failure_name", "`Debug` of `Error`"),
-    ("lk_is_multicast", "`IpAddr::is_multicast`"),
-    ("lk_print_addr", "`Display` of `IpAddr`"),
-    ("lk_print_endpoint", "`Display` of `SocketAddr`"),
-    ("lk_reason_name", "`Debug` of `Reason`"),
-    ("lk_rejection_name", "`Debug` of `Rejection`"),
-    ("lk_tcp_flag_name", "the constants of `TcpFlags`"),
-    ("lk_version", "`version`"),
+/// The calls that this crate does not use: `Debug`, `Display`, core and constants say what they say, and those with a table
+/// or `_as` do what they do.
+const UNUSED: &[&str] = &[
+    "lk_failure_name",
+    "lk_print_addr",
+    "lk_print_endpoint",
+    "lk_is_multicast",
+    "lk_reason_name",
+    "lk_tcp_flag_name",
+    "lk_rejection_name",
+    "lk_choose_route",
+    "lk_check_source",
 ];
 
-/// The names of the calls in a header.
-fn calls_of(header: &str) -> Vec<&str> {
-    let heads = header.lines().filter(|line| line.starts_with(|c: char| c.is_ascii_lowercase()));
-    let names = heads.filter_map(|line| line.split_once('(')?.0.rsplit([' ', '*']).next());
-    names.filter(|name| name.starts_with("lk_")).collect()
-}
-
-/// The C type of a type in `sys.rs`.
+/// The C type of a declared type.
 fn c_type(rust: &str) -> String {
     let strip = |prefixes: [&str; 2]| prefixes.iter().find_map(|prefix| rust.strip_prefix(prefix));
     if let Some(target) = strip(["*mut ", "&mut "]) {
@@ -122,14 +107,15 @@ fn own_numbers() -> String {
 }
 
 #[test]
-fn each_call_of_the_header_is_here() {
-    let header = fs::read_to_string(concat!(env!("IP_WIRE_INCLUDE"), "/ip_wire.h")).unwrap();
-    let mut expected = calls_of(&header);
-    let mut found: Vec<_> = CALLS.iter().map(|(name, ..)| *name).collect();
-    found.extend(OTHERS.iter().map(|(name, _)| name));
-    expected.sort_unstable();
-    found.sort_unstable();
-    assert_eq!(found, expected);
+fn each_call_is_used() {
+    let folder = concat!(env!("CARGO_MANIFEST_DIR"), "/src");
+    let files = fs::read_dir(folder).unwrap().map(|file| file.unwrap().path());
+    let sources: String =
+        files.filter(|path| path.is_file()).map(|path| fs::read_to_string(path).unwrap()).collect();
+    let is_used =
+        |name: &str| sources.contains(&format!(".{name}(")) || sources.contains(&format!("c::{name}("));
+    let unused: Vec<_> = CALLS.iter().map(|(name, ..)| *name).filter(|name| !is_used(name)).collect();
+    assert_eq!(unused, UNUSED);
 }
 
 #[test]

@@ -1,0 +1,227 @@
+#!/usr/bin/env python3
+"""Writes what other files say of c/ip_wire.h: its structs and calls for Rust and Python, and its version.
+
+    tools/from_header.py [--check]
+
+With --check it writes nothing, prints the files that differ, and its status is 1 then.
+"""
+import glob
+import os
+import re
+import sys
+
+TOP = os.path.dirname(os.path.dirname(os.path.abspath(__file__)))
+HEADER = "c/ip_wire.h"
+# What a program in C alone uses.
+ONLY_C = {"lk_out"}
+RUST = {"uint8_t": "u8", "uint16_t": "u16", "uint32_t": "u32", "uint64_t": "u64", "int32_t": "i32", "size_t": "usize",
+        "ptrdiff_t": "isize", "int": "c_int", "char": "c_char"}
+PYTHON = {"void": "None", "ptrdiff_t": "c_ssize_t", "size_t": "c_size_t", "int": "c_int"}
+WIDTH = 120
+# What files say of the version. {next} is the minor version after it.
+VERSIONS = [
+    ("README.md", "Release {version},"),
+    ("SECURITY.md", "the newest version, {series}."),
+    ("bindings/rust/Cargo.toml", '\nversion = "{version}"'),
+    ("bindings/rust/Cargo.lock", '\nname = "ip_wire"\nversion = "{version}"'),
+    ("bindings/rust/build.rs", "ip_wire >= {version} ip_wire < {next}"),
+    ("bindings/rust/build.rs", "the C library ip_wire {series} ("),
+    ("bindings/rust/src/lib.rs", "another version than {series} of"),
+    ("crates/c_exports/src/read_calls.rt", "VERSION_MAJOR: u32 = {major};"),
+    ("crates/c_exports/src/read_calls.rt", "VERSION_MINOR: u32 = {minor};"),
+    ("crates/c_exports/src/read_calls.rt", "VERSION_PATCH: u32 = {patch};"),
+    ("examples/cmake/CMakeLists.txt", "find_package(ip_wire {series} REQUIRED)"),
+    ("examples/go/go.mod", "require lerkvist.example/ipwire v{version}"),
+    ("examples/ip_dump", 'VERSION = "{version}"'),
+    ("man/*", ".Os ip_wire {version}"),
+]
+
+
+def read(path):
+    with open(path, encoding="utf-8") as file:
+        return file.read()
+
+
+def without_comments(text):
+    return re.sub(r"/\*.*?\*/|//[^\n]*|^#.*?$", " ", text, flags=re.S | re.M)
+
+
+def structs_of(text):
+    """Each struct as a name with its fields: type, name and length of an array."""
+    for name, body in re.findall(r"struct (lk_\w+) {(.*?)};", without_comments(text), re.S):
+        yield name, re.findall(r"(\S[\w ]*?(?: \*)?) ?\b(\w+)(?:\[(\d+)\])?;", body)
+
+
+def calls_of(text):
+    """Each prototype or definition as a name with the type of its result, and the types and names of its parameters."""
+    text = re.sub(r"static inline [^{]*{.*?\n}", "", without_comments(text), flags=re.S)
+    for result, name, parameters in re.findall(r"((?:const )?\w+ +\*?)(lk_\w+)\(([^()]*)\)\s*[;{]", text):
+        given = [] if parameters.strip() == "void" else re.findall(r"\s*([^,]*?)\s*(\w+)\s*(?:,|$)", parameters)
+        yield name, result.strip(), given
+
+
+def version_of(text):
+    return re.findall(r"^#define LK_VERSION_(?:MAJOR|MINOR|PATCH) (\d+)", text, re.M)
+
+
+def camel(struct):
+    """The name of a struct in Rust and Python, such as `TcpOptions` of `struct lk_tcp_options`."""
+    return "".join(word.capitalize() for word in re.sub("^(struct )?lk_", "", struct).split("_"))
+
+
+def is_with_length(parameters, at):
+    """Whether the parameter after this pointer is its length: the count of structs or numbers, or a length in bytes."""
+    kind, name = (*parameters, ("", ""))[at + 1]
+    is_bytes = re.fullmatch(r"(const )?(uint8_t|char) \*", parameters[at][0])
+    return kind == "size_t" and (is_bytes or name.endswith("count"))
+
+
+def wrapped(head, parts, end, inner):
+    """One line, or several ones with `inner` before each of those in the middle."""
+    line = head + ", ".join(parts) + end
+    if len(line) <= WIDTH:
+        return line
+    lines, indent = [inner + parts[0]], len(inner)
+    for part in parts[1:]:
+        if len(lines[-1]) + len(part) + 3 > WIDTH:
+            lines[-1] += ","
+            lines.append(" " * indent + part)
+        else:
+            lines[-1] += f", {part}"
+    return "\n".join([head, *lines, re.match(" *", head)[0] + end])
+
+
+# ---- Rust
+
+
+def rust_type(kind, is_slice=True):
+    pointer = re.fullmatch(r"(const )?(.*?) ?\*", kind)
+    target = pointer[2] if pointer else kind
+    plain = RUST.get(target) or camel(target)
+    if not pointer:
+        return plain
+    if target.startswith("struct ") and not is_slice:
+        return ("&" if pointer[1] else "&mut ") + plain
+    return ("*const " if pointer[1] else "*mut ") + plain
+
+
+def rust_field(kind, name, length):
+    plain = rust_type(kind)
+    return f"        {'r#type' if name == 'type' else name}: {f'[{plain}; {length}]' if length else plain},"
+
+
+def rust(header):
+    yield "// The structs and calls of ip_wire.h, written by tools/from_header.py.\n"
+    yield "/// The version of these declarations. Another minor version may have other structs."
+    yield f"#[allow(dead_code)]\npub const VERSION: (u32, u32) = ({', '.join(version_of(header)[:2])});\n\nstructs! {{"
+    for name, fields in structs_of(header):
+        if name not in ONLY_C:
+            has_pointers = any(kind.endswith("*") for kind, _, _ in fields)
+            yield from [] if has_pointers else ["    #[derive(Default)]"]
+            yield f"    struct {camel(name)} = {name} {{"
+            yield from (rust_field(*field) for field in fields)
+            yield "    }\n"
+    yield "}\n\ncalls! {"
+    for name, result, given in calls_of(header):
+        words = [f"{'r#type' if it == 'type' else it}: {rust_type(kind, is_with_length(given, at))}" for at, (kind, it) in enumerate(given)]
+        returned = "" if result == "void" else f" -> {rust_type(result)}"
+        yield wrapped(f"    fn {name}(", words, f"){returned};", " " * 8)
+    yield "}"
+
+
+# ---- Python
+
+
+def python_type(kind):
+    kind = re.sub(r"^const | ?\*$", "", kind)
+    return camel(kind) if kind.startswith("struct ") else PYTHON.get(kind) or "c_" + kind.removesuffix("_t")
+
+
+def python_field(kind, name, length):
+    plain = python_type(kind)
+    plain = f"POINTER({plain})" if kind.endswith("*") else plain
+    return f"{name}={'Hardware' if (plain, length) == ('c_uint8', '6') else plain + (f' * {length}' if length else '')}"
+
+
+def python_parameters(given):
+    """What the table of calls has for parameters: one name for a pointer with its length."""
+    skip = False
+    for at, (kind, _) in enumerate(given):
+        if skip:
+            skip = False
+        elif not kind.endswith("*"):
+            yield python_type(kind)
+        elif not is_with_length(given, at):
+            yield "Hardware" if kind.removeprefix("const ") == "uint8_t *" else python_type(kind)
+        else:
+            skip = True
+            is_bytes = re.fullmatch(r"(const )?(uint8_t|char) \*", kind)
+            yield (("DATA" if is_bytes[1] else "OUT") if is_bytes else f"_many({python_type(kind)})")
+
+
+def python(header):
+    yield '"""The structs and calls of ip_wire.h, written by tools/from_header.py."""'
+    yield "import ctypes"
+    yield "from ctypes import POINTER, c_char_p, c_int, c_int32, c_size_t, c_ssize_t, c_uint8, c_uint16, c_uint32, c_uint64, c_void_p"
+    yield "from typing import Any, Dict, Tuple\n\n"
+    yield "def _declare(name: str, **fields: Any) -> Any:"
+    yield '    return type(name, (ctypes.Structure,), {"_fields_": list(fields.items())})\n\n'
+    yield "def _many(kind: Any) -> Tuple[Any, Any]:"
+    yield "    return POINTER(kind), c_size_t\n\n"
+    yield "Hardware = c_uint8 * 6"
+    for name, fields in structs_of(header):
+        if name not in ONLY_C:
+            yield wrapped(f"{camel(name)} = _declare(", [f'"{name}"', *(python_field(*field) for field in fields)], ")", "    ")
+    yield f'\nVERSION = "{".".join(version_of(header))}"'
+    yield "DATA = (c_char_p, c_size_t)  # bytes that are read"
+    yield "OUT = (c_void_p, c_size_t)  # a buffer that is written"
+    yield "# Of each call the result and the parameters. A pair is a pointer with a length. A struct or array is a pointer to one."
+    yield "CALLS: Dict[str, Tuple[Any, ...]] = {"
+    for name, result, given in calls_of(header):
+        returned = "c_char_p" if "*" in result else python_type(result)
+        yield f'    "{name}": ({", ".join([returned, *python_parameters(given)])}{"" if given else ","}),'
+    yield "}"
+
+
+FILES = {"bindings/rust/src/declarations.rs": rust, "bindings/python/ip_wire/_declarations.py": python}
+
+
+def with_version(text, said, header):
+    """A text that says the version in this way, with the version of the header. None if it does not say it."""
+    major, minor, patch = version_of(header)
+    words = {"major": major, "minor": minor, "patch": patch, "series": f"{major}.{minor}", "version": f"{major}.{minor}.{patch}",
+             "next": f"{major}.{int(minor) + 1}.0"}
+    pattern = re.sub(r"\\{\w+\\}", r"[0-9]+(?:[.][0-9]+)*", re.escape(said))
+    return re.sub(pattern, lambda _: said.format(**words), text) if re.search(pattern, text) else None
+
+
+def written(header):
+    """The files that are written from the header, with their texts. A text is None if the file does not say the version."""
+    found = {path: re.sub(r"\n\n( *})", r"\n\1", "\n".join(lines(header))) + "\n" for path, lines in FILES.items()}
+    for pattern, said in VERSIONS:
+        for path in sorted(glob.glob(f"{TOP}/{pattern}")):
+            name = os.path.relpath(path, TOP)
+            text = found.get(name, read(path))
+            found[name] = text and with_version(text, said, header)
+    return found
+
+
+def main(words):
+    status = 0
+    for path, text in written(read(f"{TOP}/{HEADER}")).items():
+        if text is None:
+            print(f"{path} does not say the version of {HEADER}")
+            status = 1
+        elif words != ["--check"]:
+            with open(f"{TOP}/{path}", "w", encoding="utf-8") as file:
+                file.write(text)
+        elif not os.path.exists(f"{TOP}/{path}") or read(f"{TOP}/{path}") != text:
+            print(f"{path} is not as tools/from_header.py writes it")
+            status = 1
+    return status
+
+
+if __name__ == "__main__":
+    if sys.argv[1:] not in ([], ["--check"]):
+        sys.exit(__doc__)
+    sys.exit(main(sys.argv[1:]))
