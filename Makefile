@@ -95,19 +95,19 @@ build: $(PROGRAM) $(CALLS) $(LIBRARY) $(SHARED) $(PAGES)
 	@echo $(LIBRARY)
 
 install: install-places $(PROGRAM) $(LIBRARY) $(SHARED) $(PAGES)
-	@c/alone - c/install install
+	@tools/alone - packaging/install install
 
 uninstall: uninstall-places $(PAGES)
-	@c/alone - c/install uninstall
+	@tools/alone - packaging/install uninstall
 
 crate: $(LIBRARY)
-	@c/alone - c/crate out/crate
+	@tools/alone - packaging/crate out/crate
 
 dist: verdicts $(PROGRAM) $(LIBRARY) $(SHARED) $(PAGES)
-	@c/alone - c/dist out
+	@tools/alone - packaging/dist out
 
 deb: has-dpkg-dev $(PROGRAM) $(LIBRARY) $(SHARED) $(PAGES)
-	@c/alone - c/deb out/deb
+	@tools/alone - packaging/deb out/deb
 
 quick check affected mutants new: ready
 
@@ -118,7 +118,7 @@ ready:
 	@$(CAN_WRITE)
 
 install-places uninstall-places:
-	@c/install $(@:-places=) places
+	@packaging/install $(@:-places=) places
 
 has-dpkg-dev:
 	@command -v dpkg-gensymbols > /dev/null || $(call fail,dpkg-gensymbols is not on the path; it comes with dpkg-dev)
@@ -150,17 +150,17 @@ new:
 reference:
 	@$(CAN_WRITE)
 	@rm -rf out/reference
-	@tests/docs/reference/make.py out/reference
+	@tools/reference/make.py out/reference
 	@echo out/reference/index.html
 
 statements:
 	@tests/docs/statements.py "$$SINCE"
 
 size:
-	@tests/docs/size.py
+	@tools/size.py
 
 test:
-	@c/alone - tests/all
+	@tools/alone - tests/all
 
 compare: $(PROGRAM)
 	@tests/frames/compare.py $(PROGRAM) "$$SEED" "$$LINES" $(REFERENCE)
@@ -178,16 +178,16 @@ $(PROGRAM) $(CALLS) $(ARCHIVE): $(SOURCES)
 	@$(CAN_WRITE)
 	@echo 'proving $(@F)'
 	@mkdir -p $(@D)
-	@c/alone $@ tests/gate/build $(notdir $(@D:/out=)) $(COMMAND)
+	@tools/alone $@ tests/gate/build $(notdir $(@D:/out=)) $(COMMAND)
 
 $(PAGES): c/pages c/ip_wire.h man/ip_wire.3
 	@$(CAN_WRITE)
-	@c/alone $@ $(PYTHON) c/pages $(@D)
+	@tools/alone $@ $(PYTHON) c/pages $(@D)
 
 # The shared library is made with the static one. It is made again if it is missing.
 $(SHARED): | $(LIBRARY)
-	@test -e $@ || exec c/alone $@ c/link $(ARCHIVE) $(@D)
+	@test -e $@ || exec tools/alone $@ c/link $(ARCHIVE) $(@D)
 
 $(LIBRARY): $(ARCHIVE) c/link c/version c/cpu.c c/names.c c/ip_wire.h c/ip_wire.map
 	@$(CAN_WRITE)
-	@c/alone $@ c/link $(ARCHIVE) $(@D)
+	@tools/alone $@ c/link $(ARCHIVE) $(@D)

@@ -14,12 +14,11 @@ import os
 import re
 import sys
 
-from sources import Sources
-
 TOP = os.path.dirname(os.path.dirname(os.path.dirname(os.path.abspath(__file__))))
 sys.path.append(os.path.join(TOP, "tools"))
 import from_header  # noqa: E402
 from from_header import ONLY_C, calls_of, read, structs_of, without_comments  # noqa: E402
+from sources import Sources  # noqa: E402
 
 NUMBERS = {"u8": "uint8_t", "u16": "uint16_t", "u32": "uint32_t", "u64": "uint64_t", "i32": "int", "usize": "size_t",
            "isize": "ptrdiff_t"}

@@ -13,29 +13,13 @@ import os
 import re
 import sys
 
-PINS = {
-    "wire": "crates/test_wire/src/tests/{}.rt",
-    "apps": "crates/test_apps/src/tests/{}.rt",
-    "promises": "crates/test_promises/src/{}.rt",
-    "cases": "tests/data/cases/{}.hex",
-    "calls": "tests/data/calls/{}.call",
-    "tests": "tests/{}",
-    "worked": "tests/judge/worked_{}.c",
-}
-FILES = {
-    "devices": "crates/ip_frames/src/tests/devices.rt",
-    "example.c": "c/example.c",
-    "judge": "tests/judge/run",
-}
+TOP = os.path.dirname(os.path.dirname(os.path.dirname(os.path.abspath(__file__))))
+sys.path.append(os.path.join(TOP, "tools"))
+from pins import path_of, read  # noqa: E402
+
 HEAD = re.compile(r"(?:abbrev |unfoldable |opaque |record |data |pub )+(?!mod |use )(\S+)")
 MARK = "Pinned by: "
 NAMES = r"((?:`[\w.:]+`(?:, | and )?)+)"
-
-
-@functools.lru_cache(maxsize=None)
-def read(path):
-    with open(path, encoding="utf-8") as file:
-        return file.read()
 
 
 @functools.lru_cache(maxsize=None)
@@ -66,14 +50,6 @@ def pins_of(comment):
     """Whether the lines of a comment say what the definition means, and what follows "Pinned by:" in the others."""
     pins = [line[len(MARK):] for line in comment if line.startswith(MARK)]
     return len(pins) < len(comment), " ".join(pins)
-
-
-def path_of(pin):
-    """The pattern of the paths of a test or a file of such theorems; None for another name."""
-    kind, _, name = pin.partition("/")
-    if name:
-        return PINS.get(kind, "{}").format(name)
-    return "crates/*/proofs/" + pin + ".antt" if pin.endswith(("Worked", "Once")) else FILES.get(pin)
 
 
 def wide_faults(wide):
@@ -112,4 +88,4 @@ def main(top):
 
 
 if __name__ == "__main__":
-    sys.exit(main(sys.argv[1] if len(sys.argv) > 1 else os.path.join(os.path.dirname(__file__), "../..")))
+    sys.exit(main(sys.argv[1] if len(sys.argv) > 1 else TOP))

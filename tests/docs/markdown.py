@@ -18,7 +18,9 @@ import os
 import re
 import sys
 
-from sources import WORD, Sources
+TOP = os.path.dirname(os.path.dirname(os.path.dirname(os.path.abspath(__file__))))
+sys.path.append(os.path.join(TOP, "tools"))
+from sources import WORD, Sources  # noqa: E402
 
 # The pages that are written by hand, with the most lines that each may have, and that all may have.
 LONGEST = {

@@ -11,7 +11,9 @@ import os
 import re
 import sys
 
-from sources import Sources
+TOP = os.path.dirname(os.path.dirname(os.path.dirname(os.path.abspath(__file__))))
+sys.path.append(os.path.join(TOP, "tools"))
+from sources import Sources  # noqa: E402
 
 DOCUMENT = "docs/audit/REQUIREMENTS.md"
 # The crates with test functions, by the first word of their names in the tables.
@@ -210,4 +212,4 @@ def main(top):
 
 
 if __name__ == "__main__":
-    sys.exit(main(sys.argv[1] if len(sys.argv) > 1 else os.path.dirname(os.path.dirname(os.path.dirname(os.path.abspath(__file__))))))
+    sys.exit(main(sys.argv[1] if len(sys.argv) > 1 else TOP))

@@ -22,10 +22,11 @@ import sys
 import tarfile
 import tempfile
 
-from contracts import ReadError
-from sources import Sources, words_of
-
 TOP = os.path.dirname(os.path.dirname(os.path.dirname(os.path.abspath(__file__))))
+sys.path.append(os.path.join(TOP, "tools"))
+from contracts import ReadError  # noqa: E402
+from sources import Sources, words_of  # noqa: E402
+
 UNRELEASED = re.compile(r"^## Unreleased\n(.*?)(?=^## |\Z)", re.M | re.S)
 SINCE = re.compile(r"`make statements SINCE=(\S+)`")
 # The crates whose functions promise something of what their bodies do, beside the laws.

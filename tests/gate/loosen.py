@@ -27,10 +27,11 @@ from concurrent.futures import ThreadPoolExecutor
 import proved
 import untried
 
+# Modules of tools/, whose folder `untried` adds to the path.
+from contracts import Clause
+from sources import words_of
+
 TOP = proved.TOP
-sys.path.insert(0, str(TOP / "tests/docs"))
-from contracts import Clause  # noqa: E402
-from sources import words_of  # noqa: E402
 
 # The crates with needs, in the order in which they can be tried.
 NEEDS = [name for name in proved.crates() if name.endswith("_needs")]

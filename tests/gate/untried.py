@@ -13,7 +13,7 @@ import proved
 
 TOP = proved.TOP
 LIST = TOP / "tests/data/tried.txt"
-sys.path.insert(0, str(TOP / "tests/docs"))
+sys.path[:0] = [str(TOP / "tests/docs"), str(TOP / "tools")]
 from sources import Sources, words_of  # noqa: E402
 from statements import Statements  # noqa: E402
 

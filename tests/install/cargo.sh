@@ -31,8 +31,8 @@ packs() {
 
 # The crate that is packed with the library needs no other one. The pages of docs.rs need none at all.
 packs_by_cargo() (
-    [ "$(c/crate "$room/crate")" = "$room/crate" ] &&
-        fails_with "$room/folder is no crate of make crate" c/crate "$room/folder" || exit 1
+    [ "$(packaging/crate "$room/crate")" = "$room/crate" ] &&
+        fails_with "$room/folder is no crate of make crate" packaging/crate "$room/folder" || exit 1
     export PKG_CONFIG=false
     DOCS_RS=1 cargo_at / doc -q --no-deps || exit 1
     crate=$room/crate

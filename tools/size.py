@@ -1,5 +1,5 @@
 #!/usr/bin/env python3
-"""Prints how large each crate is, in Markdown: tests/docs/size.py
+"""Prints how large each crate is, in Markdown: tools/size.py
 
 All numbers are lines, but for the number of functions. `src` is without tests, and `comments` is the share of its lines that
 are comments or doc lines. The lines of a function are those of its body. `laws` are functions whose body is empty.
@@ -11,7 +11,7 @@ import sys
 
 from sources import Sources
 
-TOP = pathlib.Path(__file__).resolve().parents[2]
+TOP = pathlib.Path(__file__).resolve().parents[1]
 COLUMNS = ("crate", "src", "comments", "functions", "median", "p90", "longest", "laws", "specs", "proofs", "tests")
 IS_TEST = re.compile(r"/tests(/|\.rt$)")
 

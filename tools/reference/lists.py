@@ -6,7 +6,7 @@ import re
 from model import Call, Module
 from pages import code, doc, first_sentence, page, table
 from words import plain
-import definitions
+from pins import path_of, read
 from contracts import imports, spec_lines
 
 OPERATORS = {"can_add": "+", "can_sub": "-", "can_add_assign": "+="}
@@ -100,7 +100,7 @@ def pin_link(pages, name):
     """A law as a link, a test as the name of its file, and any other name as code."""
     if name in pages.law_urls:
         return f'<a href="{pages.law_urls[name]}">{code(name)}</a>'
-    pattern = definitions.path_of(name)
+    pattern = path_of(name)
     return ", ".join(map(code, sorted(glob.glob(pattern)))) if pattern else code(name)
 
 
@@ -143,7 +143,7 @@ def definition_index(pages, found):
 
 def pin_meanings():
     """The rows of the table in docs/audit/PINS.md, without its links."""
-    rows = re.findall(r"^\| (?!Pin |---)(.+?) \| (.+?) \|$", definitions.read("docs/audit/PINS.md"), re.M)
+    rows = re.findall(r"^\| (?!Pin |---)(.+?) \| (.+?) \|$", read("docs/audit/PINS.md"), re.M)
     return [[doc([re.sub(r"\[([^]]*)\]\([^)]*\)", r"\1", cell)]) for cell in row] for row in rows]
 
 
@@ -165,7 +165,7 @@ def pin_page(found):
 
 def reached():
     """The files of the modules of proofs that a crate above `ip_wire` reaches, by name."""
-    text = definitions.read("crates/ip_wire/proofs/Lib.antt")
+    text = read("crates/ip_wire/proofs/Lib.antt")
     listed = re.findall(r"^pub (?:mod|use Rattle\.(\w+)\.proofs\.)\s*(\w+)$", text, re.M)
     return {module: f"crates/{crate or 'ip_wire'}/proofs/{module}.antt" for crate, module in listed}
 

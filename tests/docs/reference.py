@@ -1,5 +1,5 @@
 #!/usr/bin/env python3
-"""Checks the reference: tests/docs/reference/check.py [TOP]
+"""Checks the reference: tests/docs/reference.py [TOP]
 
 It is made twice, with the same bytes. Its HTML must be well-formed, no name may be twice in a page, and each link must
 lead to a page or name of the reference. Each public call of the libraries and each law must be on a page. LEAST of the
@@ -13,9 +13,11 @@ import tempfile
 from html.parser import HTMLParser
 from urllib.parse import unquote
 
-from model import LIBRARIES, VIEW, Sources
+TOP = os.path.dirname(os.path.dirname(os.path.dirname(os.path.abspath(__file__))))
+MAKER = os.path.join(TOP, "tools/reference")
+sys.path.append(MAKER)
+from model import LIBRARIES, VIEW, Sources  # noqa: E402
 
-HERE = os.path.dirname(os.path.abspath(__file__))
 LEAST = 0.99
 EMPTY = "meta", "link", "input", "br", "hr", "img"
 
@@ -58,7 +60,7 @@ def dead(file, page, pages):
 
 def made(top, folder):
     """Makes the reference: the texts of its files, and what was printed."""
-    command = [sys.executable, os.path.join(HERE, "make.py"), folder, top]
+    command = [sys.executable, os.path.join(MAKER, "make.py"), folder, top]
     done = subprocess.run(command, stdout=subprocess.PIPE, encoding="utf-8")
     if done.returncode:
         sys.exit(1)
@@ -105,4 +107,4 @@ def main(top):
 
 
 if __name__ == "__main__":
-    sys.exit(main(os.path.abspath(sys.argv[1]) if len(sys.argv) > 1 else os.path.join(HERE, "../../..")))
+    sys.exit(main(os.path.abspath(sys.argv[1]) if len(sys.argv) > 1 else TOP))

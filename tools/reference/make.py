@@ -1,7 +1,7 @@
 #!/usr/bin/env python3
 """Makes the reference from the sources: static HTML pages of the public types and calls, the laws and the definitions.
 
-    tests/docs/reference/make.py FOLDER [TOP]
+    tools/reference/make.py FOLDER [TOP]
 
 The pages are written into FOLDER. TOP is the top of the repository.
 """
@@ -60,6 +60,6 @@ if __name__ == "__main__":
     if len(sys.argv) not in (2, 3):
         sys.exit(__doc__)
     try:
-        main(sys.argv[1], sys.argv[2] if len(sys.argv) == 3 else os.path.join(HERE, "../../.."))
+        main(sys.argv[1], sys.argv[2] if len(sys.argv) == 3 else os.path.join(HERE, "../.."))
     except (OSError, ReadError) as error:
         sys.exit(f"make.py: {error}")
