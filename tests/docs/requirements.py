@@ -43,12 +43,6 @@ def expanded(name):
     return ["".join(choice) for choice in itertools.product(*choices)]
 
 
-def counted(name):
-    """A name such as `udp (21)`, without the number, and the number or 0."""
-    found = re.fullmatch(r"(.*) \((\d+)\)", name)
-    return (found.group(1), int(found.group(2))) if found else (name, 0)
-
-
 class Statements:
     """The names of all statements, as the tables write them."""
 
@@ -86,18 +80,16 @@ class Statements:
             self.calls.setdefault(f"{owner}::{item.name}", set()).update(names)
 
     def has(self, name):
-        """Whether there is such a law, `impl` with a promise, definition, or call with a promise (of this name), or a type
-        with so many of them."""
-        type_name, count = counted(name)
-        if count:
-            return sum(call.startswith(type_name + "::") and bool(names) for call, names in self.calls.items()) >= count
+        """Whether there is such a law, `impl` with a promise, definition, type with such calls, or call with a promise (of
+        this name)."""
         if name.startswith("law "):
             return name[len("law ") :] in self.laws
         if " for " in name:
             return name in self.promises
         call, _, clause = name.partition(".")
         if "::" not in call:
-            return name in self.definitions
+            has_calls = any(it.startswith(name + "::") and names for it, names in self.calls.items())
+            return name in self.definitions or has_calls
         return clause in self.calls.get(call, ()) if clause else bool(self.calls.get(call))
 
 
@@ -111,12 +103,9 @@ def test_functions(path):
 
 
 def is_test(name):
-    """Whether there is a test of this name, or a file with so many test functions. `worked/FILE/NAME` is a function of the
-    judge's worked calls, which another one calls."""
-    name, count = counted(name)
+    """Whether there is a test of this name, or a file with test functions. `worked/FILE/NAME` is a function of the judge's
+    worked calls, which another one calls."""
     kind, _, rest = name.partition("/")
-    if count:
-        return len(test_functions(name)) >= count
     if kind == "cases":
         return os.path.exists(f"tests/data/cases/{rest}.hex") and os.path.exists(f"tests/data/cases/{rest}.txt")
     if kind == "calls":
@@ -139,7 +128,7 @@ def is_test(name):
     if os.path.exists(module):
         return function in TEST_FUNCTION.findall(read(module))
     file, _, function = name.rpartition("/")
-    return function in test_functions(file)
+    return bool(test_functions(name)) or function in test_functions(file)
 
 
 def rows(document):
