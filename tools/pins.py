@@ -1,7 +1,14 @@
-"""What the comments `-- Pinned by:` name (docs/audit/PINS.md)."""
-import functools
+"""What the line "Pinned by:" below the head of a module of definitions names: what its definitions were compared with outside.
 
-PINS = {
+Rows and models whose values come from RFCs, captures, smoltcp or are written by hand. The laws that name a definition pin it
+too, and the reference lists them.
+"""
+import re
+
+MARK = "Pinned by: "
+# The pattern of the paths of each kind of pin. `NAMEWorked` and `NAMEOnce` are theorems: about worked bytes, and that there is
+# only one such value.
+PATHS = {
     "wire": "crates/test_wire/src/tests/{}.rt",
     "apps": "crates/test_apps/src/tests/{}.rt",
     "promises": "crates/test_promises/src/{}.rt",
@@ -9,23 +16,19 @@ PINS = {
     "calls": "tests/data/calls/{}.call",
     "tests": "tests/{}",
     "worked": "tests/judge/worked_{}.c",
-}
-FILES = {
     "devices": "crates/ip_frames/src/tests/devices.rt",
     "example.c": "c/example.c",
     "judge": "tests/judge/run",
 }
 
 
-@functools.lru_cache(maxsize=None)
-def read(path):
-    with open(path, encoding="utf-8") as file:
-        return file.read()
+def pins_of(docs):
+    """The names in the lines of a comment that begin with the mark, and the other lines."""
+    pins = [name for line in docs if line.startswith(MARK) for name in re.findall(r"`([^`]+)`", line)]
+    return pins, [line for line in docs if not line.startswith(MARK)]
 
 
 def path_of(pin):
-    """The pattern of the paths of a test or a file of such theorems; None for another name."""
+    """The pattern of the paths of a pin."""
     kind, _, name = pin.partition("/")
-    if name:
-        return PINS.get(kind, "{}").format(name)
-    return "crates/*/proofs/" + pin + ".antt" if pin.endswith(("Worked", "Once")) else FILES.get(pin)
+    return PATHS[kind].format(name) if kind in PATHS else f"crates/*/proofs/{pin}.antt"

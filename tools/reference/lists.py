@@ -6,7 +6,7 @@ import re
 from model import Call, Module
 from pages import code, doc, first_sentence, page, table
 from words import plain
-from pins import path_of, read
+from pins import path_of, pins_of
 from contracts import imports, spec_lines
 
 OPERATORS = {"can_add": "+", "can_sub": "-", "can_add_assign": "+="}
@@ -33,8 +33,6 @@ every getter may be called, until a length field is written.</li>
 timestamp, a function of the caller: only the caller knows when it may be called.</li></ul>
 <p>In the tables, <code>bytes</code> are the bytes under a view, and the marks <code>.now</code> and <code>.old</code>
 of the contract are left out. A view and its mutable view share a row. Each call leads to its contract.</p>"""
-PINS = """<p>A pin is a law, a proof or a test that fails if a definition and the code have the same mistake. What
-follows <code>too wide:</code> fails if the definition also accepts a wrong result.</p>"""
 
 
 # ---- conditions and laws
@@ -96,23 +94,15 @@ def laws(pages):
 # ---- definitions
 
 
-def pin_link(pages, name):
-    """A law as a link, a test as the name of its file, and any other name as code."""
-    if name in pages.law_urls:
-        return f'<a href="{pages.law_urls[name]}">{code(name)}</a>'
-    pattern = path_of(name)
-    return ", ".join(map(code, sorted(glob.glob(pattern)))) if pattern else code(name)
-
-
 def definition(pages, one, file):
-    """A definition with its pins. `file` is the text of its file."""
+    """A definition with the laws that name it. `file` is the text of its file."""
     head = re.search(rf"^(?:[a-z]+ (?:\d+ )?)+{re.escape(one.item.name)}(?=[\s:])", file, re.M)
     line = file.count("\n", 0, head.start()) + 1
     text = "\n  ".join(one.item.lines)
-    pins = re.sub(r"`([^`]+)`", lambda found: pin_link(pages, found[1]), html.escape(one.pins, False))
-    pinned = f'<p class="pins"><a href="pins.html">Pinned by</a>: {pins}</p>' if pins else ""
+    laws = ", ".join(f'<a href="{pages.law_urls[law.item.name]}">{code(law.item.name)}</a>' for law in one.laws)
+    named = f'<p class="pins">Laws: {laws}</p>' if laws else ""
     return (f'<section id="{html.escape(one.item.name)}"><h3>{code(one.item.name)}</h3>{doc([one.comment])}'
-            f"<pre>{pages.reference.linked(text, one.crate, one.module)}</pre>{pinned}"
+            f"<pre>{pages.reference.linked(text, one.crate, one.module)}</pre>{named}"
             f'<p class="src">{one.module.file}:{line}</p></section>\n')
 
 
@@ -126,14 +116,17 @@ def definition_pages(pages):
         module, crate, name = group[0].module, group[0].crate, ".".join(group[0].module.path)
         text = pages.reference.sources.read(module.file)
         library = "ip_wire" if (crate.name, "specs", *module.path) in given_on else crate.name
-        body = f'{doc(module.docs)}<p class="src">ghost use Rattle.{library}.specs.{name}.{{..}};</p>'
+        pins, docs = pins_of(module.docs)
+        files = ", ".join(code(path) for pin in pins for path in sorted(glob.glob(path_of(pin))))
+        body = doc(docs) + (f'<p class="pins">Pinned by {files}</p>' if files else "")
+        body += f'<p class="src">ghost use Rattle.{library}.specs.{name}.{{..}};</p>'
         body += "".join(definition(pages, one, text) for one in group)
         yield url, page(f"{name} in {crate.name}", body), group
 
 
 def definition_index(pages, found):
     out, crate = ["<p>Contracts and laws cite these definitions, which are never run. Bytes are a list of numbers from "
-                  '0 to 255, byte 0 first. Laws and tests <a href="pins.html">pin</a> the definitions.</p><ul>'], ""
+                  "0 to 255, byte 0 first. Laws, recorded rows and models pin them.</p><ul>"], ""
     for url, _, group in found:
         out.append(f"</ul><h2>{group[0].crate.name}</h2><ul>" if group[0].crate.name != crate else "")
         crate, module = group[0].crate.name, group[0].module
@@ -141,31 +134,12 @@ def definition_index(pages, found):
     return page("Definitions", "".join(out) + "</ul>")
 
 
-def pin_meanings():
-    """The rows of the table in docs/audit/PINS.md, without its links."""
-    rows = re.findall(r"^\| (?!Pin |---)(.+?) \| (.+?) \|$", read("docs/audit/PINS.md"), re.M)
-    return [[doc([re.sub(r"\[([^]]*)\]\([^)]*\)", r"\1", cell)]) for cell in row] for row in rows]
-
-
-def pin_page(found):
-    """What pins are, and the definitions without one."""
-    rows, count = [], 0
-    for url, _, group in found:
-        names = [f'<a href="{one.url}">{code(one.item.name)}</a>' for one in group if not one.pins]
-        count += len(names)
-        module = f'<a href="{url}">{".".join(group[0].module.path)}</a> in {group[0].crate.name}'
-        rows += [(module, f"{len(names)} of {len(group)}", ", ".join(names))] if names else []
-    without = f"<h2>Without a pin</h2><p>{count} definitions have none.</p>"
-    rows = table(rows, ("Module", "Without a pin", "Definitions"))
-    return page("What pins a definition", PINS + table(pin_meanings(), ("Pin", "Meaning")) + without + rows)
-
-
 # ---- lemmas
 
 
-def reached():
+def reached(pages):
     """The files of the modules of proofs that a crate above `ip_wire` reaches, by name."""
-    text = read("crates/ip_wire/proofs/Lib.antt")
+    text = pages.reference.sources.read("crates/ip_wire/proofs/Lib.antt")
     listed = re.findall(r"^pub (?:mod|use Rattle\.(\w+)\.proofs\.)\s*(\w+)$", text, re.M)
     return {module: f"crates/{crate or 'ip_wire'}/proofs/{module}.antt" for crate, module in listed}
 
@@ -174,7 +148,7 @@ def lemmas(pages):
     """The public lemmas of the modules of proofs that a crate above `ip_wire` reaches, and their number."""
     out, count = ["<p>The prover finds most proofs of a contract. Where it does not, these lemmas help. A crate that "
                   "lists <code>ip_wire</code> imports each as its module says.</p>"], 0
-    for name, file in sorted(reached().items()):
+    for name, file in sorted(reached(pages).items()):
         lines = spec_lines(pages.reference.sources.read(file))
         uses = [line.partition("use ")[2] for _, line, _ in lines if re.match("(pub )?use ", line)]
         module = Module(file, (name,), lines[0][2], [], [use for text in uses for use in imports(text, True, False)])

@@ -25,7 +25,6 @@ def made(top):
     definitions = list(lists.definition_pages(pages))
     files.update((url, text) for url, text, _ in definitions)
     files["definitions.html"] = lists.definition_index(pages, definitions)
-    files["pins.html"] = lists.pin_page(definitions)
     files["conditions.html"], conditions = lists.conditions(pages)
     files["lemmas.html"], lemmas = lists.lemmas(pages)
     files["index.html"] = lists.index(pages)

@@ -15,8 +15,6 @@ LIBRARIES = (
     "app_edit",
 )
 VIEW = re.compile(r"= (\w+View)<")
-# Before the pins of a definition, in each line of its comment that has some.
-PIN = "Pinned by: "
 NAME = re.compile(r"[^\W\d][\w'-]*(?:\.[^\W\d][\w'-]*)?")
 
 
@@ -70,7 +68,7 @@ class Definition(Meaning):
     crate: Crate = None
     module: Module = None
     item: object = None
-    pins: str = ""
+    laws: list = field(default_factory=list)  # Those that name it.
 
 
 def parameters(lines):
@@ -80,12 +78,6 @@ def parameters(lines):
     names = lines[1].partition("=")[0].split()[1:] if len(lines) == 2 else []
     names = [name for name in names if not name.startswith("{")]
     return [] if re.search(r"[()\[\]{}]", "".join(names)) else names
-
-
-def parts_of(comment):
-    """The lines of a definition's comment: its meaning and its pins, each as one text."""
-    pins = [line[len(PIN) :] for line in comment if line.startswith(PIN)]
-    return " ".join(line.strip() for line in comment if not line.startswith(PIN)), " ".join(pins)
 
 
 def file_name(title):
@@ -107,6 +99,11 @@ class Reference:
         self.laws = [Call(crate, module, None, item) for crate, module in modules
                      if "laws" in module.path and not crate.name.startswith("test_")
                      for item in module.items if item.kind == "fn" and item.visibility == "pub"]
+        for law in self.laws:
+            text = " ".join(clause.text for clause in law.item.clauses)
+            named = (self.of_word(law.crate, law.module, (), word) for word in dict.fromkeys(NAME.findall(text)))
+            for definition in {id(one): one for one in named if isinstance(one, Definition)}.values():
+                definition.laws.append(law)
 
     # ---- pages
 
@@ -114,10 +111,9 @@ class Reference:
         page = file_name(f"spec {crate.name} {'.'.join(module.path)}")
         for item in module.items:
             if not re.match(r"(pub )*mod$", item.kind):
-                comment, pins = parts_of(item.docs)
                 is_bool = item.lines[0].endswith("→ Bool")
                 self.definitions[("Rattle", crate.name, "specs", *module.path, item.name)] = Definition(
-                    f"{page}#{item.name}", comment, parameters(item.lines), is_bool, crate, module, item, pins)
+                    f"{page}#{item.name}", " ".join(map(str.strip, item.docs)), parameters(item.lines), is_bool, crate, module, item)
 
     def add(self, library, shown, path):
         """Adds an exported name to its page."""

@@ -1,4 +1,5 @@
 -- Frames in which bytes are replaced, with the checksums that cover them updated (RFC 1624).
+-- Pinned by: `worked/edit`
 use Rattle.std.specs.Prelude.{ℕ, ◌+◌, ◌-◌, ◌*◌, ◌%◌, ◌==◌, ◌&&◌, ◌||◌, not, nat_le, nat_lt, max, min, if◌then◌else◌, Bool, true, false, List, [], ◌∷◌, Option, None, Some, drop, length, slice_range}
 use Rattle.std.specs.Option.{option_and_then, option_map}
 use Rattle.byteorder.specs.Endian.{big_bytes, big_number}
@@ -23,66 +24,55 @@ use Rattle.app_edit.specs.declared.replace.Offload.TheVariants as offload
 
 -- ---- bytes and words of a frame
 
--- Pinned by: `worked/edit`
 -- the frame with these bytes from byte `at` on
 abbrev pub written : List ℕ → ℕ → List ℕ → List ℕ
 written frame at bytes = with_range frame at (at + length bytes) bytes
 
--- Pinned by: `worked/edit`
 -- the big-endian number in the two bytes from byte `at` on
 abbrev pub word_at : List ℕ → ℕ → ℕ
 word_at frame at = big_number 2 (drop at frame)
 
--- Pinned by: `worked/edit`
 -- the frame with a number in these two bytes
 abbrev pub with_word : List ℕ → ℕ → ℕ → List ℕ
 with_word frame at n = written frame at (big_bytes 2 n)
 
 -- ---- the addresses and the transport packet
 
--- Pinned by: `worked/edit`
 -- the source address of a packet
 abbrev pub src_of : IpVersion → List ℕ → IpAddress
 src_of version.Ipv4 frame = address.Ipv4 (slice_range frame 26 30)
 src_of version.Ipv6 frame = address.Ipv6 (slice_range frame 22 38)
 
--- Pinned by: `worked/edit`
 -- the destination address of a packet
 abbrev pub dst_of : IpVersion → List ℕ → IpAddress
 dst_of version.Ipv4 frame = address.Ipv4 (slice_range frame 30 34)
 dst_of version.Ipv6 frame = address.Ipv6 (slice_range frame 38 54)
 
--- Pinned by: `worked/edit`
 -- the bytes of a transport packet that its checksum covers, without the pseudo-header
 abbrev pub segment_bytes : Segment → List ℕ → List ℕ
 segment_bytes s frame = slice_range frame s.start s.end
 
--- Pinned by: `worked/edit`
 -- the sum of all that the checksum of a transport packet covers: the pseudo-header and the packet; in ICMP over IPv4
 -- the packet only (RFC 792)
 abbrev pub segment_sum_by : IpProtocol → IpVersion → Segment → List ℕ → ℕ
 segment_sum_by protocol.Icmp v s frame = sum_of_bytes (segment_bytes s frame)
 segment_sum_by p v s frame = sum_of_bytes (with_pseudo_header (src_of v frame) (dst_of v frame) p (segment_bytes s frame))
 
--- Pinned by: `worked/edit`
 -- the same sum by the protocol of the packet
 abbrev pub segment_sum : IpVersion → Segment → List ℕ → ℕ
 segment_sum v s frame = segment_sum_by s.protocol v s frame
 
--- Pinned by: `worked/edit`
 -- the sum of the pseudo-header of a transport packet
 abbrev pub pseudo_header_sum : IpVersion → Segment → List ℕ → ℕ
 pseudo_header_sum v s frame =
     sum_of_bytes (pseudo_header_bytes (address_bytes (src_of v frame)) (address_bytes (dst_of v frame)) s.protocol (s.end - s.start))
 
--- Pinned by: `worked/edit`
 -- whether the sender leaves the checksum of this protocol to a device: TCP and UDP
 abbrev pub can_be_left : IpProtocol → Bool
 can_be_left protocol.Tcp = true
 can_be_left protocol.Udp = true
 can_be_left _ = false
 
--- Pinned by: `worked/edit`
 -- whether the checksum looks left to the device that sends the frame: the field is the sum of the pseudo-header, and the
 -- checksum is not valid as it is
 abbrev pub looks_left : IpVersion → Segment → List ℕ → Bool
@@ -90,7 +80,6 @@ looks_left v s frame =
     s.is_whole && can_be_left s.protocol && word_at frame (checksum_place s) == pseudo_header_sum v s frame
     && not (segment_sum v s frame == 65535)
 
--- Pinned by: `worked/edit`
 -- whether the checksum counts as left to the device: as the caller says of TCP and UDP, or as it looks
 abbrev pub is_left : Offload → IpVersion → Segment → List ℕ → Bool
 is_left offload.Guess v s frame = looks_left v s frame
@@ -99,7 +88,6 @@ is_left offload.Complete v s frame = false
 
 -- ---- checksums
 
--- Pinned by: `worked/edit`
 -- The field of a checksum that covers the bytes from `first` up to `last`, after the bytes `before` from byte `at` on
 -- became `after`: updated by those that it covers (RFC 1624). `first` is even.
 abbrev pub updated_over : (ℕ → ℕ → ℕ → ℕ) → ℕ → ℕ → ℕ → ℕ → List ℕ → List ℕ → ℕ
@@ -109,19 +97,16 @@ updated_over update field first last at before after =
     if nat_lt from to then update field (sum_at from (slice_range before (from - at) (to - at))) (sum_at from (slice_range after (from - at) (to - at)))
     else field
 
--- Pinned by: `worked/edit`
 -- the updated field of a transport checksum; in UDP 0 stays, which means that there is none
 abbrev pub updated_by : IpProtocol → ℕ → ℕ → ℕ → ℕ
 updated_by protocol.Udp field old new = updated_udp field old new
 updated_by _ field old new = updated field old new
 
--- Pinned by: `worked/edit`
 -- the field of a transport checksum after the addresses changed, which the pseudo-header has; ICMP has none over IPv4
 abbrev pub over_addresses : IpProtocol → IpVersion → ℕ → ℕ → List ℕ → List ℕ → ℕ
 over_addresses protocol.Icmp v field at before after = field
 over_addresses p v field at before after = updated_over (updated_by p) field (addresses_start v) (addresses_end v) at before after
 
--- Pinned by: `worked/edit`
 -- The field of a transport checksum after the bytes `before` from byte `at` on became `after`. One that is left to the
 -- device is the sum of the pseudo-header, and not its complement.
 abbrev pub updated_checksum : Offload → IpVersion → Segment → List ℕ → ℕ → List ℕ → List ℕ → ℕ
@@ -130,13 +115,11 @@ updated_checksum o v s frame at before after =
     if is_left o v s frame then 65535 - updated_over updated (65535 - field) (addresses_start v) (addresses_end v) at before after
     else updated_over (updated_by s.protocol) (over_addresses s.protocol v field at before after) s.start s.end at before after
 
--- Pinned by: `worked/edit`
 -- the checksum of what a packet carries, after bytes from byte `at` on were replaced; 0 without one
 abbrev pub transport_checksum : Offload → Carried → IpVersion → List ℕ → ℕ → List ℕ → ℕ
 transport_checksum o (carried.Segment s) v frame at bytes = updated_checksum o v s frame at (slice_range frame at (at + length bytes)) bytes
 transport_checksum o _ v frame at bytes = 0
 
--- Pinned by: `worked/edit`
 -- the checksum of an IP header that ends at `end`, after bytes from byte `at` on were replaced; 0 for IPv6
 abbrev pub header_checksum : IpVersion → ℕ → List ℕ → ℕ → List ℕ → ℕ
 header_checksum version.Ipv4 end frame at bytes = updated_over updated (word_at frame 24) 14 end at (slice_range frame at (at + length bytes)) bytes
@@ -144,19 +127,16 @@ header_checksum version.Ipv6 end frame at bytes = 0
 
 -- ---- edits
 
--- Pinned by: `worked/edit`
 -- the frame with this checksum of its IP header; IPv6 has none
 abbrev pub with_header_checksum : IpVersion → List ℕ → ℕ → List ℕ
 with_header_checksum version.Ipv4 frame n = with_word frame 24 n
 with_header_checksum version.Ipv6 frame n = frame
 
--- Pinned by: `worked/edit`
 -- the frame with this checksum of what its packet carries
 abbrev pub with_transport_checksum : Carried → List ℕ → ℕ → List ℕ
 with_transport_checksum (carried.Segment s) frame n = with_word frame (checksum_place s) n
 with_transport_checksum _ frame n = frame
 
--- Pinned by: `worked/edit`
 -- the frame with these bytes from byte `at` on, and the checksums that cover them updated
 abbrev pub edited : Offload → Places → List ℕ → ℕ → List ℕ → List ℕ
 edited o p frame at bytes =
@@ -164,32 +144,27 @@ edited o p frame at bytes =
     (with_header_checksum p.version (written frame at bytes) (header_checksum p.version p.start frame at bytes))
     (transport_checksum o p.carried p.version frame at bytes)
 
--- Pinned by: `worked/edit`
 -- the place of the TTL or hop limit
 abbrev pub hop_limit_place : IpVersion → ℕ
 hop_limit_place version.Ipv4 = 22
 hop_limit_place version.Ipv6 = 21
 
--- Pinned by: `worked/edit`
 -- the frame with another TTL or hop limit, which no transport checksum covers
 unfoldable pub hop_limit_set : List ℕ → ℕ → Option (List ℕ)
 hop_limit_set frame n = option_map (λ p. edited offload.Complete p frame (hop_limit_place p.version) (n ∷ [])) (places_of frame)
 
--- Pinned by: `worked/edit`
 -- the first two bytes of an IP header with another DSCP (RFC 2474, section 3); the traffic class of IPv6 has the ECN in
 -- its lowest two bits (RFC 8200, section 7)
 abbrev pub with_dscp : IpVersion → List ℕ → ℕ → List ℕ
 with_dscp version.Ipv4 bytes n = with_field bytes 8 6 n
 with_dscp version.Ipv6 bytes n = with_field bytes 4 8 (4 * n + field bytes 4 8 % 4)
 
--- Pinned by: `worked/edit`
 -- the frame with another DSCP, of 6 bits, which no transport checksum covers
 unfoldable pub dscp_set : List ℕ → ℕ → Option (List ℕ)
 dscp_set frame n =
     if nat_lt 63 n then None
     else option_map (λ p. edited offload.Complete p frame 14 (with_dscp p.version (slice_range frame 14 16) n)) (places_of frame)
 
--- Pinned by: `worked/edit`
 -- the place of an address
 abbrev pub address_place : Side → IpVersion → ℕ
 address_place Source version.Ipv4 = 26
@@ -197,39 +172,33 @@ address_place Source version.Ipv6 = 22
 address_place Destination version.Ipv4 = 30
 address_place Destination version.Ipv6 = 38
 
--- Pinned by: `worked/edit`
 -- whether an address has this version
 abbrev pub has_version : IpVersion → IpAddress → Bool
 has_version version.Ipv4 (address.Ipv4 a) = true
 has_version version.Ipv6 (address.Ipv6 a) = true
 has_version _ _ = false
 
--- Pinned by: `worked/edit`
 -- whether a packet that carries this can have the address: it has the same version, and no checksum that is not found
 -- covers it
 abbrev pub takes_by : Carried → IpVersion → IpAddress → Bool
 takes_by carried.Hidden v a = false
 takes_by _ v a = has_version v a
 
--- Pinned by: `worked/edit`
 -- whether a packet can have this address
 abbrev pub takes_address : Places → IpAddress → Bool
 takes_address p a = takes_by p.carried p.version a
 
--- Pinned by: `worked/edit`
 -- the frame with another source or destination address
 unfoldable pub addr_set : Offload → List ℕ → Side → IpAddress → Option (List ℕ)
 addr_set o frame side a =
     option_and_then (λ p. if takes_address p a then Some (edited o p frame (address_place side p.version) (address_bytes a)) else None) (places_of frame)
 
--- Pinned by: `worked/edit`
 -- the place of a port, if a packet carries TCP or UDP
 abbrev pub port_place : Side → Carried → Option ℕ
 port_place Source (carried.Segment s) = if can_be_left s.protocol then Some s.start else None
 port_place Destination (carried.Segment s) = if can_be_left s.protocol then Some (s.start + 2) else None
 port_place _ _ = None
 
--- Pinned by: `worked/edit`
 -- the frame with another source or destination port
 unfoldable pub port_set : Offload → List ℕ → Side → ℕ → Option (List ℕ)
 port_set o frame side n =
@@ -237,27 +206,23 @@ port_set o frame side n =
 
 -- ---- bytes that may not be replaced
 
--- Pinned by: `worked/edit`
 -- whether the bytes from `at` up to `end` have none of those from `first` up to `last`; an empty range must not begin
 -- between two of them either
 abbrev pub is_apart : ℕ → ℕ → ℕ → ℕ → Bool
 is_apart at end first last = nat_le end first || nat_le last at || nat_le last first
 
--- Pinned by: `worked/edit`
 -- Whether an edit keeps the bytes of the headers that say where the layers are. IPv4: version and header length, total
 -- length to fragment offset, protocol and checksum. IPv6: version, payload length and next header, fragment header.
 abbrev pub keeps_header : IpVersion → ℕ → ℕ → ℕ → Bool
 keeps_header version.Ipv4 start at end = is_apart at end 0 15 && is_apart at end 16 22 && is_apart at end 23 26
 keeps_header version.Ipv6 start at end = is_apart at end 0 15 && is_apart at end 18 21 && is_apart at end 54 start
 
--- Pinned by: `worked/edit`
 -- whether an edit keeps the checksum field, the data offset of TCP and the length of UDP
 abbrev pub keeps_segment : IpProtocol → ℕ → ℕ → ℕ → Bool
 keeps_segment protocol.Tcp start at end = is_apart at end (start + 12) (start + 13) && is_apart at end (start + 16) (start + 18)
 keeps_segment protocol.Udp start at end = is_apart at end (start + 4) (start + 8)
 keeps_segment _ start at end = is_apart at end (start + 2) (start + 4)
 
--- Pinned by: `worked/edit`
 -- whether an edit keeps the bytes after the IP header that it may not replace: of a later fragment all, and without a
 -- known place of the checksum all that it may cover, with the addresses
 abbrev pub keeps_carried : Carried → Places → ℕ → ℕ → Bool
@@ -266,12 +231,10 @@ keeps_carried carried.Other p at end = true
 keeps_carried carried.Fragment p at end = is_apart at end (if is_ipv4 p.version then p.start else 54) p.end
 keeps_carried carried.Hidden p at end = is_apart at end (if is_ipv4 p.version then 23 else 22) p.end
 
--- Pinned by: `worked/edit`
 -- whether the bytes from `at` up to `end` may be replaced
 abbrev pub allows : Places → ℕ → ℕ → Bool
 allows p at end = keeps_header p.version p.start at end && keeps_carried p.carried p at end
 
--- Pinned by: `worked/edit`
 -- the frame with these bytes from byte `at` on, if they fit and all bytes there may be replaced
 unfoldable pub bytes_set : Offload → List ℕ → ℕ → List ℕ → Option (List ℕ)
 bytes_set o frame at bytes =

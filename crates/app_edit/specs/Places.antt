@@ -1,4 +1,5 @@
 -- Where the fields of a packet are in its Ethernet frame. All places count from the first byte of the frame.
+-- Pinned by: `worked/edit`
 use Rattle.std.specs.Prelude.{ℕ, ◌≡◌, ◌≤◌, ◌+◌, ◌%◌, ◌==◌, ◌&&◌, ◌||◌, not, nat_le, nat_lt, min, if◌then◌else◌, Bool, true, false, List, Option, None, Some, drop, length, slice_index}
 use Rattle.byteorder.specs.Endian.{big_number}
 use Rattle.ip_wire.specs.Ethernet as ethernet
@@ -17,13 +18,11 @@ use Rattle.app_edit.specs.declared.places.Segment.{Segment}
 
 -- ---- protocols
 
--- Pinned by: `worked/edit`
 -- whether this is IPv4
 abbrev pub is_ipv4 : IpVersion → Bool
 is_ipv4 version.Ipv4 = true
 is_ipv4 version.Ipv6 = false
 
--- Pinned by: `worked/edit`
 -- whether it is the protocol of a transport packet with a checksum: TCP, UDP, ICMP over IPv4, ICMPv6 over IPv6
 abbrev pub has_checksum : Bool → IpProtocol → Bool
 has_checksum over_ipv4 protocol.Tcp = true
@@ -32,7 +31,6 @@ has_checksum over_ipv4 protocol.Icmp = over_ipv4
 has_checksum over_ipv4 protocol.Icmpv6 = not over_ipv4
 has_checksum over_ipv4 _ = false
 
--- Pinned by: `worked/edit`
 -- whether it is the number of a header after which the transport packet is not looked for: the authentication header
 -- (RFC 4302), and over IPv6 hop-by-hop options, routing, fragment, destination options (RFC 8200, section 4)
 abbrev pub hides_next : Bool → IpProtocol → Bool
@@ -43,7 +41,6 @@ hides_next over_ipv4 protocol.Ipv6Opts = not over_ipv4
 hides_next over_ipv4 protocol.IpSecAh = true
 hides_next over_ipv4 _ = false
 
--- Pinned by: `worked/edit`
 -- Whether it is the number of another protocol whose checksum covers the addresses. Over both versions: DCCP (33; RFC
 -- 4340, section 9.1), OSPF version 3 (89; RFC 5340, appendix A.3.1, and RFC 7949 over IPv4), VRRP (112; RFC 5798, section
 -- 5.2.8), UDP-Lite (136; RFC 3828, section 3.2) and HIP (139; RFC 7401, section 5.1.1). Over IPv6: PIM (103; RFC 7761,
@@ -53,26 +50,22 @@ covers_addresses over_ipv4 (protocol.Unknown n) =
     n == 33 || n == 89 || n == 112 || n == 136 || n == 139 || (not over_ipv4 && (n == 103 || n == 135))
 covers_addresses over_ipv4 _ = false
 
--- Pinned by: `worked/edit`
 -- the offset of the checksum field in a transport header (RFC 9293, RFC 768, RFC 792, RFC 4443)
 abbrev pub checksum_offset : IpProtocol → ℕ
 checksum_offset protocol.Tcp = 16
 checksum_offset protocol.Udp = 6
 checksum_offset _ = 2
 
--- Pinned by: `worked/edit`
 -- the place of the checksum field of a transport packet
 abbrev pub checksum_place : Segment → ℕ
 checksum_place s = s.start + checksum_offset s.protocol
 
 -- ---- what a packet carries
 
--- Pinned by: `worked/edit`
 -- the length field of a UDP packet at this place
 abbrev pub datagram_len : List ℕ → ℕ → ℕ
 datagram_len frame start = big_number 2 (drop (start + 4) frame)
 
--- Pinned by: `worked/edit`
 -- the UDP packet from `start` on: its checksum covers as many bytes as its length field says
 abbrev pub datagram_at : List ℕ → ℕ → ℕ → Bool → Carried
 datagram_at frame start end whole =
@@ -84,7 +77,6 @@ datagram_at frame start end whole =
       is_whole = whole && nat_le (start + datagram_len frame start) end;
     })
 
--- Pinned by: `worked/edit`
 -- the transport packet of a protocol with a checksum, from `start` up to `end`
 abbrev pub segment_at : List ℕ → IpProtocol → ℕ → ℕ → Bool → Carried
 segment_at frame protocol.Udp start end whole = if nat_lt end (start + 8) then carried.Hidden else datagram_at frame start end whole
@@ -92,7 +84,6 @@ segment_at frame p start end whole =
     if nat_lt end (start + checksum_offset p + 2) then carried.Hidden
     else carried.Segment (record { protocol = p; start = start; end = end; is_whole = whole })
 
--- Pinned by: `worked/edit`
 -- what a packet of this protocol carries from `start` up to `end`, if it is no later fragment
 abbrev pub carried_by : List ℕ → Bool → IpProtocol → ℕ → ℕ → Bool → Carried
 carried_by frame over_ipv4 p start end whole =
@@ -102,7 +93,6 @@ carried_by frame over_ipv4 p start end whole =
 
 -- ---- the places in a frame
 
--- Pinned by: `worked/edit`
 -- what an IPv4 packet carries from `start` up to `end`
 abbrev pub ipv4_carried : List ℕ → ℕ → ℕ → Carried
 ipv4_carried frame start end =
@@ -110,7 +100,6 @@ ipv4_carried frame start end =
     if ipv4.fragment_offset bytes == 0 then carried_by frame true (protocol_of (field bytes 72 8)) start end (not (field bytes 50 1 == 1))
     else carried.Fragment
 
--- Pinned by: `worked/edit`
 -- the places in a frame with the EtherType of IPv4, if its header parses; its checksum is not verified
 abbrev pub ipv4_places : List ℕ → Option Places
 ipv4_places frame =
@@ -119,14 +108,12 @@ ipv4_places frame =
     if ipv4.is_read false (drop 14 frame) then Some (record { version = version.Ipv4; start = start; end = end; carried = ipv4_carried frame start end })
     else None
 
--- Pinned by: `worked/edit`
 -- what an IPv6 packet with a fragment header right after the IPv6 header carries (RFC 8200, section 4.5)
 abbrev pub fragment_carried : List ℕ → ℕ → Carried
 fragment_carried frame end =
     if field (drop 56 frame) 0 13 == 0 then carried_by frame false (protocol_of (slice_index frame 54)) 62 end (not (field (drop 56 frame) 15 1 == 1))
     else carried.Fragment
 
--- Pinned by: `worked/edit`
 -- the places of an IPv6 packet with this next header and length in bytes
 abbrev pub places_after : List ℕ → IpProtocol → ℕ → Places
 places_after frame protocol.Ipv6Frag len =
@@ -134,38 +121,32 @@ places_after frame protocol.Ipv6Frag len =
     else record { version = version.Ipv6; start = 54; end = 14 + len; carried = carried_by frame false protocol.Ipv6Frag 54 (14 + len) true }
 places_after frame p len = record { version = version.Ipv6; start = 54; end = 14 + len; carried = carried_by frame false p 54 (14 + len) true }
 
--- Pinned by: `worked/edit`
 -- the places in a frame with the EtherType of IPv6, if its header parses
 abbrev pub ipv6_places : List ℕ → Option Places
 ipv6_places frame =
     let bytes = drop 14 frame in
     if ipv6.is_read bytes then Some (places_after frame (protocol_of (field bytes 48 8)) (ipv6.total_len bytes)) else None
 
--- Pinned by: `worked/edit`
 -- the places in a frame with this EtherType
 abbrev pub places_by : EthernetProtocol → List ℕ → Option Places
 places_by ethertype.Ipv4 frame = ipv4_places frame
 places_by ethertype.Ipv6 frame = ipv6_places frame
 places_by _ frame = None
 
--- Pinned by: `worked/edit`
 -- the places in an Ethernet II frame, if its packet is IPv4 or IPv6
 unfoldable pub places_of : List ℕ → Option Places
 places_of frame = if nat_lt (length frame) 14 then None else places_by (ethernet.protocol_of (field frame 96 16)) frame
 
 -- ---- places that are in a frame
 
--- Pinned by: `worked/edit`
 -- where the two addresses begin (RFC 791, section 3.1; RFC 8200, section 3)
 abbrev pub addresses_start : IpVersion → ℕ
 addresses_start v = if is_ipv4 v then 26 else 22
 
--- Pinned by: `worked/edit`
 -- where they end
 abbrev pub addresses_end : IpVersion → ℕ
 addresses_end v = if is_ipv4 v then 34 else 54
 
--- Pinned by: proof of `set_bytes`
 -- a transport packet is in the frame, with its checksum field and after the addresses; its words are words of the frame
 pub record InFrame (v : IpVersion) (s : Segment) (frame : List ℕ) : Type 0 where
   pub starts : addresses_end v ≤ s.start
@@ -173,13 +154,11 @@ pub record InFrame (v : IpVersion) (s : Segment) (frame : List ℕ) : Type 0 whe
   pub least : checksum_place s + 2 ≤ s.end
   pub inside : s.end ≤ length frame
 
--- Pinned by: proof of `set_bytes`
 -- what a packet carries from `start` on is in the frame
 abbrev pub HoldsCarried : Carried → IpVersion → ℕ → List ℕ → Type 0
 HoldsCarried (carried.Segment s) v start frame = InFrame v s frame × (s.start ≡ start)
 HoldsCarried _ v start frame = start ≡ start
 
--- Pinned by: proof of `set_bytes`
 -- the places are in the frame
 pub record Holds (p : Places) (frame : List ℕ) : Type 0 where
   pub header : addresses_end p.version ≤ p.start
@@ -188,7 +167,6 @@ pub record Holds (p : Places) (frame : List ℕ) : Type 0 where
   pub whole : p.end ≤ length frame
   pub carried : HoldsCarried p.carried p.version p.start frame
 
--- Pinned by: proof of `set_bytes`
 -- where the transport packet begins, if there is one
 abbrev pub carried_start : Carried → ℕ
 carried_start (carried.Segment s) = s.start

@@ -1,4 +1,5 @@
 -- The reply to an echo request (RFC 792; RFC 1122, section 3.2.2.6; RFC 4443, section 4.2).
+-- Pinned by: `calls/host`, `worked/hosts`, `MessagesOnce`
 use Rattle.std.specs.Prelude.{ℕ, ◌≡◌, ◌≤◌, List, Some, drop, length, true}
 use Rattle.ip_wire.specs.Frame.{Carried, IsReadWhole, other, packet, type_of}
 use Rattle.ip_wire.specs.FrameValue.{carried_of}
@@ -12,7 +13,6 @@ use Rattle.app_host.specs.Message.{HasClass, dscp_of}
 use Rattle.app_host.specs.declared.interface.Interface.{Interface}
 use Rattle.app_host.specs.declared.message.MessageFrame.{MessageFrame}
 
--- Pinned by: `worked/hosts`; too wide: `MessagesOnce`, `calls/host`
 -- A frame with these values is an echo request for us, and the other frame is the reply to it. It has the same
 -- identifier, sequence number and data.
 pub record IsIcmpEcho (ours : Interface) (asked_header : EthernetRepr) (asked : Carried) (header : EthernetRepr) (carried : Carried) : Type 0 where
@@ -30,7 +30,6 @@ pub record IsIcmpEcho (ours : Interface) (asked_header : EthernetRepr) (asked : 
   pub replies : carried ≡ (let reply = bytes_of (EchoReply ident seq_no) payload (dst_addr_of ip) (src_addr_of ip) true in
       packet (header_before (header_back ip) (protocol_of (version_of ip)) (length reply)) (other reply))
 
--- Pinned by: `calls/host`
 -- If these bytes are an echo request for us, the packet in the other bytes has the DSCP of the request (RFC 1812,
 -- section 4.3.2.5), and ECN 0.
 abbrev pub KeepsDscp : Interface → List ℕ → List ℕ → Type 0
@@ -38,14 +37,12 @@ KeepsDscp ours bytes answer =
     (asked_header header : EthernetRepr) (asked carried : Carried) → IsReadWhole bytes asked_header asked → (e : IsIcmpEcho ours asked_header asked header carried)
     → HasClass (version_of e.ip) (drop 14 answer) (dscp_of (version_of e.ip) (drop 14 bytes))
 
--- Pinned by: proof of `answer`
 -- If the frame with these bytes is an echo request for us, the frame of a message has its version and its DSCP.
 abbrev pub HasDscpOf : Interface → Frame → List ℕ → MessageFrame → Type 0
 HasDscpOf ours request bytes f =
     (header : EthernetRepr) (asked carried : Carried) → 16 ≤ length bytes → carried_of request.carried ≡ Some asked → (e : IsIcmpEcho ours request.header asked header carried)
     → (version_of f.ip ≡ version_of e.ip) × (f.dscp ≡ dscp_of (version_of e.ip) (drop 14 bytes))
 
--- Pinned by: `worked/hosts`; too wide: `MessagesOnce`, `calls/host`
 -- the values of our echo reply to a frame
 abbrev pub RepliesEchoFrame : Interface → Frame → EthernetRepr → Carried → Type 0
 RepliesEchoFrame ours request header carried =

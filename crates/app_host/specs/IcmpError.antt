@@ -1,4 +1,5 @@
 -- ICMP errors about the packet of a frame (RFC 1122, section 3.2.2; RFC 1812, section 4.3.2; RFC 4443, section 2.4).
+-- Pinned by: `worked/icmp`, `MessagesOnce`, `calls/host`
 use Rattle.std.specs.Prelude.{ℕ, ◌≡◌, ◌⊎◌, ◌==◌, ◌||◌, Bool, List, [], drop, false, length, min, take, true}
 use Rattle.ip_wire.specs.Ethernet as ethernet
 use Rattle.ip_wire.specs.Frame.{Carried, other, packet, type_of}
@@ -16,37 +17,31 @@ use Rattle.app_host.specs.Interface.{header_back}
 use Rattle.app_host.specs.Source.{IsHostAddr, IsInvalidSource}
 use Rattle.app_host.specs.declared.interface.Interface.{Interface}
 
--- Pinned by: proof of `error`
 -- whether the number names an extension header of IPv6 (RFC 7045, section 4), but not the encapsulating security payload
 -- (50), whose payload is encrypted, nor the numbers for experiments (253 and 254)
 abbrev pub is_extension_header : ℕ → Bool
 is_extension_header n = n == 0 || n == 43 || n == 44 || n == 51 || n == 60 || n == 135 || n == 139 || n == 140
 
--- Pinned by: proof of `error`
 -- The packet begins a message of its protocol: it is no fragment, or the first one. Extension headers of IPv6 are not
 -- parsed, so a packet with one, such as a fragment, does not count.
 abbrev pub IsBeginning : IpRepr → List ℕ → Type 0
 IsBeginning (Ipv4 v) bytes = ipv4.fragment_offset bytes ≡ 0
 IsBeginning (Ipv6 v) bytes = is_extension_header (number_of v.next_header) ≡ false
 
--- Pinned by: proof of `error`
 -- the packet carries ICMP, but no query: its payload has no type, or that of an error or a redirect
 abbrev pub IsIcmpError : IpRepr → List ℕ → Type 0
 IsIcmpError v payload =
     (next_header_of v ≡ protocol_of (version_of v)) × ((payload ≡ []) ⊎ (is_query (version_of v) (field payload 0 8) ≡ false))
 
--- Pinned by: proof of `error`
 -- an ICMP error may be sent about the packet with this header
 abbrev pub IsToldOf : IpRepr → List ℕ → Type 0
 IsToldOf v bytes = IsBeginning v bytes × ¬ IsIcmpError v (payload_of bytes (version_of v))
 
--- Pinned by: proof of `error`
 -- the header of the packet with an error: from our address back to the sender
 abbrev pub header_from : Interface → IpRepr → IpRepr
 header_from ours (Ipv4 v) = header_back (Ipv4 (record v { dst_addr = ours.ipv4_addr }))
 header_from ours (Ipv6 v) = header_back (Ipv6 (record v { dst_addr = ours.ipv6_addr }))
 
--- Pinned by: proof of `error`
 -- The packet goes from one other host to one host, and the frame is for our hardware address only. We have a host's
 -- address of its version.
 pub record IsBetweenHosts (ours : Interface) (link : EthernetRepr) (v : IpRepr) : Type 0 where
@@ -57,14 +52,12 @@ pub record IsBetweenHosts (ours : Interface) (link : EthernetRepr) (v : IpRepr) 
   pub to_addr : IsHostAddr (dst_addr_of v)
   pub own : IsHostAddr (src_addr_of (header_from ours v))
 
--- Pinned by: `worked/icmp`
 -- The bytes of the packet that an error quotes. The packet with the error has at most 576 bytes over IPv4 (RFC 1812,
 -- section 4.3.2.3), and 1,280 over IPv6 (RFC 4443, section 2.4 c). Padding after the packet is not quoted.
 abbrev pub quoted : IpVersion → List ℕ → List ℕ
 quoted version.Ipv4 bytes = take (min 548 (ipv4.total_len bytes)) bytes
 quoted version.Ipv6 bytes = take (min 1232 (ipv6.total_len bytes)) bytes
 
--- Pinned by: `worked/icmp`; too wide: `MessagesOnce`, `calls/host`
 -- The second frame carries an ICMP error with this message about the packet with this header in the first frame. An
 -- error may be sent about it.
 pub record IsErrorAbout (ours : Interface) (frame : List ℕ) (v : IpRepr) (message : IcmpRepr) (header : EthernetRepr) (carried : Carried) : Type 0 where
@@ -78,7 +71,6 @@ pub record IsErrorAbout (ours : Interface) (frame : List ℕ) (v : IpRepr) (mess
       let bytes = bytes_of message (quoted (version_of v) (drop 14 frame)) (src_addr_of back) (dst_addr_of back) true in
       packet (header_before back (protocol_of (version_of v)) (length bytes)) (other bytes))
 
--- Pinned by: `worked/icmp`; too wide: `MessagesOnce`, `calls/host`
 -- the second frame carries an ICMP error with this message about the packet in the first frame
 abbrev pub IsError : Interface → List ℕ → IcmpRepr → EthernetRepr → Carried → Type 0
 IsError ours frame message header carried = (v : IpRepr) × IsErrorAbout ours frame v message header carried

@@ -1,4 +1,5 @@
 -- The packets that a host on one link may reply to.
+-- Pinned by: `calls/host`
 use Rattle.std.specs.Prelude.{◌≡◌}
 use Rattle.ip_wire.specs.Hardware as hardware
 use Rattle.ip_wire.specs.Ip.{dst_addr_of, src_addr_of}
@@ -6,7 +7,6 @@ use Rattle.ip_wire.specs.Types.{EthernetRepr, IpRepr, Ipv4, Ipv6}
 use Rattle.app_host.specs.Source.{IsInvalidSource, IsOurs}
 use Rattle.app_host.specs.declared.interface.Interface.{Interface}
 
--- Pinned by: too wide: `calls/host`
 -- a packet from one other host to this interface only (RFC 1122, sections 3.2.1.3 and 3.3.6)
 pub record IsForUs (ours : Interface) (link : EthernetRepr) (v : IpRepr) : Type 0 where
   pub to_hardware : link.dst_addr ≡ ours.hardware_addr
@@ -14,7 +14,6 @@ pub record IsForUs (ours : Interface) (link : EthernetRepr) (v : IpRepr) : Type 
   pub to_addr : IsOurs ours (dst_addr_of v)
   pub from_addr : ¬ IsInvalidSource ours (src_addr_of v)
 
--- Pinned by: `calls/host`
 -- the header of a packet in the other direction, with hop limit 64
 abbrev pub header_back : IpRepr → IpRepr
 header_back (Ipv4 v) = Ipv4 (record v { src_addr = v.dst_addr; dst_addr = v.src_addr; hop_limit = 64 })

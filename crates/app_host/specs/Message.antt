@@ -1,4 +1,5 @@
 -- Frames with a message of ICMP or of neighbour discovery, and replies of every kind.
+-- Pinned by: `worked/hosts`, `worked/icmp`, `calls/host`
 use Rattle.std.specs.Prelude.{ℕ, ⊤, ◌≡◌, ◌<◌, ◌≤◌, ◌+◌, ◌/◌, ◌%◌, ◌++◌, List, Option, Some, None, drop, length, true}
 use Rattle.ip_wire.specs.Ethernet as ethernet
 use Rattle.ip_wire.specs.Field.{field}
@@ -19,35 +20,29 @@ use Rattle.app_host.specs.declared.message.MessageFrame.{MessageFrame}
 use Rattle.app_host.specs.declared.message.Reply.{Reply}
 use Rattle.app_host.specs.declared.message.Reply.TheVariants as reply
 
--- Pinned by: `worked/hosts`, `worked/icmp`
 -- the bytes of a message in a packet with this header, with its checksum
 abbrev pub message_bytes : IpRepr → Message → List ℕ
 message_bytes v (Icmp value payload) = icmp.bytes_of value payload.now (src_addr_of v) (dst_addr_of v) true
 message_bytes v (Ndisc value) = ndisc.bytes_of value (address_bytes (src_addr_of v)) (address_bytes (dst_addr_of v)) true
 
--- Pinned by: `worked/hosts`, `worked/icmp`
 -- the number of bytes of a message
 abbrev pub message_len : Message → ℕ
 message_len (Icmp value payload) = 8 + length payload.now
 message_len (Ndisc value) = ndisc.len_of value
 
--- Pinned by: proof of `send`
 -- a packet with this header can carry the message: neighbour discovery exists only over IPv6
 abbrev pub IsOfVersion : Message → IpRepr → Type 0
 IsOfVersion (Icmp value payload) v = ⊤
 IsOfVersion (Ndisc value) v = version_of v ≡ version.Ipv6
 
--- Pinned by: `worked/hosts`, `worked/icmp`
 -- the values of what the frame of a message carries
 abbrev pub values_of : MessageFrame → Carried
 values_of f = packet f.ip (other (message_bytes f.ip f.message))
 
--- Pinned by: `worked/hosts`, `worked/icmp`
 -- the emitted bytes of the frame of a message
 abbrev pub frame_bytes : MessageFrame → List ℕ
 frame_bytes f = ethernet.bytes_of f.header ++ (ip.bytes_of f.ip true ++ message_bytes f.ip f.message)
 
--- Pinned by: proof of `send`
 -- the frame of a message can be emitted: each header names what follows it, and the lengths fit
 pub record IsSendable (f : MessageFrame) : Type 0 where
   pub ethertype : f.header.ethertype ≡ type_of f.ip
@@ -58,20 +53,17 @@ pub record IsSendable (f : MessageFrame) : Type 0 where
   pub version : IsOfVersion f.message f.ip
   pub dscp : f.dscp < 64
 
--- Pinned by: proof of `send`
 -- a frame of these headers, of the bytes of a message and of any padding parses as their values
 abbrev pub Composes : EthernetRepr → IpRepr → Type 0
 Composes header v =
     (bytes padding : List ℕ) → header.ethertype ≡ type_of v → next_header_of v ≡ protocol_of (version_of v) → payload_len_of v ≡ length bytes
     → IsReadWhole (ethernet.bytes_of header ++ (ip.bytes_of v true ++ bytes) ++ padding) header (packet v (other bytes))
 
--- Pinned by: `worked/hosts`, `worked/icmp`
 -- the result is a frame with the values of a reply that can be emitted, or there is no reply
 abbrev pub Gives : (EthernetRepr → Carried → Type 0) → Option MessageFrame → Type 0
 Gives IsReply None = (header : EthernetRepr) (carried : Carried) → ¬ IsReply header carried
 Gives IsReply (Some f) = IsSendable f × IsReply f.header (values_of f)
 
--- Pinned by: proof of `send`
 -- The frame is at the front of the buffer and parses there, and the other bytes are unchanged. If it does not fit,
 -- the whole buffer is unchanged.
 abbrev pub IsSent : MessageFrame → List ℕ → List ℕ → Option ℕ → Type 0
@@ -81,30 +73,25 @@ IsSent f old new (Some len) =
 
 -- ---- the DSCP and the ECN of a packet (RFC 2474, section 3; RFC 3168, section 5)
 
--- Pinned by: `calls/host`
 -- the DSCP of a packet of this version: of IPv6 the first 6 bits of the traffic class
 abbrev pub dscp_of : IpVersion → List ℕ → ℕ
 dscp_of version.Ipv4 bytes = field bytes 8 6
 dscp_of version.Ipv6 bytes = field bytes 4 8 / 4
 
--- Pinned by: `calls/host`
 -- the ECN of a packet of this version: of IPv6 the last 2 bits of the traffic class
 abbrev pub ecn_of : IpVersion → List ℕ → ℕ
 ecn_of version.Ipv4 bytes = field bytes 14 2
 ecn_of version.Ipv6 bytes = field bytes 4 8 % 4
 
--- Pinned by: `calls/host`
 -- a packet of this version has this DSCP, and ECN 0
 pub record HasClass (version : IpVersion) (bytes : List ℕ) (dscp : ℕ) : Type 0 where
   pub marked : dscp_of version bytes ≡ dscp
   pub unmarked_ecn : ecn_of version bytes ≡ 0
 
--- Pinned by: `calls/host`
 -- the packet in the bytes of the frame of a message has the DSCP of the message, and ECN 0
 abbrev pub IsMarked : MessageFrame → List ℕ → Type 0
 IsMarked f bytes = HasClass (version_of f.ip) (drop 14 bytes) f.dscp
 
--- Pinned by: proof of `send`
 -- the packet with this header has another DSCP, and else parses as before
 pub record IsRemarked (v : IpRepr) (old new : List ℕ) (dscp : ℕ) : Type 0 where
   pub marked : HasClass (version_of v) new dscp
@@ -112,7 +99,6 @@ pub record IsRemarked (v : IpRepr) (old new : List ℕ) (dscp : ℕ) : Type 0 wh
   pub payload : packet_payload v new ≡ packet_payload v old
   pub rest : drop (ip.header_len_of v) new ≡ drop (ip.header_len_of v) old
 
--- Pinned by: proof of `send`
 -- the frame of a message has its DSCP, and else parses as before
 pub record IsFrameRemarked (f : MessageFrame) (old new : List ℕ) : Type 0 where
   pub marked : IsMarked f new
@@ -121,32 +107,27 @@ pub record IsFrameRemarked (f : MessageFrame) (old new : List ℕ) : Type 0 wher
 
 -- ---- replies of both kinds
 
--- Pinned by: proof of `send`
 -- the reply has this Ethernet header and carries these values
 abbrev pub HasValues : Reply → EthernetRepr → Carried → Type 0
 HasValues (reply.Frame f) header carried = frame.HasValues f header carried
 HasValues (reply.Message f) header carried = (f.header ≡ header) × (values_of f ≡ carried)
 
--- Pinned by: proof of `send`
 -- the reply can be emitted
 abbrev pub IsSendableReply : Reply → Type 0
 IsSendableReply (reply.Frame f) = frame.IsSendable f
 IsSendableReply (reply.Message f) = IsSendable f
 
--- Pinned by: `worked/hosts`, `worked/icmp`
 -- the result is a reply with these values that can be emitted, or there is no reply
 abbrev pub GivesReply : (EthernetRepr → Carried → Type 0) → Option Reply → Type 0
 GivesReply IsReply None = (header : EthernetRepr) (carried : Carried) → ¬ IsReply header carried
 GivesReply IsReply (Some r) = IsSendableReply r × ((header : EthernetRepr) × (carried : Carried) × HasValues r header carried × IsReply header carried)
 
--- Pinned by: proof of `send`
 -- The reply is at the front of the buffer and parses there, and the other bytes are unchanged. If it does not fit,
 -- the whole buffer is unchanged.
 abbrev pub IsReplySent : Reply → List ℕ → List ℕ → Option ℕ → Type 0
 IsReplySent (reply.Frame f) old new result = frame.IsSent f old new result
 IsReplySent (reply.Message f) old new result = IsSent f old new result
 
--- Pinned by: `calls/host`
 -- the packet of a reply with a message has its DSCP, and ECN 0
 abbrev pub IsReplyMarked : Reply → List ℕ → Type 0
 IsReplyMarked (reply.Frame f) bytes = ⊤
@@ -154,7 +135,6 @@ IsReplyMarked (reply.Message f) bytes = IsMarked f bytes
 
 -- ---- frames that are put together
 
--- Pinned by: `worked/hosts`, `worked/icmp`
 -- the frame between two hosts with this message, in a packet with the addresses and the hop limit of a header, and with
 -- DSCP 0
 abbrev pub message_frame : EthernetAddress → EthernetAddress → IpRepr → Message → MessageFrame

@@ -1,4 +1,5 @@
 -- The replies of TCP to a segment without a connection (RFC 9293, section 3.10.7).
+-- Pinned by: `calls/host`, `RepliesOnce`, `calls/worked_replies`
 use Rattle.std.specs.Prelude.{ℕ, ◌≡◌, ◌≢◌, ◌+◌, ◌%◌, ◌^◌, ◌⊎◌, Contains, List, [], Option, Some, None, false, length, min}
 use Rattle.std.specs.Option.{option_map}
 use Rattle.ip_wire.specs.Frame.{Carried, IsReadWhole, packet, segment, type_of}
@@ -16,12 +17,10 @@ use Rattle.app_host.specs.Interface.{IsForUs, header_back}
 use Rattle.app_host.specs.declared.interface.Interface.{Interface}
 use Rattle.app_host.specs.declared.tcp_reply.Offer.{Offer}
 
--- Pinned by: `calls/host`
 -- the sequence number n after this one, modulo 2 ^ 32
 abbrev pub ahead : TcpSeqNumber → ℕ → TcpSeqNumber
 ahead seq n = seq_of ((number seq + n) % 2 ^ 32)
 
--- Pinned by: `calls/host`
 -- a segment back to the sender, with this control and these numbers, without options
 abbrev pub back : TcpHeader → TcpControl → TcpSeqNumber → Option TcpSeqNumber → TcpHeader
 back asked flag seq ack = record {
@@ -38,19 +37,16 @@ back asked flag seq ack = record {
   timestamp = None;
 }
 
--- Pinned by: `calls/host`
 -- the RST to a segment of this sequence length: <SEQ=SEG.ACK><CTL=RST> if it has an acknowledgement, else
 -- <SEQ=0><ACK=SEG.SEQ+SEG.LEN><CTL=RST,ACK>
 abbrev pub reset_by : Option TcpSeqNumber → TcpHeader → ℕ → TcpHeader
 reset_by (Some ack) asked len = back asked control.Rst ack None
 reset_by None asked len = back asked control.Rst (seq_of 0) (Some (ahead asked.seq_number len))
 
--- Pinned by: `calls/host`
 -- the RST to a segment with a payload of this length
 abbrev pub reset_for : TcpHeader → ℕ → TcpHeader
 reset_for asked payload_len = reset_by asked.ack_number asked (payload_len + control_len asked.control)
 
--- Pinned by: `calls/host`
 -- <SEQ=ISS><ACK=SEG.SEQ+1><CTL=SYN,ACK> to a SYN, with the options that the SYN has too, and the maximum segment size
 abbrev pub syn_ack : Offer → TcpHeader → TcpHeader
 syn_ack offer syn = record (back syn control.Syn offer.initial (Some (ahead syn.seq_number 1))) {
@@ -61,18 +57,15 @@ syn_ack offer syn = record (back syn control.Syn offer.initial (Some (ahead syn.
   timestamp = option_map (λ stamp. record { tsval = offer.clock; tsecr = stamp.tsval }) syn.timestamp;
 }
 
--- Pinned by: `calls/host`
 -- the reply of a closed port to a segment with this control: a RST is discarded, anything else is reset
 abbrev pub closed_by : TcpControl → TcpHeader → Option TcpHeader
 closed_by control.Rst reset = None
 closed_by _ reset = Some reset
 
--- Pinned by: `calls/host`
 -- the reply of a closed port to a segment with a payload of this length
 abbrev pub closed_reply : TcpHeader → ℕ → Option TcpHeader
 closed_reply asked payload_len = closed_by asked.control (reset_for asked payload_len)
 
--- Pinned by: `calls/host`
 -- the reply of an open port to a segment with this control and this acknowledgement: a RST is discarded, an
 -- acknowledgement is reset, a SYN is accepted, and the rest is dropped, checked in this order
 abbrev pub listen_by : TcpControl → Option TcpSeqNumber → TcpHeader → TcpHeader → Option TcpHeader
@@ -81,19 +74,16 @@ listen_by _ (Some ack) reset accepted = Some reset
 listen_by control.Syn None reset accepted = Some accepted
 listen_by _ None reset accepted = None
 
--- Pinned by: `calls/host`
 -- the reply of an open port to a segment
 abbrev pub listen_reply : Offer → TcpHeader → Option TcpHeader
 listen_reply offer asked = listen_by asked.control asked.ack_number (reset_for asked 0) (syn_ack offer asked)
 
--- Pinned by: too wide: `RepliesOnce`, `calls/host`
 -- the reply to a segment with a payload of this length, if these ports are open
 abbrev pub Replies : List ℕ → Offer → TcpHeader → ℕ → TcpHeader → Type 0
 Replies ports offer asked payload_len reply =
     (Contains ports asked.dst_port × (listen_reply offer asked ≡ Some reply))
     ⊎ (¬ Contains ports asked.dst_port × (closed_reply asked payload_len ≡ Some reply))
 
--- Pinned by: too wide: `RepliesOnce`, `calls/host`
 -- a frame with these values is a TCP segment for us, and the other frame is the reply to it
 pub record IsTcpReply (ours : Interface) (ports : List ℕ) (offer : Offer) (asked_header : EthernetRepr) (asked : Carried) (header : EthernetRepr) (carried : Carried) : Type 0 where
   pub ip : IpRepr
@@ -108,13 +98,11 @@ pub record IsTcpReply (ours : Interface) (ports : List ℕ) (offer : Offer) (ask
   pub link : header ≡ record { src_addr = ours.hardware_addr; dst_addr = asked_header.src_addr; ethertype = type_of ip }
   pub carries : carried ≡ packet (header_before (header_back ip) protocol.Tcp (header_len_of reply)) (segment reply [])
 
--- Pinned by: `calls/worked_replies`
 -- the values of our TCP reply to a frame
 abbrev pub TcpRepliesFrame : Interface → List ℕ → Offer → Frame → EthernetRepr → Carried → Type 0
 TcpRepliesFrame ours ports offer request header carried =
     (asked : Carried) × (carried_of request.carried ≡ Some asked) × IsTcpReply ours ports offer request.header asked header carried
 
--- Pinned by: `calls/worked_replies`
 -- the values of our TCP reply to the frame that the bytes parse as
 abbrev pub TcpRepliesBytes : Interface → List ℕ → Offer → List ℕ → EthernetRepr → Carried → Type 0
 TcpRepliesBytes ours ports offer bytes header carried =

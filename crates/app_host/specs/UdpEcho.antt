@@ -1,4 +1,5 @@
 -- The echo service of UDP (RFC 862).
+-- Pinned by: `calls/worked_replies`, `RepliesOnce`, `calls/host`
 use Rattle.std.specs.Prelude.{ℕ, ◌≡◌, ◌<◌, ◌≤◌, ◌+◌, List, Some, length}
 use Rattle.ip_wire.specs.Frame.{Carried, IsReadWhole, datagram, packet, type_of}
 use Rattle.ip_wire.specs.FrameValue.{carried_of}
@@ -9,7 +10,6 @@ use Rattle.ip_wire.specs.declared.IpProtocol.TheVariants as protocol
 use Rattle.app_host.specs.Interface.{IsForUs, header_back}
 use Rattle.app_host.specs.declared.interface.Interface.{Interface}
 
--- Pinned by: too wide: `RepliesOnce`, `calls/host`
 -- A frame with these values is a UDP packet for our echo port, and the other frame is its echo. A packet from a port
 -- below 1024 may be the answer of a service (RFC 862 to 868), and one from a port that is not above ours the echo of
 -- another host, so they get no echo.
@@ -26,13 +26,11 @@ pub record IsEcho (ours : Interface) (port : ℕ) (asked_header : EthernetRepr) 
   pub link : header ≡ record { src_addr = ours.hardware_addr; dst_addr = asked_header.src_addr; ethertype = type_of ip }
   pub echoes : carried ≡ packet (header_before (header_back ip) protocol.Udp (8 + length payload)) (datagram (record { src_port = udp.dst_port; dst_port = udp.src_port }) payload)
 
--- Pinned by: `calls/worked_replies`
 -- the values of the echo of a frame
 abbrev pub EchoesFrame : Interface → ℕ → Frame → EthernetRepr → Carried → Type 0
 EchoesFrame ours port request header carried =
     (asked : Carried) × (carried_of request.carried ≡ Some asked) × IsEcho ours port request.header asked header carried
 
--- Pinned by: `calls/worked_replies`
 -- the values of the echo of the frame that the bytes parse as
 abbrev pub EchoesBytes : Interface → ℕ → List ℕ → EthernetRepr → Carried → Type 0
 EchoesBytes ours port bytes header carried =

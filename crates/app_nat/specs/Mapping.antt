@@ -1,4 +1,5 @@
 -- One mapping, and how packets change it.
+-- Pinned by: `worked/mappings`
 use Rattle.std.specs.Prelude.{ℕ, ◌≡◌, ◌+◌, ◌-◌, ◌^◌, ◌==◌, min, Bool, not, ◌&&◌, ◌||◌, if◌then◌else◌, [], ◌∷◌}
 use Rattle.std.specs.Str.{bytes_eq}
 use Rattle.app_nat.specs.State.{byte_of, ends_connection, next_state, protocol_of, state_of, timeout_of}
@@ -11,34 +12,28 @@ use Rattle.app_nat.specs.declared.state.TcpState.TheVariants.{Closing}
 
 -- ---- endpoints
 
--- Pinned by: `worked/mappings`; too wide: law `port_has_one_endpoint`
 -- the inside endpoint of a mapping
 abbrev pub inside_of : Mapping → Ipv4Endpoint
 inside_of m = record { addr = m.inside; port = m.inside_port }
 
--- Pinned by: `worked/mappings`; too wide: law `port_has_one_endpoint`
 -- an address and port are the inside endpoint of the mapping
 abbrev pub IsOf : Ipv4Endpoint → Mapping → Type 0
 IsOf inside m = (m.inside ≡ inside.addr) × (m.inside_port ≡ inside.port)
 
--- Pinned by: `worked/mappings`
 -- whether this is the remote endpoint of the mapping
 abbrev pub is_remote : Mapping → Ipv4Endpoint → Bool
 is_remote m remote = bytes_eq m.remote remote.addr && (m.remote_port == remote.port)
 
--- Pinned by: `worked/mappings`
 -- whether the mapping serves more than one remote endpoint, together with this one
 abbrev pub is_shared : Mapping → Ipv4Endpoint → Bool
 is_shared m remote = not (m.shared == 0) || not (is_remote m remote)
 
 -- ---- packets
 
--- Pinned by: `worked/mappings`
 -- the end of a time-out that starts now
 abbrev pub expiry : ℕ → ℕ → ℕ
 expiry now timeout = min (now + timeout) (2 ^ 64 - 1)
 
--- Pinned by: law `free_mapping_is_zero`; `worked/mappings`
 -- a mapping that no packet used yet
 abbrev pub new_mapping : Ipv4Endpoint → Ipv4Endpoint → Mapping
 new_mapping inside remote = record {
@@ -52,7 +47,6 @@ new_mapping inside remote = record {
   unused = 0 ∷ 0 ∷ [];
 }
 
--- Pinned by: `worked/mappings`; too wide: law `outbound_packets_restart_the_time_out`
 -- the mapping after its inside endpoint sent a packet: the time-out starts anew
 abbrev pub after_outbound : Nat → ℕ → Event → Ipv4Endpoint → Mapping → Mapping
 after_outbound nat now event remote m =
@@ -64,7 +58,6 @@ after_outbound nat now event remote m =
       shared = if shared then 1 else 0;
     }
 
--- Pinned by: `worked/mappings`; too wide: law `inbound_packets_extend_nothing`
 -- The mapping after a remote endpoint sent a packet. A FIN or RST of its only remote endpoint ends the connection;
 -- nothing else changes the mapping.
 abbrev pub after_inbound : Nat → ℕ → Event → Ipv4Endpoint → Mapping → Mapping

@@ -1,5 +1,6 @@
 -- The state of a TCP connection as a NAT sees it, and the time-outs (RFC 4787, section 4.3; RFC 5382, section 5;
 -- RFC 5508, section 3.2).
+-- Pinned by: `worked/mappings`
 use Rattle.std.specs.Prelude.{ℕ, ◌==◌, min, Bool, true, false, if◌then◌else◌}
 use Rattle.app_nat.specs.declared.nat.Nat.{Nat}
 use Rattle.app_nat.specs.declared.state.Event.{Event}
@@ -10,14 +11,12 @@ use Rattle.app_nat.specs.declared.state.TcpState.{TcpState}
 use Rattle.app_nat.specs.declared.state.TcpState.TheVariants.{Opening, Established, Closing}
 use Rattle.ip_wire.specs.declared.TcpControl.TheVariants.{None, Psh, Syn, Fin, Rst}
 
--- Pinned by: `worked/mappings`
 -- the protocol of a packet
 abbrev pub protocol_of : Event → Protocol
 protocol_of event.Udp = protocol.Udp
 protocol_of (event.Tcp control) = protocol.Tcp
 protocol_of event.Icmp = protocol.Icmp
 
--- Pinned by: `worked/mappings`
 -- whether the packet is a TCP segment with FIN or RST
 abbrev pub ends_connection : Event → Bool
 ends_connection (event.Tcp Fin) = true
@@ -28,19 +27,16 @@ ends_connection (event.Tcp Syn) = false
 ends_connection event.Udp = false
 ends_connection event.Icmp = false
 
--- Pinned by: `worked/mappings`
 -- the TCP state that a byte encodes
 abbrev pub state_of : ℕ → TcpState
 state_of byte = if byte == 1 then Established else (if byte == 2 then Closing else Opening)
 
--- Pinned by: `worked/mappings`
 -- the byte that encodes a TCP state
 abbrev pub byte_of : TcpState → ℕ
 byte_of Opening = 0
 byte_of Established = 1
 byte_of Closing = 2
 
--- Pinned by: `worked/mappings`; too wide: law `shared_mapping_stays_established`
 -- The state after a packet of the inside host. If the mapping serves more than one remote endpoint (`shared`), the
 -- end of one connection does not change it.
 abbrev pub next_state : Bool → TcpState → Event → TcpState
@@ -60,7 +56,6 @@ next_state true state (event.Tcp Psh) = Established
 next_state true state (event.Tcp Fin) = state
 next_state true state (event.Tcp Rst) = state
 
--- Pinned by: `worked/mappings`
 -- the time-out of a mapping in this state
 abbrev pub timeout_of : Nat → Protocol → TcpState → ℕ
 timeout_of nat protocol.Udp state = nat.udp_timeout
@@ -69,7 +64,6 @@ timeout_of nat protocol.Tcp Opening = nat.tcp_transitory_timeout
 timeout_of nat protocol.Tcp Closing = nat.tcp_transitory_timeout
 timeout_of nat protocol.Icmp state = nat.icmp_timeout
 
--- Pinned by: `worked/mappings`
 -- the shortest time-out of a protocol
 abbrev pub shortest_timeout : Nat → Protocol → ℕ
 shortest_timeout nat protocol.Udp = nat.udp_timeout

@@ -1,5 +1,6 @@
 -- The table of mappings: where a mapping may be, which inside endpoint an outside port leads to, and what `open` and
 -- `find` do.
+-- Pinned by: `worked/mappings`
 use Rattle.std.specs.Prelude.{ℕ, ◌≡◌, ◌≢◌, ◌+◌, ◌-◌, ◌*◌, ◌/◌, ◌%◌, ◌<◌, ◌≤◌, ◌==◌, ◌⊎◌, min, if◌then◌else◌, Option, Some, None, List, [], ◌∷◌, length, slice_index, slice_index_or, slice_set}
 use Rattle.std.specs.Hash.DefaultHasher as sip
 use Rattle.std.specs.Int.{w16, w64, to_le_bytes}
@@ -15,30 +16,25 @@ use Rattle.app_nat.specs.declared.choice.Choice.{Choice}
 
 -- ---- ports
 
--- Pinned by: `worked/mappings`
 -- how many mappings an outside port has: one for each protocol
 abbrev pub protocols : ℕ
 protocols = 3
 
--- Pinned by: `worked/mappings`
 -- how many outside ports there are, in a table with this many mappings
 abbrev pub ports : Nat → ℕ → ℕ
 ports nat len = if nat.first_port == 0 then 0 else min (len / protocols) (65536 - nat.first_port)
 
--- Pinned by: `worked/mappings`
 -- a port is one of the outside ports of a table with `len` mappings
 pub record HasPort (nat : Nat) (len port : ℕ) : Type 0 where
   pub least : nat.first_port ≤ port
   pub most : port < nat.first_port + ports nat len
 
--- Pinned by: `worked/mappings`
 -- the index of a port's mapping: a table has three equal parts, one for each protocol
 abbrev pub place_of : Nat → ℕ → Protocol → ℕ → ℕ
 place_of nat len Udp port = port - nat.first_port
 place_of nat len Tcp port = len / protocols + (port - nat.first_port)
 place_of nat len Icmp port = 2 * (len / protocols) + (port - nat.first_port)
 
--- Pinned by: law `free_mapping_is_zero`; `worked/mappings`
 -- a mapping that is not live
 abbrev pub free_mapping : Mapping
 free_mapping = record {
@@ -52,21 +48,18 @@ free_mapping = record {
   unused = 0 ∷ 0 ∷ [];
 }
 
--- Pinned by: `worked/mappings`
 -- the mapping of an outside port
 abbrev pub mapping_at : Nat → List Mapping → Protocol → ℕ → Mapping
 mapping_at nat mappings protocol port = slice_index_or mappings (place_of nat (length mappings) protocol port) free_mapping
 
 -- ---- live mappings
 
--- Pinned by: `worked/mappings`; too wide: law `port_has_one_endpoint`
 -- the outside port has a live mapping of this inside endpoint
 pub record MapsTo (nat : Nat) (mappings : List Mapping) (now : ℕ) (protocol : Protocol) (port : ℕ) (inside : Ipv4Endpoint) : Type 0 where
   pub exists : HasPort nat (length mappings) port
   pub live : now < (mapping_at nat mappings protocol port).expires
   pub leads : IsOf inside (mapping_at nat mappings protocol port)
 
--- Pinned by: `worked/mappings`; law `free_port_is_preserved`
 -- the outside port has no live mapping
 pub record IsFree (nat : Nat) (mappings : List Mapping) (now : ℕ) (protocol : Protocol) (port : ℕ) : Type 0 where
   pub exists : HasPort nat (length mappings) port
@@ -74,7 +67,6 @@ pub record IsFree (nat : Nat) (mappings : List Mapping) (now : ℕ) (protocol : 
 
 -- ---- the outside ports that an inside endpoint may get
 
--- Pinned by: `worked/mappings`
 -- SipHash-1-3 of the secret key and the endpoint
 unfoldable pub hash_of : List ℕ → Ipv4Endpoint → ℕ
 hash_of key inside =
@@ -82,40 +74,33 @@ hash_of key inside =
     let t = sip.write s (to_le_bytes w64 (slice_index key 1)) in
     sip.finish (sip.write (sip.write t inside.addr) (to_le_bytes w16 inside.port))
 
--- Pinned by: `worked/mappings`
 -- the number of ports in a run: 63, or all if there are fewer
 abbrev pub run_len : ℕ → ℕ
 run_len count = min 63 count
 
--- Pinned by: `worked/mappings`
 -- the first port of the run of an endpoint, counted from the first outside port
 abbrev pub run_start : List ℕ → ℕ → Ipv4Endpoint → ℕ
 run_start key count inside = hash_of key inside % (count - run_len count + 1)
 
--- Pinned by: `worked/mappings`
 -- the port is in the run of this endpoint
 pub record IsInRun (nat : Nat) (len : ℕ) (inside : Ipv4Endpoint) (port : ℕ) : Type 0 where
   pub least : nat.first_port + run_start nat.key (ports nat len) inside ≤ port
   pub most : port < nat.first_port + run_start nat.key (ports nat len) inside + run_len (ports nat len)
 
--- Pinned by: `worked/mappings`; too wide: law `opened_port_is_one`
 -- the candidates of an inside endpoint: its own port, and then the ports of its run
 abbrev pub IsCandidate : Nat → ℕ → Ipv4Endpoint → ℕ → Type 0
 IsCandidate nat len inside port = (port ≡ inside.port) ⊎ IsInRun nat len inside port
 
--- Pinned by: `worked/mappings`; too wide: law `opened_port_is_one`
 -- one candidate comes before another, or is the same
 abbrev pub IsNotAfter : Ipv4Endpoint → ℕ → ℕ → Type 0
 IsNotAfter inside port other = (port ≡ inside.port) ⊎ ((other ≢ inside.port) × (port ≤ other))
 
--- Pinned by: `worked/mappings`; too wide: law `opened_port_is_one`
 -- the first candidate with a property
 pub record IsFirst (P : ℕ → Type 0) (nat : Nat) (len : ℕ) (inside : Ipv4Endpoint) (port : ℕ) : Type 0 where
   pub candidate : IsCandidate nat len inside port
   pub holds : P port
   pub first : (other : ℕ) → IsCandidate nat len inside other → P other → IsNotAfter inside port other
 
--- Pinned by: law `free_port_is_preserved`
 -- no candidate has a live mapping of the endpoint
 abbrev pub IsUnmapped : Nat → List Mapping → ℕ → Protocol → Ipv4Endpoint → Type 0
 IsUnmapped nat mappings now protocol inside =
@@ -123,8 +108,6 @@ IsUnmapped nat mappings now protocol inside =
 
 -- ---- the invariant
 
--- Pinned by: laws `free_mappings_are_a_table`, `table_stays_with_time`; too wide: law
--- Pinned by: `mapping_is_endpoint_independent`
 -- each live mapping is at a candidate of its inside endpoint, and no endpoint has two live mappings of a protocol
 pub record IsTable (nat : Nat) (mappings : List Mapping) (now : ℕ) : Type 0 where
   pub placed : (protocol : Protocol) (port : ℕ) (inside : Ipv4Endpoint) → MapsTo nat mappings now protocol port inside
@@ -134,7 +117,6 @@ pub record IsTable (nat : Nat) (mappings : List Mapping) (now : ℕ) : Type 0 wh
 
 -- ---- calls
 
--- Pinned by: `worked/mappings`; too wide: law `opened_port_is_one`
 -- the mapping at this port after an outbound packet: the first live one of the endpoint, or a new one
 pub data Chooses (nat : Nat) (mappings : List Mapping) (now : ℕ) (event : Event) (inside remote : Ipv4Endpoint) (port : ℕ) : Mapping → Type 0 where
   -- the first live mapping of the endpoint
@@ -145,21 +127,18 @@ pub data Chooses (nat : Nat) (mappings : List Mapping) (now : ℕ) (event : Even
       → IsFirst (IsFree nat mappings now (protocol_of event)) nat (length mappings) inside port
       → Chooses nat mappings now event inside remote port (after_outbound nat now event remote (new_mapping inside remote))
 
--- Pinned by: `worked/mappings`; too wide: law `opened_port_is_one`
 -- `open` returns this outside port, and changes only its mapping
 pub record Opens (nat : Nat) (old new : List Mapping) (now : ℕ) (event : Event) (inside remote : Ipv4Endpoint) (port : ℕ) : Type 0 where
   pub mapping : Mapping
   pub chosen : Chooses nat old now event inside remote port mapping
   pub becomes : new ≡ slice_set old (place_of nat (length old) (protocol_of event) port) mapping
 
--- Pinned by: `worked/mappings`; too wide: law `opened_port_is_one`
 -- each candidate has a live mapping of another endpoint
 abbrev pub IsFull : Nat → List Mapping → ℕ → Protocol → Ipv4Endpoint → Type 0
 IsFull nat mappings now protocol inside =
     (port : ℕ) → IsCandidate nat (length mappings) inside port → HasPort nat (length mappings) port
     → (now < (mapping_at nat mappings protocol port).expires) × (¬ IsOf inside (mapping_at nat mappings protocol port))
 
--- Pinned by: `worked/mappings`; too wide: law `inbound_packets_extend_nothing`
 -- `find` returns this inside endpoint, and changes only its mapping
 pub record Finds (nat : Nat) (old new : List Mapping) (now : ℕ) (event : Event) (port : ℕ) (remote inside : Ipv4Endpoint) : Type 0 where
   pub mapped : MapsTo nat old now (protocol_of event) port inside
@@ -168,13 +147,11 @@ pub record Finds (nat : Nat) (old new : List Mapping) (now : ℕ) (event : Event
 
 -- ---- what a search gives
 
--- Pinned by: proof of `open`
 -- the first number from low on, and below high, with a property, if there is one
 abbrev pub IsFirstBetween : (ℕ → Type 0) → ℕ → ℕ → Option ℕ → Type 0
 IsFirstBetween P low high None = (port : ℕ) → low ≤ port → port < high → ¬ P port
 IsFirstBetween P low high (Some first) = (low ≤ first) × (first < high) × P first × ((port : ℕ) → low ≤ port → port < first → ¬ P port)
 
--- Pinned by: proof of `open`
 -- the port whose mapping is kept, or else the port where a new one is made, or none is free
 abbrev pub Chosen : Nat → List Mapping → ℕ → Protocol → Ipv4Endpoint → Choice → Type 0
 Chosen nat mappings now protocol inside (Choice.Kept port) =

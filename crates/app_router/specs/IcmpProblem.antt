@@ -1,4 +1,5 @@
 -- The ICMP errors of a router (RFC 1812, section 5.2.7; RFC 4443, section 3).
+-- Pinned by: `worked/icmp`
 use Rattle.std.specs.Prelude.{ℕ, ◌≡◌, ◌<◌, ◌≤◌, ⊤, List, drop}
 use Rattle.ip_wire.specs.Field.{field}
 use Rattle.ip_wire.specs.Frame.{Carried}
@@ -15,21 +16,18 @@ use Rattle.app_host.specs.declared.Interface.{Interface}
 use Rattle.app_router.specs.declared.problem.Problem.{Problem}
 use Rattle.app_router.specs.declared.problem.Problem.TheVariants.{Expired, TooLong, NoRoute, NoNeighbour, Prohibited}
 
--- Pinned by: proof of `error`
 -- The packet is longer than the MTU, and no router may fragment it: the flag DF is set (RFC 791, section 3.1), or it
 -- is an IPv6 packet (RFC 8200, section 5).
 abbrev pub IsTooLong : ℕ → IpRepr → List ℕ → Type 0
 IsTooLong mtu (Ipv4 v) bytes = (mtu < ipv4.total_len bytes) × (field bytes 49 1 ≡ 1)
 IsTooLong mtu (Ipv6 v) bytes = mtu < ipv6.total_len bytes
 
--- Pinned by: proof of `error`
 -- the packet with this header has the problem, as far as its bytes show that
 abbrev pub HasProblem : Problem → IpRepr → List ℕ → Type 0
 HasProblem Expired v bytes = hop_limit_of v ≤ 1
 HasProblem (TooLong mtu) v bytes = IsTooLong mtu v bytes
 HasProblem _ v bytes = ⊤
 
--- Pinned by: `worked/icmp`
 -- the ICMP message that reports a problem
 abbrev pub message_of : Problem → IcmpRepr
 message_of Expired = TimeExceeded exceeded.HopLimit
@@ -38,7 +36,6 @@ message_of NoRoute = DstUnreachable unreachable.NoRoute
 message_of NoNeighbour = DstUnreachable unreachable.Host
 message_of Prohibited = DstUnreachable unreachable.Prohibited
 
--- Pinned by: `worked/icmp`
 -- the second frame carries the ICMP error about the packet in the first frame, which has the problem
 abbrev pub Tells : Interface → List ℕ → Problem → EthernetRepr → Carried → Type 0
 Tells ours frame problem header carried =

@@ -1,15 +1,14 @@
 -- Routes: among the blocks that contain an address, the longest prefix decides (RFC 1812, section 5.2.4.3).
+-- Pinned by: `apps/routes`
 use Rattle.std.specs.Prelude.{◌≡◌, ◌<◌, ◌≤◌, ◌⊎◌, ◌++◌, ◌∷◌, All, List}
 use Rattle.app_router.specs.declared.route.Route.{Route}
 use Rattle.ip_wire.specs.IpCidr.{IsIn, block_prefix_len}
 use Rattle.ip_wire.specs.declared.IpAddress.{IpAddress}
 
--- Pinned by: `apps/routes`
 -- the block of the route contains the address
 abbrev pub Leads : IpAddress → Route → Type 0
 Leads addr route = IsIn route.block addr
 
--- Pinned by: `apps/routes`
 -- A route of the list whose block contains the address, with the longest prefix. Earlier routes that contain it have
 -- shorter prefixes, and later ones have no longer prefixes.
 pub record IsChosen (routes : List Route) (addr : IpAddress) (route : Route) : Type 0 where
@@ -20,7 +19,6 @@ pub record IsChosen (routes : List Route) (addr : IpAddress) (route : Route) : T
   pub shorter : All (λ other. Leads addr other → block_prefix_len other.block < block_prefix_len route.block) before
   pub no_longer : All (λ other. Leads addr other → block_prefix_len other.block ≤ block_prefix_len route.block) after
 
--- Pinned by: proof of `choose`
 -- the chosen one of two routes that contain an address, an earlier and a later one
 abbrev pub IsBetter : Route → Route → Route → Type 0
 IsBetter later result former =

@@ -1,4 +1,5 @@
 -- ICMP errors about frames, with the structs and numbers of C.
+-- Pinned by: `worked/icmp`, `judge`
 use Rattle.std.specs.Prelude.{ℕ, ℤ, pos, ◌≡◌, if◌then◌else◌, false, List, Option, None, Some}
 use Rattle.std.specs.Ordering.{int_eq}
 use Rattle.app_router.specs.IcmpProblem.{Tells}
@@ -16,7 +17,6 @@ use Rattle.c_icmp.specs.declared.errors.Problem.{Problem}
 use Rattle.c_icmp.specs.declared.errors.Problem.TheVariants as problem
 use Rattle.c_icmp.specs.declared.types.InterfaceFields.{InterfaceFields}
 
--- Pinned by: `worked/icmp`, `judge`
 -- the problem with this number
 abbrev pub problem_by : ℤ → Problem
 problem_by n =
@@ -28,7 +28,6 @@ problem_by n =
     else if int_eq n (pos 6) then problem.Prohibited
     else problem.None
 
--- Pinned by: `worked/icmp`, `judge`
 -- the frame carries an error that tells the sender of the other frame of this problem
 abbrev pub TellsOf : Interface → List ℕ → Problem → ℕ → EthernetRepr → Carried → Type 0
 TellsOf ours frame problem.None mtu header carried = ⊥
@@ -39,12 +38,10 @@ TellsOf ours frame problem.NeighbourMissing mtu header carried = Tells ours fram
 TellsOf ours frame problem.PortClosed mtu header carried = IsError ours frame (DstUnreachable unreachable.Port) header carried
 TellsOf ours frame problem.Prohibited mtu header carried = Tells ours frame router.Prohibited header carried
 
--- Pinned by: `judge`, `worked/icmp`
 -- the interface of a struct, if it has an address of each version; errors do not depend on whether it is a router
 abbrev pub own_interface : InterfaceFields → Option Interface
 own_interface own = interface_of own.ipv4 own.ipv6 own.hardware false
 
--- Pinned by: `worked/icmp`, `judge`
 -- The error of an interface about a frame is written. Without an interface nothing is written.
 abbrev pub WritesError : Option Interface → List ℕ → Problem → ℕ → List ℕ → List ℕ → ℤ → Type 0
 WritesError None frame p mtu old new answer = (answer ≡ failure_code failure.NoVersion) × (new ≡ old)

@@ -1,4 +1,5 @@
 -- Frames with ICMP messages that are written from the struct of a frame, and why none is written.
+-- Pinned by: `worked/icmp`, `judge`
 use Rattle.std.specs.Prelude.{ℕ, ◌+◌, ◌==◌, nat_lt, if◌then◌else◌, true, List, Option, None, Some}
 use Rattle.std.specs.Option.{option_and_then, option_or}
 use Rattle.c_structs.specs.Failures.{frame_failure, most_payload, pair_failure}
@@ -9,12 +10,10 @@ use Rattle.c_structs.specs.declared.types.Addr.{Addr}
 use Rattle.c_icmp.specs.Messages.{icmp_bytes, max_payload_len}
 use Rattle.c_icmp.specs.declared.types.FullFrame.{FullFrame}
 
--- Pinned by: `worked/icmp`
 -- the protocol of ICMP over this version of IP
 abbrev pub protocol_number : ℕ → ℕ
 protocol_number version = if version == 4 then 1 else 58
 
--- Pinned by: `worked/icmp`
 -- the bytes of a frame with an ICMP message, if it can be written
 abbrev pub icmp_frame : FullFrame → List ℕ → Option (List ℕ)
 icmp_frame f payload =
@@ -23,13 +22,11 @@ icmp_frame f payload =
 
 -- ---- failures
 
--- Pinned by: `judge`
 -- the failure of a message with a payload of this length between two addresses
 abbrev pub icmp_failure : Addr → Addr → ℕ → Option Failure
 icmp_failure src dst len =
     option_or (pair_failure src dst) (if nat_lt max_payload_len len then Some failure.PayloadTooLong else None)
 
--- Pinned by: `judge`
 -- the failure of a frame with a message with a payload of this length
 abbrev pub icmp_frame_failure : FullFrame → ℕ → Option Failure
 icmp_frame_failure f len =

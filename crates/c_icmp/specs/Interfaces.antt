@@ -1,4 +1,5 @@
 -- The addresses of an interface as structs of C, and replies that are written.
+-- Pinned by: `judge`, `worked/icmp`, `worked/hosts`, `AnsweredOnce`
 use Rattle.std.specs.Prelude.{ℕ, ℤ, pos, ◌≡◌, ◌<◌, ◌≤◌, ◌⊎◌, Bool, List, length, Option, None, Some}
 use Rattle.std.specs.Option.{option_and_then}
 use Rattle.app_host.specs.Message.{values_of}
@@ -13,7 +14,6 @@ use Rattle.c_structs.specs.Written.{failure_code, max_len}
 use Rattle.c_structs.specs.declared.failures.Failure.TheVariants as failure
 use Rattle.c_structs.specs.declared.types.Addr.{Addr}
 
--- Pinned by: `judge`, `worked/icmp`
 -- the interface with these addresses, if the first is an IPv4 address and the second an IPv6 address
 abbrev pub interface_with : List ℕ → Bool → IpAddress → IpAddress → Option Interface
 interface_with hardware is_router (Ipv4 ipv4) (Ipv6 ipv6) = Some (record {
@@ -25,13 +25,11 @@ interface_with hardware is_router (Ipv4 ipv4) (Ipv6 ipv6) = Some (record {
 interface_with hardware is_router (Ipv4 ipv4) (Ipv4 other) = None
 interface_with hardware is_router (Ipv6 ipv6) other = None
 
--- Pinned by: `judge`, `worked/icmp`
 -- the interface with the addresses in these structs, if the first is an IPv4 address and the second an IPv6 address
 abbrev pub interface_of : Addr → Addr → List ℕ → Bool → Option Interface
 interface_of first second hardware is_router =
     option_and_then (λ ipv4. option_and_then (λ ipv6. interface_with hardware is_router ipv4 ipv6) (ip_of second)) (ip_of first)
 
--- Pinned by: `worked/hosts`, `judge`; too wide: `AnsweredOnce`
 -- the reply is written to the front of the slice and its length is returned; or a failure if it does not fit, or 0 if
 -- there is none
 abbrev pub WritesReply : (EthernetRepr → Carried → Type 0) → List ℕ → List ℕ → ℤ → Type 0
@@ -41,7 +39,6 @@ WritesReply IsReply old new answer =
     × ((header : EthernetRepr) × (carried : Carried) × IsReply header carried × ((length old < reply_len carried) ⊎ (max_len < length old))))
     ⊎ ((answer ≡ pos 0) × (new ≡ old) × ((header : EthernetRepr) (carried : Carried) → ¬ IsReply header carried)))
 
--- Pinned by: `worked/hosts`, `judge`; too wide: `AnsweredOnce`
 -- The reply to a frame is written. If the frame is longer than `max_len`, a failure is returned instead.
 pub record WritesReplyTo (frame : List ℕ) (IsReply : EthernetRepr → Carried → Type 0) (old new : List ℕ) (answer : ℤ) : Type 0 where
   pub usable : length frame ≤ max_len → WritesReply IsReply old new answer

@@ -1,4 +1,5 @@
 -- Neighbour solicitations and advertisements in the structs of C: parsed from a frame, and written as one.
+-- Pinned by: `worked/icmp`, `judge`
 use Rattle.std.specs.Prelude.{ℕ, ◌≡◌, ◌&&◌, ◌==◌, if◌then◌else◌, Bool, true, List, replicate, Option, None, Some}
 use Rattle.std.specs.Option.{option_and_then, option_map_or}
 use Rattle.ip_wire.specs.Frame.{IsReadWhole, other, packet}
@@ -22,13 +23,11 @@ use Rattle.c_icmp.specs.declared.types.Ndisc.{Ndisc}
 
 -- ---- parsed
 
--- Pinned by: `worked/icmp`, `judge`
 -- the payload of a packet with this header is a valid neighbour discovery message with this value
 abbrev pub CarriesNdisc : IpRepr → List ℕ → NdiscRepr → Type 0
 CarriesNdisc (Ipv4 ip) message v = ⊥
 CarriesNdisc (Ipv6 ip) message v = (ip.next_header ≡ protocol.Icmpv6) × Reads message ip.src_addr ip.dst_addr ip.hop_limit true v
 
--- Pinned by: `worked/icmp`, `judge`
 -- the frame carries a valid neighbour discovery message with this value
 pub record ReadsNdisc (frame : List ℕ) (v : NdiscRepr) : Type 0 where
   pub header : EthernetRepr
@@ -37,12 +36,10 @@ pub record ReadsNdisc (frame : List ℕ) (v : NdiscRepr) : Type 0 where
   pub reads : IsReadWhole frame header (packet ip (other message))
   pub carries : CarriesNdisc ip message v
 
--- Pinned by: `worked/icmp`, `judge`
 -- the bytes of a hardware address, or zeros
 abbrev pub hardware_bytes : Option EthernetAddress → List ℕ
 hardware_bytes hardware = option_map_or (λ (h : EthernetAddress). h.0) hardware (replicate 6 0)
 
--- Pinned by: `worked/icmp`, `judge`
 -- the struct of a neighbour discovery value
 abbrev pub ndisc_struct : NdiscRepr → Ndisc
 ndisc_struct (NeighborSolicit target hardware) = record {
@@ -66,12 +63,10 @@ ndisc_struct (NeighborAdvert flags target hardware) = record {
 
 -- ---- written
 
--- Pinned by: `worked/icmp`
 -- the hardware address in the option of a message, if the struct has one
 abbrev pub hardware_of : Ndisc → Option EthernetAddress
 hardware_of n = where_set n.has_hardware (record { 0 = n.hardware })
 
--- Pinned by: `worked/icmp`
 -- the value of a struct; a solicitation has no flags
 abbrev pub ndisc_value : Ndisc → NdiscRepr
 ndisc_value n =
@@ -79,29 +74,24 @@ ndisc_value n =
     then NeighborAdvert (record { router = is_yes n.is_router; solicited = is_yes n.is_solicited; override_ = is_yes n.overrides }) n.target.octets (hardware_of n)
     else NeighborSolicit n.target.octets (hardware_of n)
 
--- Pinned by: `worked/icmp`
 -- the IP header of a message: hop limit 255 shows that no router has forwarded it
 abbrev pub ndisc_ip : Ip
 ndisc_ip = record no_ip { hop_limit = 255 }
 
--- Pinned by: `worked/icmp`
 -- whether an address is an IPv6 address
 abbrev pub is_ipv6 : Addr → Bool
 is_ipv6 a = a.version == 6
 
--- Pinned by: `worked/icmp`
 -- whether source, destination and target are IPv6 addresses
 abbrev pub has_ipv6 : FrameFields → Ndisc → Bool
 has_ipv6 f n = is_ipv6 f.src.addr && is_ipv6 f.dst.addr && is_ipv6 n.target
 
--- Pinned by: `worked/icmp`
 -- the bytes of a frame with a neighbour discovery message, if it can be written
 abbrev pub ndisc_frame : FrameFields → Ndisc → Option (List ℕ)
 ndisc_frame f n =
     option_and_then (framed (record f { ip = ndisc_ip }) 58)
     (only_if (has_ipv6 f n) (bytes_of (ndisc_value n) f.src.addr.octets f.dst.addr.octets true))
 
--- Pinned by: `worked/icmp`
 -- the failure of a frame with a neighbour discovery message
 abbrev pub ndisc_failure : FrameFields → Ndisc → Option Failure
 ndisc_failure f n = if has_ipv6 f n then None else Some failure.NoVersion

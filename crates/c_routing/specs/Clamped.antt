@@ -1,4 +1,5 @@
 -- What the call that clamps the maximum segment size of a frame returns and writes.
+-- Pinned by: `worked/route`
 use Rattle.std.specs.Prelude.{ℕ, ℤ, pos, ◌≡◌, ◌≤◌, ◌==◌, ◌++◌, ◌⊎◌, if◌then◌else◌, Bool, true, false, List, Some, drop, length, take}
 use Rattle.app_edit.specs.declared.replace.Offload.{Offload}
 use Rattle.app_edit.specs.declared.replace.Offload.TheVariants as offload
@@ -20,45 +21,37 @@ use Rattle.c_structs.specs.FrameFields.{tcp_verdict}
 use Rattle.c_structs.specs.Written.{max_len, within}
 use Rattle.c_structs.specs.declared.codes.Verdict.TheVariants as verdict
 
--- Pinned by: `worked/route`
 -- the checksum of TCP is verified or computed by this choice, and every other checksum always
 abbrev pub tcp_as : Checksum → ChecksumCapabilities
 tcp_as choice = record all_checked { tcp = choice }
 
--- Pinned by: `worked/route`
 -- the bytes are a packet with this header, which carries this TCP segment
 abbrev pub ReadsSegment : Checksum → List ℕ → IpRepr → TcpHeader → List ℕ → Type 0
 ReadsSegment choice bytes header v payload =
     ReadsPacket (tcp_as choice) bytes header × ReadsTransport (tcp_as choice) header (packet_payload header bytes) (segment v payload)
 
--- Pinned by: `worked/route`
 -- the frame carries this TCP segment
 abbrev pub CarriesSegment : Checksum → List ℕ → EthernetRepr → IpRepr → TcpHeader → List ℕ → Type 0
 CarriesSegment choice frame link header v payload = ReadsFrame (tcp_as choice) frame link (packet header (segment v payload))
 
--- Pinned by: `worked/route`
 -- the values of a segment with this maximum segment size
 abbrev pub with_size : ℕ → TcpHeader → TcpHeader
 with_size size v = record v { max_seg_size = Some size }
 
--- Pinned by: `worked/route`
 -- the index where the segment of a packet with this header begins
 abbrev pub segment_start : IpRepr → List ℕ → ℕ
 segment_start (Ipv4 v) bytes = ipv4.header_len bytes
 segment_start (Ipv6 v) bytes = 40
 
--- Pinned by: `worked/route`
 -- the index where the segment of a packet with this header ends
 abbrev pub segment_end : IpRepr → List ℕ → ℕ
 segment_end (Ipv4 v) bytes = ipv4.total_len bytes
 segment_end (Ipv6 v) bytes = ipv6.total_len bytes
 
--- Pinned by: `worked/route`
 -- the bytes of a packet with this header and another segment
 abbrev pub with_segment : IpRepr → List ℕ → List ℕ → List ℕ
 with_segment header bytes part = with_range bytes (segment_start header bytes) (segment_end header bytes) part
 
--- Pinned by: `worked/route`
 -- the TCP checksum of a segment between two addresses counts as left to the device: as the caller says, or as
 -- `lk_read_frame` says
 abbrev pub is_left_to_device : Offload → IpAddress → IpAddress → List ℕ → Bool
@@ -66,7 +59,6 @@ is_left_to_device offload.Guess src dst bytes = verdict_code (tcp_verdict src ds
 is_left_to_device offload.Offloaded src dst bytes = true
 is_left_to_device offload.Complete src dst bytes = false
 
--- Pinned by: `worked/route`
 -- the bytes of a segment between two addresses with this maximum segment size and an updated checksum; one that is left
 -- to the device stays
 abbrev pub resized : Offload → IpAddress → IpAddress → List ℕ → ℕ → List ℕ
@@ -74,13 +66,11 @@ resized o src dst bytes size =
     let new = with_max_seg_size bytes size in
     if is_left_to_device o src dst bytes then with_field new 128 16 (field bytes 128 16) else new
 
--- Pinned by: `worked/route`
 -- the bytes of a packet with this header, whose segment has this maximum segment size
 abbrev pub clamped : Offload → IpRepr → List ℕ → ℕ → List ℕ
 clamped o header bytes size =
     with_segment header bytes (resized o (src_addr_of header) (dst_addr_of header) (packet_payload header bytes) size)
 
--- Pinned by: `worked/route`
 -- the frame carries a SYN with a larger maximum segment size, whether or not its TCP checksum is valid
 pub record IsTooLarge (frame : List ℕ) (limit : ℕ) : Type 0 where
   pub link : EthernetRepr
@@ -90,7 +80,6 @@ pub record IsTooLarge (frame : List ℕ) (limit : ℕ) : Type 0 where
   pub carries : CarriesSegment checksum.None frame link header v payload
   pub above : IsAbove limit v
 
--- Pinned by: `worked/route`
 -- The old frame carries a SYN with a larger maximum segment size, and the new one the same values with the limit. A TCP
 -- checksum that was valid is still valid, unless the caller says that it is left to the device. These are all the bytes.
 pub record IsClamped (o : Offload) (old new : List ℕ) (limit : ℕ) : Type 0 where
@@ -99,7 +88,6 @@ pub record IsClamped (o : Offload) (old new : List ℕ) (limit : ℕ) : Type 0 w
       → CarriesSegment choice new before.link before.header (with_size limit before.v) before.payload
   pub bytes : new ≡ take 14 old ++ clamped o before.header (drop 14 old) limit
 
--- Pinned by: `worked/route`
 -- 1 is returned, and the maximum segment size is now the limit; or 0, it was not larger, and the frame is unchanged
 abbrev pub Clamps : Offload → List ℕ → List ℕ → ℕ → ℤ → Type 0
 Clamps o old new limit answer =

@@ -1,4 +1,5 @@
 -- The numbers of `enum lk_rejection` in `c/ip_wire.h`.
+-- Pinned by: `worked/route`, `worked/nat`
 use Rattle.std.specs.Prelude.{ℕ, None, Option, Some}
 use Rattle.c_routing.specs.declared.rejections.Rejection.{Rejection}
 use Rattle.c_routing.specs.declared.rejections.Rejection.TheVariants as rejection
@@ -9,7 +10,6 @@ use Rattle.app_router.specs.declared.source.SourceFault.TheVariants as source
 use Rattle.ip_wire.specs.declared.HeaderFault.{HeaderFault}
 use Rattle.ip_wire.specs.declared.HeaderFault.TheVariants as header
 
--- Pinned by: `worked/route`, `worked/nat`
 -- the number of a rejection
 abbrev pub rejection_code : Rejection → ℕ
 rejection_code rejection.NotRejected = 0
@@ -28,7 +28,6 @@ rejection_code rejection.Martian = 12
 rejection_code rejection.NoRoute = 13
 rejection_code rejection.OtherInterface = 14
 
--- Pinned by: `worked/route`, `worked/nat`
 -- the rejection for a fault of an IP header
 abbrev pub of_header : HeaderFault → Rejection
 of_header header.NotIp = rejection.NotIp
@@ -36,7 +35,6 @@ of_header header.BadHeader = rejection.BadHeader
 of_header header.WrongChecksum = rejection.WrongChecksum
 of_header header.Expired = rejection.Expired
 
--- Pinned by: `worked/route`, `worked/nat`
 -- the rejection for a reason why a NAT does not translate a frame
 abbrev pub of_nat : NatRejection → Rejection
 of_nat nat.NotIpv4 = rejection.NotIp
@@ -49,14 +47,12 @@ of_nat nat.ZeroPort = rejection.ZeroPort
 of_nat nat.NoMapping = rejection.NoMapping
 of_nat nat.NoFreePort = rejection.NoFreePort
 
--- Pinned by: `worked/route`
 -- the rejection for a fault of a source address
 abbrev pub of_source : SourceFault → Rejection
 of_source source.Martian = rejection.Martian
 of_source source.NoRoute = rejection.NoRoute
 of_source source.OtherInterface = rejection.OtherInterface
 
--- Pinned by: `worked/route`
 -- the number of the fault of a source address; 0 if it has none
 abbrev pub source_code : Option SourceFault → ℕ
 source_code None = rejection_code rejection.NotRejected

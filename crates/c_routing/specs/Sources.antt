@@ -1,4 +1,5 @@
 -- The sources that a router accepts, with the structs of C.
+-- Pinned by: `worked/route`
 use Rattle.std.specs.Prelude.{ℕ, ℤ, pos, ◌≡◌, All, List, MatchOption, Option}
 use Rattle.app_router.specs.Source.{ChecksSource}
 use Rattle.app_router.specs.declared.source.SourceFault.{SourceFault}
@@ -9,13 +10,11 @@ use Rattle.c_routing.specs.Routes.{IsChosen, Leads, route_at}
 use Rattle.c_routing.specs.declared.rejections.Rejection.TheVariants as rejection
 use Rattle.c_routing.specs.declared.routes.Route.{Route}
 
--- Pinned by: `worked/route`
 -- the interface of the route to an address, if there is a route
 abbrev pub IsBack : List Route → Addr → Option ℕ → Type 0
 IsBack routes addr back =
     MatchOption back (All (λ route. ¬ Leads addr route) routes) (λ interface. (i : ℕ) × IsChosen routes addr i × ((route_at routes i).interface ≡ interface))
 
--- Pinned by: `worked/route`
 -- the number of the fault that this source address has, by the route back to it, is returned; an address without a
 -- version counts as martian
 abbrev pub ChecksAddr : List Route → Addr → ℕ → ℤ → Type 0

@@ -1,4 +1,5 @@
 -- What the call that translates a frame returns and writes.
+-- Pinned by: `worked/nat`
 use Rattle.std.specs.Prelude.{ℕ, ℤ, pos, ◌≡◌, ◌≢◌, ◌≤◌, ◌⊎◌, List, if◌then◌else◌, length, take}
 use Rattle.std.specs.Ordering.{int_eq}
 use Rattle.app_nat.specs.Nat.{IsTranslated, IsUntranslated}
@@ -10,12 +11,10 @@ use Rattle.c_structs.specs.declared.types.Endpoint.{Endpoint}
 use Rattle.c_routing.specs.Rejections.{of_nat, rejection_code}
 use Rattle.c_routing.specs.declared.rejections.Rejection.TheVariants as rejection
 
--- Pinned by: `worked/nat`
 -- the side with this number: 0 for the source, else the destination
 abbrev pub side_of : ℤ → Side
 side_of number = if int_eq number (pos 0) then Source else Destination
 
--- Pinned by: `worked/nat`
 -- 0 is returned, and the frame is translated to this address and port; or the number of the reason, and the frame is
 -- unchanged
 abbrev pub TranslatesTo : List ℕ → List ℕ → Side → List ℕ → ℕ → ℤ → Type 0
@@ -23,7 +22,6 @@ TranslatesTo old new side addr port answer =
     ((answer ≡ pos 0) × (length old ≤ max_len) × IsTranslated old new side addr port)
     ⊎ ((reason : Rejection) × (answer ≡ pos (rejection_code (of_nat reason))) × IsUntranslated (within old) side port reason × (new ≡ old))
 
--- Pinned by: `worked/nat`
 -- The endpoint needs an IPv4 address. Without one the frame is unchanged.
 pub record Translates (old new : List ℕ) (side : Side) (end : Endpoint) (answer : ℤ) : Type 0 where
   pub ipv4 : end.addr.version ≡ 4 → TranslatesTo old new side (take 4 end.addr.octets) end.port answer

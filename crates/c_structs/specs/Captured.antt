@@ -1,5 +1,6 @@
 -- The struct of a frame of which only the first bytes were captured. The payload's length in the struct counts all
 -- bytes of the frame. The bytes are those that were captured, and fewer.
+-- Pinned by: `CutWorked`
 use Rattle.std.specs.Prelude.{ℕ, ◌≡◌, ◌⊎◌, ◌+◌, ◌-◌, ◌==◌, ◌||◌, not, nat_le, nat_lt, if◌then◌else◌, Bool, false, List, drop, length}
 use Rattle.std.specs.Option.{option_map_or}
 use Rattle.ip_wire.specs.Ethernet as ethernet
@@ -23,13 +24,11 @@ use Rattle.c_structs.specs.declared.types.FrameFields.{FrameFields}
 
 -- ---- the headers
 
--- Pinned by: proof of `read_captured`; `CutWorked`
 -- the fields after a header of at least `least` bytes was rejected, because it was not captured or because the frame
 -- is too short for it
 abbrev pub cut_header : FrameFields → ℕ → FrameFields
 cut_header f least = rejected f (if nat_lt f.payload_len least then reason.TooShort else reason.HeaderCut)
 
--- Pinned by: proof of `read_captured`; `CutWorked`
 -- The fields with those of a UDP packet. A packet that was captured as a whole, or whose length is invalid, is stored
 -- as in a whole frame.
 abbrev pub cut_udp : FrameFields → IpAddress → IpAddress → List ℕ → FrameFields
@@ -39,7 +38,6 @@ cut_udp f src dst bytes =
     else let next = with_udp_fields f bytes (cut_udp_verdict src bytes) in
     if field bytes 16 16 == 0 then rejected_transport next reason.PortZero else after_header next 8 (udp.packet_len bytes - 8)
 
--- Pinned by: proof of `read_captured`; `CutWorked`
 -- the fields with those of a TCP segment; its checksum covers all of it, and cannot be verified
 abbrev pub cut_tcp : FrameFields → IpAddress → IpAddress → List ℕ → FrameFields
 cut_tcp f src dst bytes =
@@ -48,38 +46,32 @@ cut_tcp f src dst bytes =
     option_map_or (λ v. after_header next (tcp.header_len bytes) (f.payload_len - tcp.header_len bytes)) (tcp_of src dst false bytes)
     (rejected_transport next (tcp_fault bytes f.payload_len))
 
--- Pinned by: proof of `read_captured`; `CutWorked`
 -- the fields with those of the payload of a packet of this protocol between two addresses, if it is UDP or TCP
 abbrev pub cut_transport_by : FrameFields → IpProtocol → IpAddress → IpAddress → List ℕ → FrameFields
 cut_transport_by f protocol.Udp src dst bytes = cut_udp f src dst bytes
 cut_transport_by f protocol.Tcp src dst bytes = cut_tcp f src dst bytes
 cut_transport_by f _ src dst bytes = f
 
--- Pinned by: proof of `read_captured`; `CutWorked`
 -- the fields with those of the payload of a packet with this header
 abbrev pub cut_payload : FrameFields → IpRepr → List ℕ → FrameFields
 cut_payload f v bytes = cut_transport_by f (next_header_of v) (src_addr_of v) (dst_addr_of v) bytes
 
--- Pinned by: proof of `read_captured`; `CutWorked`
 -- the fields with those of an ARP packet
 abbrev pub cut_arp : FrameFields → List ℕ → FrameFields
 cut_arp f bytes = if nat_lt (length bytes) 28 then cut_header f 28 else with_arp f bytes
 
--- Pinned by: proof of `read_captured`; `CutWorked`
 -- the fields with those of an IPv4 packet whose header was captured, but not all of its payload
 abbrev pub begun_ipv4 : FrameFields → List ℕ → FrameFields
 begun_ipv4 f bytes =
     let v = ipv4.header_of bytes in let next = with_ipv4_fields f bytes v v.payload_len in
     if ipv4.is_fragment bytes then next else cut_payload next (Ipv4 v) (drop (ipv4.header_len bytes) bytes)
 
--- Pinned by: proof of `read_captured`; `CutWorked`
 -- whether the bytes are no IPv4 header, whatever follows them
 abbrev pub is_no_ipv4 : FrameFields → List ℕ → Bool
 is_no_ipv4 f bytes =
     not (field bytes 0 4 == 4) || nat_lt (ipv4.header_len bytes) 20 || nat_lt (ipv4.total_len bytes) (ipv4.header_len bytes)
     || nat_lt f.payload_len (ipv4.total_len bytes)
 
--- Pinned by: proof of `read_captured`; `CutWorked`
 -- The fields with those of an IPv4 packet. A packet that was captured as a whole is stored as in a whole frame.
 abbrev pub cut_ipv4 : FrameFields → List ℕ → FrameFields
 cut_ipv4 f bytes =
@@ -89,7 +81,6 @@ cut_ipv4 f bytes =
     else if nat_lt (length bytes) (ipv4.header_len bytes) then rejected f reason.HeaderCut
     else begun_ipv4 f bytes
 
--- Pinned by: proof of `read_captured`; `CutWorked`
 -- the fields with those of an IPv6 fragment header; it is not parsed if the payload itself is too short for it
 abbrev pub cut_fragment : FrameFields → List ℕ → FrameFields
 cut_fragment f bytes =
@@ -97,20 +88,17 @@ cut_fragment f bytes =
     else if nat_lt (length bytes) 8 then rejected f reason.HeaderCut
     else with_fragment_header f (fragment.header_of (drop 2 bytes))
 
--- Pinned by: proof of `read_captured`; `CutWorked`
 -- the fields with those of a fragment header, if the protocol of an IPv6 packet says that there is one
 abbrev pub cut_fragment_by : FrameFields → IpProtocol → List ℕ → FrameFields
 cut_fragment_by f protocol.Ipv6Frag bytes = cut_fragment f bytes
 cut_fragment_by f _ bytes = f
 
--- Pinned by: proof of `read_captured`; `CutWorked`
 -- the fields with those of an IPv6 packet whose header was captured, but not all of its payload
 abbrev pub begun_ipv6 : FrameFields → List ℕ → FrameFields
 begun_ipv6 f bytes =
     let v = ipv6.header_of bytes in let next = cut_fragment_by (with_ipv6_fields f bytes v v.payload_len) v.next_header (drop 40 bytes) in
     cut_payload next (Ipv6 v) (drop 40 bytes)
 
--- Pinned by: proof of `read_captured`; `CutWorked`
 -- the fields with those of an IPv6 packet
 abbrev pub cut_ipv6 : FrameFields → List ℕ → FrameFields
 cut_ipv6 f bytes =
@@ -119,7 +107,6 @@ cut_ipv6 f bytes =
     else if not (field bytes 0 4 == 6) || nat_lt f.payload_len (ipv6.total_len bytes) then rejected f (ipv6_fault bytes)
     else begun_ipv6 f bytes
 
--- Pinned by: proof of `read_captured`; `CutWorked`
 -- the fields with those of an IP packet of either version
 abbrev pub cut_packet : FrameFields → List ℕ → FrameFields
 cut_packet f bytes =
@@ -127,7 +114,6 @@ cut_packet f bytes =
     else if field bytes 0 4 == 6 then cut_ipv6 f bytes
     else rejected f reason.BadVersion
 
--- Pinned by: proof of `read_captured`; `CutWorked`
 -- the fields with those of the payload of a frame of this type
 abbrev pub cut_carried : FrameFields → EthernetProtocol → List ℕ → FrameFields
 cut_carried f ethertype.Arp bytes = cut_arp f bytes
@@ -135,14 +121,12 @@ cut_carried f ethertype.Ipv4 bytes = cut_ipv4 f bytes
 cut_carried f ethertype.Ipv6 bytes = cut_ipv6 f bytes
 cut_carried f (ethertype.Unknown n) bytes = f
 
--- Pinned by: proof of `read_captured`; `CutWorked`
 -- the fields with those of a frame with this Ethernet header
 abbrev pub cut_frame : FrameFields → EthernetRepr → List ℕ → FrameFields
 cut_frame f v bytes = cut_carried (with_link f v (f.payload_len - 14)) v.ethertype bytes
 
 -- ---- the frame
 
--- Pinned by: proof of `read_captured`; `CutWorked`
 -- the values of a frame of which these bytes were captured, and `missing` bytes after them were not
 unfoldable pub captured_of : List ℕ → ℕ → FrameFields
 captured_of bytes missing =
@@ -150,7 +134,6 @@ captured_of bytes missing =
     else let f = nothing_of (length bytes + missing) in
     if nat_lt (length bytes) 14 then cut_header f 14 else cut_frame f (ethernet.header_of bytes) (drop 14 bytes)
 
--- Pinned by: proof of `read_captured`; `CutWorked`
 -- the values of a packet without an Ethernet header of which these bytes were captured, and `missing` bytes after
 -- them were not
 unfoldable pub captured_packet_of : List ℕ → ℕ → FrameFields
@@ -161,7 +144,6 @@ captured_packet_of bytes missing =
 
 -- ---- the same by the struct of the whole frame
 
--- Pinned by: proof of `read_captured`
 -- a header that was not captured as a whole; `options` are those of TCP
 pub data CutHeader : Type 0 where
   link : CutHeader
@@ -170,7 +152,6 @@ pub data CutHeader : Type 0 where
   transport_header : CutHeader
   options : CutHeader
 
--- Pinned by: proof of `read_captured`
 -- the fields of the whole frame without those of a header that was cut, and of what follows it
 abbrev pub before : CutHeader → FrameFields → FrameFields
 before link g = nothing_of 0
@@ -194,19 +175,16 @@ before options g = record g {
   transport_checksum = verdict_code verdict.ChecksumCut;
 }
 
--- Pinned by: proof of `read_captured`
 -- a header was cut: the fields before it are those of the whole frame, and the payload begins at it
 pub record IsCutAt (h : CutHeader) (f g : FrameFields) : Type 0 where
   pub reason : f.reason ≡ reason_code reason.HeaderCut
   pub fields : f ≡ record (before h g) { reason = f.reason; payload_offset = f.payload_offset; payload_len = f.payload_len }
 
--- Pinned by: proof of `read_captured`
 -- no header was cut: all fields are those of the whole frame, but a checksum may cover bytes that are missing
 pub record HasHeaders (f g : FrameFields) : Type 0 where
   pub checksum : (f.transport_checksum ≡ g.transport_checksum) ⊎ (f.transport_checksum ≡ verdict_code verdict.ChecksumCut)
   pub fields : f ≡ record g { transport_checksum = f.transport_checksum }
 
--- Pinned by: proof of `read_captured`
 -- the fields of a frame of which only a part was captured, by those of the whole frame
 abbrev pub IsCutOf : FrameFields → FrameFields → Type 0
 IsCutOf f g = HasHeaders f g ⊎ ((h : CutHeader) × IsCutAt h f g)

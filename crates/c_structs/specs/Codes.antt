@@ -1,4 +1,5 @@
 -- The numbers of the enums of `c/ip_wire.h`.
+-- Pinned by: `worked/read`
 use Rattle.std.specs.Prelude.{ℕ}
 use Rattle.c_structs.specs.declared.codes.NetworkKind.{NetworkKind}
 use Rattle.c_structs.specs.declared.codes.NetworkKind.TheVariants as network
@@ -9,7 +10,6 @@ use Rattle.c_structs.specs.declared.codes.TransportKind.TheVariants as transport
 use Rattle.c_structs.specs.declared.codes.Verdict.{Verdict}
 use Rattle.c_structs.specs.declared.codes.Verdict.TheVariants as verdict
 
--- Pinned by: `worked/read`
 -- the number of a reason why a header is rejected (`enum lk_reason`)
 abbrev pub reason_code : Reason → ℕ
 reason_code reason.Read = 0
@@ -23,7 +23,6 @@ reason_code reason.BadOptions = 7
 reason_code reason.HeaderCut = 8
 reason_code reason.UnknownLink = 9
 
--- Pinned by: `worked/read`
 -- the number of a network protocol (`enum lk_network`)
 abbrev pub network_code : NetworkKind → ℕ
 network_code network.None = 0

@@ -1,4 +1,5 @@
 -- Why a call writes nothing: the failure of the first test that fails.
+-- Pinned by: `judge`
 use Rattle.std.specs.Prelude.{ℕ, ◌+◌, ◌%◌, ◌&&◌, ◌||◌, ◌==◌, not, nat_le, nat_lt, is_none, is_some, if◌then◌else◌, Bool, List, length, Option, None, Some}
 use Rattle.std.specs.Option.{option_or}
 use Rattle.ip_wire.specs.Udp as udp
@@ -17,22 +18,18 @@ use Rattle.c_structs.specs.declared.types.TcpOptions.{TcpOptions}
 
 -- ---- addresses
 
--- Pinned by: `judge`
 -- whether the struct has an address: its version is 4 or 6
 abbrev pub has_version : Addr → Bool
 has_version a = (a.version == 4) || (a.version == 6)
 
--- Pinned by: `judge`; law `failures_are_exact`
 -- the failure of a call with this address
 abbrev pub addr_failure : Addr → Option Failure
 addr_failure a = if has_version a then None else Some failure.NoVersion
 
--- Pinned by: `judge`; law `failures_are_exact`
 -- the failure of a call with this CIDR block
 abbrev pub block_failure : Block → Option Failure
 block_failure b = if is_none (ip_of b.addr) then Some failure.NoVersion else if is_none (block_of b) then Some failure.BadPrefix else None
 
--- Pinned by: `judge`; law `failures_are_exact`
 -- the failure of a call with two addresses that must have the same version
 abbrev pub pair_failure : Addr → Addr → Option Failure
 pair_failure src dst =
@@ -40,20 +37,17 @@ pair_failure src dst =
     else if not (src.version == dst.version) then Some failure.TwoVersions
     else None
 
--- Pinned by: `judge`; law `failures_are_exact`
 -- the failure of a call with two addresses that must be IPv4 addresses
 abbrev pub arp_failure : Addr → Addr → Option Failure
 arp_failure src dst = if (src.version == 4) && (dst.version == 4) then None else Some failure.NoVersion
 
 -- ---- IP
 
--- Pinned by: `judge`
 -- the length of the longest payload that the length field of this version can express; that of IPv4 counts the header
 -- too
 abbrev pub most_payload : ℕ → ℕ
 most_payload version = if version == 4 then 65515 else 65535
 
--- Pinned by: `judge`
 -- whether a header of this version can express each field; IPv6 has none for fragments
 abbrev pub has_fields : Ip → ℕ → Bool
 has_fields h version =
@@ -69,14 +63,12 @@ field_failure h version len =
     else if nat_lt (most_payload version) len then Some failure.PayloadTooLong
     else None
 
--- Pinned by: `judge`; law `failures_are_exact`
 -- the failure of an IP header between two addresses, for a payload of this length
 abbrev pub ip_failure : Ip → Addr → Addr → ℕ → Option Failure
 ip_failure h src dst len = option_or (pair_failure src dst) (field_failure h src.version len)
 
 -- ---- UDP and TCP
 
--- Pinned by: `judge`; law `failures_are_exact`
 -- the failure of a UDP packet with a payload of this length
 abbrev pub udp_failure : Endpoint → Endpoint → ℕ → Option Failure
 udp_failure src dst len =
@@ -99,7 +91,6 @@ segment_failure h o len most =
     else if nat_lt most (options_header_len o + len) then Some failure.PayloadTooLong
     else None
 
--- Pinned by: `judge`; law `failures_are_exact`
 -- the failure of a TCP segment with a payload of this length
 abbrev pub tcp_failure : Tcp → TcpOptions → Endpoint → Endpoint → ℕ → Option Failure
 tcp_failure h o src dst len =
@@ -117,14 +108,12 @@ frame_failure f has_ports =
     else if not (has_fields f.ip f.src.addr.version && is_whole f.ip) then Some failure.BadField
     else None)
 
--- Pinned by: `judge`; law `failures_are_exact`
 -- the failure of a frame with a UDP packet with a payload of this length
 abbrev pub udp_frame_failure : FrameFields → ℕ → Option Failure
 udp_frame_failure f len =
     option_or (frame_failure f (has_port f.dst))
     (if nat_lt (most_payload f.src.addr.version) (8 + len) then Some failure.PayloadTooLong else None)
 
--- Pinned by: `judge`; law `failures_are_exact`
 -- the failure of a frame with a TCP segment with a payload of this length
 abbrev pub tcp_frame_failure : FrameFields → TcpOptions → ℕ → Option Failure
 tcp_frame_failure f o len =
@@ -132,7 +121,6 @@ tcp_frame_failure f o len =
 
 -- ---- rebuilding
 
--- Pinned by: `judge`; law `failures_are_exact`
 -- the failure of rebuilding: the frame has no whole Ethernet header
 abbrev pub rebuild_failure : List ℕ → Option Failure
 rebuild_failure frame = if nat_lt (length frame) 14 then Some failure.NoHeader else None

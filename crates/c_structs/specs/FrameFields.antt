@@ -1,4 +1,5 @@
 -- The values of a frame as the struct of C.
+-- Pinned by: `worked/read`, `worked/options`
 use Rattle.std.specs.Prelude.{ℕ, ◌+◌, ◌*◌, ◌/◌, ◌%◌, ◌==◌, ◌||◌, not, nat_lt, is_none, if◌then◌else◌, false, List, drop, length, replicate, take}
 use Rattle.std.specs.Option.{option_map_or}
 use Rattle.ip_wire.specs.Arp as arp
@@ -49,7 +50,6 @@ no_ethernet = record { src = replicate 6 0; dst = replicate 6 0; ethertype = 0 }
 abbrev pub no_arp : Arp
 no_arp = record { operation = 0; src_hardware = replicate 6 0; dst_hardware = replicate 6 0 }
 
--- Pinned by: law `rejected_is_no_transport`; `worked/read`; laws `fields_are_parsed`, `fields_before_are_parsed`
 -- the struct of no IP header: zeros
 abbrev pub no_ip : Ip
 no_ip = record {
@@ -70,7 +70,6 @@ no_tcp = record { seq_number = 0; ack_number = 0; window_len = 0; urgent_at = 0;
 
 -- ---- where the payload begins
 
--- Pinned by: `worked/read`
 -- the struct of a frame of this length of which no header is parsed, because it is too short for the first one
 abbrev pub nothing_of : ℕ → FrameFields
 nothing_of len = record {
@@ -93,29 +92,24 @@ nothing_of len = record {
   transport_checksum = verdict_code verdict.None;
 }
 
--- Pinned by: `worked/read`
 -- the fields after a header of this length: the payload begins after it, and has this length
 abbrev pub after_header : FrameFields → ℕ → ℕ → FrameFields
 after_header f header_len len = record f { payload_offset = f.payload_offset + header_len; payload_len = len }
 
--- Pinned by: `worked/read`
 -- the fields after the next header was rejected for this reason; the payload begins at that header
 abbrev pub rejected : FrameFields → Reason → FrameFields
 rejected f why = record f { reason = reason_code why }
 
--- Pinned by: law `rejected_is_no_transport`; `worked/read`; laws `fields_are_parsed`, `fields_before_are_parsed`
 -- the fields after the transport header, whose fields are stored, was rejected for this reason
 abbrev pub rejected_transport : FrameFields → Reason → FrameFields
 rejected_transport f why = let next = rejected f why in record next { transport = transport_code transport.None; rejected = f.transport }
 
 -- ---- why bytes that are no header are rejected: the first test that fails
 
--- Pinned by: `worked/read`
 -- why bytes that do not parse as an ARP packet are rejected
 abbrev pub arp_fault : List ℕ → Reason
 arp_fault bytes = if nat_lt (length bytes) 28 then reason.TooShort else reason.OtherArp
 
--- Pinned by: `worked/read`
 -- why bytes that do not parse as an IPv4 packet are rejected
 abbrev pub ipv4_fault : List ℕ → Reason
 ipv4_fault bytes =
@@ -123,7 +117,6 @@ ipv4_fault bytes =
     else if not (field bytes 0 4 == 4) then reason.BadVersion
     else reason.BadLength
 
--- Pinned by: `worked/read`
 -- why bytes that do not parse as an IPv6 packet are rejected
 abbrev pub ipv6_fault : List ℕ → Reason
 ipv6_fault bytes =
@@ -131,12 +124,10 @@ ipv6_fault bytes =
     else if not (field bytes 0 4 == 6) then reason.BadVersion
     else reason.BadLength
 
--- Pinned by: `worked/read`
 -- why at least 8 bytes that do not parse as a UDP packet are rejected
 abbrev pub udp_fault : List ℕ → Reason
 udp_fault bytes = if not (udp.has_lengths bytes) then reason.BadLength else reason.PortZero
 
--- Pinned by: `worked/read`
 -- why a TCP segment of this length, of which at least the first 20 bytes were captured, is rejected
 abbrev pub tcp_fault : List ℕ → ℕ → Reason
 tcp_fault bytes len =
@@ -148,17 +139,14 @@ tcp_fault bytes len =
 
 -- ---- what a checksum says
 
--- Pinned by: law `fields_are_parsed`; `worked/read`
 -- what the checksum of an IPv4 header says
 abbrev pub ipv4_verdict : List ℕ → Verdict
 ipv4_verdict bytes = if sum_of_bytes (take (ipv4.header_len bytes) bytes) == 65535 then verdict.Right else verdict.Wrong
 
--- Pinned by: proof of `read_captured`
 -- a UDP checksum of 0 means that the sender computed none; over IPv6 it must compute one
 abbrev pub zero_udp_verdict : IpAddress → Verdict
 zero_udp_verdict src = if udp.is_ipv4 src then verdict.LeftOut else verdict.Wrong
 
--- Pinned by: law `fields_are_parsed`; `worked/read`
 -- what the checksum of a UDP packet says; the device may still have to compute it, and then it is only the
 -- pseudo-header sum
 abbrev pub udp_verdict : IpAddress → IpAddress → List ℕ → Verdict
@@ -168,12 +156,10 @@ udp_verdict src dst bytes =
     else if field bytes 48 16 == udp.pseudo_header_sum src dst bytes then verdict.LeftToDevice
     else verdict.Wrong
 
--- Pinned by: proof of `read_captured`
 -- what the checksum of a UDP packet says that was not captured as a whole
 abbrev pub cut_udp_verdict : IpAddress → List ℕ → Verdict
 cut_udp_verdict src bytes = if field bytes 48 16 == 0 then zero_udp_verdict src else verdict.ChecksumCut
 
--- Pinned by: law `fields_are_parsed`; `worked/read`
 -- what the checksum of a TCP segment says; the device may still have to compute it, and then it is only the
 -- pseudo-header sum
 abbrev pub tcp_verdict : IpAddress → IpAddress → List ℕ → Verdict
@@ -221,7 +207,6 @@ tcp_values bytes = record {
   header_len = tcp.header_len bytes;
 }
 
--- Pinned by: law `fields_before_are_parsed`
 -- the fields with those of a TCP header whose checksum has this verdict
 abbrev pub with_tcp_fields : FrameFields → List ℕ → Verdict → FrameFields
 with_tcp_fields f bytes v = let next = with_ports f bytes in record next {
@@ -234,7 +219,6 @@ with_tcp_fields f bytes v = let next = with_ports f bytes in record next {
 abbrev pub with_tcp_header : FrameFields → IpAddress → IpAddress → List ℕ → FrameFields
 with_tcp_header f src dst bytes = with_tcp_fields f bytes (tcp_verdict src dst bytes)
 
--- Pinned by: `worked/options`; `worked/read`
 -- the fields with those of a TCP segment; a rejected header is stored too, if all of it is there
 abbrev pub with_tcp : FrameFields → IpAddress → IpAddress → List ℕ → FrameFields
 with_tcp f src dst bytes =
@@ -287,7 +271,6 @@ ipv4_values bytes v = record {
   dont_fragment = field bytes 49 1;
 }
 
--- Pinned by: law `fields_before_are_parsed`
 -- the fields with those of an IPv4 header before a payload of this length
 abbrev pub with_ipv4_fields : FrameFields → List ℕ → Ipv4Repr → ℕ → FrameFields
 with_ipv4_fields f bytes v payload_len =
@@ -365,7 +348,6 @@ with_ipv6 f bytes =
     with_payload next (Ipv6 v) (ipv6.payload_of bytes))
     (ipv6_of bytes) (rejected f (ipv6_fault bytes))
 
--- Pinned by: law `frame_has_packet`
 -- the fields with those of an IP packet of either version, or why it is rejected
 abbrev pub with_packet : FrameFields → List ℕ → FrameFields
 with_packet f bytes =
@@ -373,12 +355,10 @@ with_packet f bytes =
     else if field bytes 0 4 == 6 then with_ipv6 f bytes
     else rejected f reason.BadVersion
 
--- Pinned by: law `frame_has_packet`
 -- the struct of a packet of this length without an Ethernet header, of which nothing is parsed yet
 abbrev pub bare_of : ℕ → FrameFields
 bare_of len = rejected (nothing_of len) reason.Read
 
--- Pinned by: law `frame_has_packet`
 -- the values of a packet without an Ethernet header, up to a header that is rejected
 unfoldable pub packet_fields_of : List ℕ → FrameFields
 packet_fields_of bytes = if nat_lt (length bytes) 1 then nothing_of (length bytes) else with_packet (bare_of (length bytes)) bytes
@@ -400,12 +380,10 @@ with_link f v payload_len =
       reason = reason_code reason.Read;
     }
 
--- Pinned by: `worked/options`; `worked/read`
 -- the fields with those of a frame with this Ethernet header
 abbrev pub with_frame : FrameFields → EthernetRepr → List ℕ → FrameFields
 with_frame f v bytes = with_carried (with_link f v (length bytes)) v.ethertype bytes
 
--- Pinned by: `worked/options`; `worked/read`
 -- the values of a frame, up to a header that is rejected
 unfoldable pub fields_of : List ℕ → FrameFields
 fields_of frame =

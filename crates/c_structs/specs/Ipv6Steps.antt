@@ -1,44 +1,38 @@
 -- The headers of an IPv6 packet one by one, each by its place (RFC 8200, section 4).
+-- Pinned by: `worked/link`
 use Rattle.std.specs.Prelude.{ℕ, ℤ, pos, negsuc, ◌+◌, ◌*◌, ◌==◌, ◌&&◌, ◌||◌, not, nat_lt, if◌then◌else◌, Bool, List, drop, length, take}
 use Rattle.ip_wire.specs.Field.{field}
 use Rattle.ip_wire.specs.Ipv6.{total_len}
 use Rattle.c_structs.specs.declared.types.Ipv6HeaderPlace.{Ipv6HeaderPlace}
 
--- Pinned by: `worked/link`
 -- whether this is the number of an extension header: hop-by-hop options 0, routing 43, fragment 44, destination options 60
 abbrev pub is_extension : ℕ → Bool
 is_extension protocol = (protocol == 0) || (protocol == 43) || (protocol == 44) || (protocol == 60)
 
--- Pinned by: `worked/link`
 -- the length of an extension header in bytes: that of a fragment header is 8; the second byte of the others counts units
 -- of 8 bytes after the first
 abbrev pub extension_len : ℕ → List ℕ → ℕ
 extension_len protocol bytes = if protocol == 44 then 8 else 8 + 8 * field bytes 8 8
 
--- Pinned by: `worked/link`
 -- the protocol of what follows an extension header; 59, "no next header", after the header of a fragment that is not the
 -- first, since its payload begins in the middle of another
 abbrev pub following : ℕ → List ℕ → ℕ
 following protocol bytes = if (protocol == 44) && not (field bytes 16 13 == 0) then 59 else field bytes 0 8
 
--- Pinned by: `worked/link`
 -- the place of an extension header whose bytes begin here
 abbrev pub extension_at : ℕ → ℕ → List ℕ → Ipv6HeaderPlace
 extension_at at protocol bytes = record { offset = at; len = extension_len protocol bytes; protocol = protocol; next = following protocol bytes }
 
--- Pinned by: `worked/link`
 -- the place of the IPv6 header, which this protocol follows; its own number is 41
 abbrev pub first_of : ℕ → Ipv6HeaderPlace
 first_of next = record { offset = 0; len = 40; protocol = 41; next = next }
 
--- Pinned by: `worked/link`
 -- what a step to an extension header returns and stores, if these bytes of the packet are left
 abbrev pub step_to : List ℕ → ℕ → Ipv6HeaderPlace → ℤ × Ipv6HeaderPlace
 step_to rest at old =
     if nat_lt (length rest) 8 || nat_lt (length rest) (extension_len old.next rest) then (negsuc 0, old)
     else (pos 1, extension_at at old.next rest)
 
--- Pinned by: `worked/link`
 -- what a step to the next header of a packet returns and stores; zeros are before the IPv6 header
 abbrev pub step : List ℕ → Ipv6HeaderPlace → ℤ × Ipv6HeaderPlace
 step bytes old =

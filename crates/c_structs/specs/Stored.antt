@@ -1,4 +1,5 @@
 -- The struct of a frame, by the values that the frame parses as.
+-- Pinned by: `worked/read`
 use Rattle.std.specs.Prelude.{ℕ, ◌≡◌, ◌⊎◌, ◌↔◌, ◌==◌, ◌&&◌, ◌+◌, ◌/◌, ◌%◌, nat_lt, if◌then◌else◌, IfSome, IsSome, IsTrue, List, drop, length, slice_range, ⊤}
 use Rattle.ip_wire.specs.Field.{field}
 use Rattle.ip_wire.specs.Frame.{Carried, Transport, datagram, describe_carried, message, other, packet, packet_payload, segment}
@@ -30,44 +31,37 @@ unchecked = all_are checksum.None
 
 -- ---- the struct of the headers
 
--- Pinned by: law `frame_has_packet`; `worked/read`
 -- the struct of a frame after its Ethernet header
 abbrev pub linked : List ℕ → EthernetRepr → FrameFields
 linked frame v = with_link (nothing_of (length frame)) v (length (drop 14 frame))
 
--- Pinned by: law `frame_has_packet`; `worked/read`
 -- the struct of a frame after its IP header
 abbrev pub headed : List ℕ → EthernetRepr → IpRepr → FrameFields
 headed frame v (Ipv4 w) = with_ipv4_header (linked frame v) (drop 14 frame) w
 headed frame v (Ipv6 w) =
     let payload = payload_of (drop 14 frame) in with_fragment_by (with_ipv6_header (linked frame v) (drop 14 frame) w) w.next_header payload
 
--- Pinned by: law `frame_has_packet`; `worked/read`
 -- the struct of a frame after a transport header between two addresses, which the bytes begin with
 abbrev pub transported : FrameFields → IpAddress → IpAddress → List ℕ → Transport → FrameFields
 transported f src dst bytes (datagram v payload) = after_header (with_udp_header f src dst bytes) 8 (length payload)
 transported f src dst bytes (segment v payload) = after_header (with_tcp_header f src dst bytes) (tcp.header_len bytes) (length payload)
 transported f src dst bytes (other payload) = f
 
--- Pinned by: law `frame_has_packet`; `worked/read`
 -- the struct of a frame that parses as a whole
 abbrev pub struct_of : List ℕ → EthernetRepr → Carried → FrameFields
 struct_of frame v (message w) = with_message (linked frame v) w
 struct_of frame v (packet w t) = transported (headed frame v w) (src_addr_of w) (dst_addr_of w) (packet_payload w (drop 14 frame)) t
 
--- Pinned by: law `frame_has_packet`; `worked/read`
 -- the struct of a frame whose UDP header is rejected; the header is stored if all of it is there
 abbrev pub rejected_udp : FrameFields → IpAddress → IpAddress → List ℕ → FrameFields
 rejected_udp f src dst bytes =
     if nat_lt (length bytes) 8 then rejected f reason.TooShort else rejected_transport (with_udp_header f src dst bytes) (udp_fault bytes)
 
--- Pinned by: law `frame_has_packet`; `worked/read`
 -- the struct of a frame whose TCP header is rejected; the header is stored if all of it is there
 abbrev pub rejected_tcp : FrameFields → IpAddress → IpAddress → List ℕ → FrameFields
 rejected_tcp f src dst bytes =
     if nat_lt (length bytes) 20 then rejected f reason.TooShort else rejected_transport (with_tcp_header f src dst bytes) (tcp_fault bytes (length bytes))
 
--- Pinned by: law `frame_has_packet`; `worked/read`
 -- why the header in a frame of this type is rejected; in a frame of an unknown type none is
 abbrev pub network_fault : EthernetProtocol → List ℕ → Reason
 network_fault ethertype.Arp bytes = arp_fault bytes
@@ -77,7 +71,6 @@ network_fault (ethertype.Unknown n) bytes = reason.Read
 
 -- ---- the values in the struct in the struct
 
--- Pinned by: law `fields_are_parsed`
 -- Of the flags FIN (1), SYN (2), RST (4) and PSH (8), the one that the control names is set. With FIN, SYN or RST,
 -- PSH may be set too.
 abbrev pub HasFlag : ℕ → TcpControl → Type 0
@@ -87,7 +80,6 @@ HasFlag flags control.Rst = flags % 8 ≡ 4
 HasFlag flags control.Psh = flags % 16 ≡ 8
 HasFlag flags control.None = flags % 16 ≡ 0
 
--- Pinned by: law `fields_are_parsed`
 -- the struct has the values of a TCP header; in its flags ACK is 16
 pub record HasSegment (f : FrameFields) (v : TcpHeader) : Type 0 where
   pub src_port : f.src.port ≡ v.src_port
@@ -98,25 +90,21 @@ pub record HasSegment (f : FrameFields) (v : TcpHeader) : Type 0 where
   pub control : HasFlag f.tcp.flags v.control
   pub window_len : f.tcp.window_len ≡ v.window_len
 
--- Pinned by: law `fields_are_parsed`
 -- the struct has the values of a transport header
 abbrev pub HasTransport : FrameFields → Transport → Type 0
 HasTransport f (datagram v payload) = (f.src.port ≡ v.src_port) × (f.dst.port ≡ v.dst_port)
 HasTransport f (segment v payload) = HasSegment f v
 HasTransport f (other payload) = ⊤
 
--- Pinned by: law `fields_are_parsed`
 -- the struct has the protocol of an IP header
 abbrev pub HasProtocol : FrameFields → IpRepr → Type 0
 HasProtocol f v = f.ip.protocol ≡ number_of (next_header_of v)
 
--- Pinned by: law `fields_are_parsed`
 -- the struct has the values of what the frame carries
 abbrev pub HasValues : FrameFields → Carried → Type 0
 HasValues f (message v) = ⊤
 HasValues f (packet v t) = HasProtocol f v × HasTransport f t
 
--- Pinned by: law `fields_are_parsed`
 -- the payload of the struct is these bytes of the frame
 pub record Locates (f : FrameFields) (frame bytes : List ℕ) : Type 0 where
   pub len : f.payload_len ≡ length bytes
@@ -124,14 +112,12 @@ pub record Locates (f : FrameFields) (frame bytes : List ℕ) : Type 0 where
 
 -- ---- the whole frame
 
--- Pinned by: law `fields_are_parsed`
 -- the struct stores all values of a frame that parses as a whole, and locates its innermost payload
 pub record Stores (f : FrameFields) (frame : List ℕ) (v : EthernetRepr) (w : Carried) : Type 0 where
   pub fields : f ≡ struct_of frame v w
   pub values : HasValues f w
   pub payload : Locates f frame (describe_carried w).payload
 
--- Pinned by: law `fields_before_are_parsed`
 -- the struct stores the headers of an IPv4 fragment, whose payload is not parsed
 pub record StoresFragment (f : FrameFields) (frame : List ℕ) (v : EthernetRepr) (w : Ipv4Repr) : Type 0 where
   pub part : f.is_fragment ≡ 1
@@ -139,7 +125,6 @@ pub record StoresFragment (f : FrameFields) (frame : List ℕ) (v : EthernetRepr
   pub values : HasProtocol f (Ipv4 w)
   pub payload : Locates f frame (packet_payload (Ipv4 w) (drop 14 frame))
 
--- Pinned by: law `fields_before_are_parsed`
 -- the struct stores these headers and a rejected header of this protocol after them; a header of another protocol is
 -- not rejected
 abbrev pub StoresRejectedBy : IpProtocol → FrameFields → FrameFields → IpAddress → IpAddress → List ℕ → Type 0
@@ -147,7 +132,6 @@ StoresRejectedBy protocol.Udp f headers src dst bytes = f ≡ rejected_udp heade
 StoresRejectedBy protocol.Tcp f headers src dst bytes = f ≡ rejected_tcp headers src dst bytes
 StoresRejectedBy _ f headers src dst bytes = ⊥
 
--- Pinned by: law `fields_before_are_parsed`
 -- the struct stores a rejected transport header and the headers before it, and the payload begins at the rejected one
 pub record StoresRejected (f : FrameFields) (frame : List ℕ) (v : EthernetRepr) (w : IpRepr) : Type 0 where
   pub part : f.is_fragment ≡ 0
@@ -155,14 +139,12 @@ pub record StoresRejected (f : FrameFields) (frame : List ℕ) (v : EthernetRepr
   pub values : HasProtocol f w
   pub payload : Locates f frame (packet_payload w (drop 14 frame))
 
--- Pinned by: law `fields_before_are_parsed`
 -- the struct stores the Ethernet header before a rejected header or a payload of unknown type, where the payload
 -- begins
 pub record StoresUnread (f : FrameFields) (frame : List ℕ) (v : EthernetRepr) : Type 0 where
   pub fields : f ≡ rejected (linked frame v) (network_fault v.ethertype (drop 14 frame))
   pub payload : Locates f frame (drop 14 frame)
 
--- Pinned by: law `fields_are_parsed`; too wide: law `fields_are_parsed`
 -- each checksum of the frame that is verified is valid; that of a UDP packet over IPv4 may be missing
 pub record HasVerdicts (caps : ChecksumCapabilities) (f : FrameFields) : Type 0 where
   pub ipv4 : IsTrue (verifies caps.ipv4) → f.network ≡ network_code network.Ipv4 → f.ipv4_checksum ≡ verdict_code verdict.Right
@@ -172,14 +154,12 @@ pub record HasVerdicts (caps : ChecksumCapabilities) (f : FrameFields) : Type 0 
 
 -- ---- a packet in a frame
 
--- Pinned by: law `frame_has_packet`
 -- a frame of this type holds IP packets of the version that these bytes begin with
 abbrev pub IsTypeOf : EthernetProtocol → List ℕ → Type 0
 IsTypeOf ethertype.Ipv4 bytes = field bytes 0 4 ≡ 4
 IsTypeOf ethertype.Ipv6 bytes = field bytes 0 4 ≡ 6
 IsTypeOf _ bytes = ⊥
 
--- Pinned by: law `frame_has_packet`
 -- the struct of a packet after an Ethernet header, from that of the packet by itself; each stored header begins 14
 -- bytes later
 abbrev pub in_frame : EthernetRepr → FrameFields → FrameFields

@@ -1,16 +1,15 @@
 -- TCP headers that are rebuilt from their bytes.
+-- Pinned by: `judge`
 use Rattle.std.specs.Prelude.{ℕ, ◌≡◌, ◌≢◌, ◌≤◌, ◌⊎◌, List, [], ◌∷◌, length, slice_range}
 use Rattle.ip_wire.specs.Field.{field, with_field, with_range}
 use Rattle.ip_wire.specs.Tcp.{Verifies, header_len}
 use Rattle.ip_wire.specs.WordSum.{updated}
 use Rattle.ip_wire.specs.declared.IpAddress.{IpAddress}
 
--- Pinned by: proof of `rebuild_frame`; `judge`
 -- the flags are ACK and at most one of PSH, RST, SYN and FIN
 abbrev pub IsAck : ℕ → Type 0
 IsAck flags = (flags ≡ 0x10) ⊎ (flags ≡ 0x11) ⊎ (flags ≡ 0x12) ⊎ (flags ≡ 0x14) ⊎ (flags ≡ 0x18)
 
--- Pinned by: proof of `rebuild_frame`; `judge`
 -- The first 20 bytes of a header are emitted as they are: they have no reserved bit, no other flag and no urgent
 -- pointer, and a checksum that can be computed.
 pub record IsPlain (bytes : List ℕ) : Type 0 where
@@ -19,7 +18,6 @@ pub record IsPlain (bytes : List ℕ) : Type 0 where
   pub urgent_at : field bytes 144 16 ≡ 0
   pub checksum : field bytes 128 16 ≢ 0xffff
 
--- Pinned by: proof of `rebuild_frame`; `judge`
 -- the segment has a header, its ports are not 0, and its checksum is valid
 pub record IsSound (src dst : IpAddress) (bytes : List ℕ) : Type 0 where
   pub least : 20 ≤ length bytes
@@ -27,7 +25,6 @@ pub record IsSound (src dst : IpAddress) (bytes : List ℕ) : Type 0 where
   pub receiver : field bytes 16 16 ≢ 0
   pub checksum : Verifies src dst bytes
 
--- Pinned by: proof of `rebuild_frame`; `judge`
 -- the options are a timestamp and two zeros, as they are emitted
 pub record HasStamp (bytes : List ℕ) : Type 0 where
   pub whole : 32 ≤ length bytes
@@ -35,14 +32,12 @@ pub record HasStamp (bytes : List ℕ) : Type 0 where
   pub kind : field bytes 160 16 ≡ 0x080a
   pub ended : field bytes 240 16 ≡ 0
 
--- Pinned by: proof of `rebuild_frame`; `judge`
 -- the options are two bytes of no operation and a timestamp (RFC 7323, appendix A)
 pub record HasPaddedStamp (bytes : List ℕ) : Type 0 where
   pub whole : 32 ≤ length bytes
   pub size : header_len bytes ≡ 32
   pub kinds : field bytes 160 32 ≡ 0x0101080a
 
--- Pinned by: proof of `read`
 -- the segment parses, its checksum apart: its ports are not 0, of the flags it has ACK and at most PSH, and its header
 -- has no option or a timestamp
 pub record IsUsual (bytes : List ℕ) : Type 0 where
@@ -51,7 +46,6 @@ pub record IsUsual (bytes : List ℕ) : Type 0 where
   pub flags : (field bytes 104 8 ≡ 0x10) ⊎ (field bytes 104 8 ≡ 0x18)
   pub list : (header_len bytes ≡ 20) ⊎ HasPaddedStamp bytes ⊎ HasStamp bytes
 
--- Pinned by: proof of `rebuild_frame`; `judge`
 -- the segment with two zeros after the timestamp instead of the bytes of no operation before it
 abbrev pub with_stamp_first : List ℕ → List ℕ → List ℕ
 with_stamp_first header bytes =

@@ -1,4 +1,5 @@
 -- The options of a TCP header as the struct of C.
+-- Pinned by: `worked/options`, `worked/write`
 use Rattle.std.specs.Prelude.{ℕ, Option, None, Some, is_some, count_by, List, map}
 use Rattle.std.specs.Option.{unwrap_or}
 use Rattle.ip_wire.specs.Tcp.{HasLengths, options_of}
@@ -8,25 +9,21 @@ use Rattle.c_structs.specs.Written.{flag}
 use Rattle.c_structs.specs.declared.types.SackRange.{SackRange}
 use Rattle.c_structs.specs.declared.types.TcpOptions.{TcpOptions}
 
--- Pinned by: `worked/options`, `worked/write`
 -- the bytes begin with a TCP header, whose options are these items
 pub record ReadsItems (bytes : List ℕ) (items : List Item) : Type 0 where
   pub lengths : HasLengths bytes
   pub tail : List ℕ
   pub list : IsOptionList (options_of bytes) items tail
 
--- Pinned by: proof of `read`; `worked/options`
 -- the bytes are a list of these items
 abbrev pub IsListed : List ℕ → List Item → Type 0
 IsListed bytes items = (tail : List ℕ) × IsOptionList bytes items tail
 
--- Pinned by: `worked/options`, `worked/write`
 -- the struct of a SACK range; zeros if there is none
 abbrev pub range_of : Option (ℕ × ℕ) → SackRange
 range_of None = record { left = 0; right = 0 }
 range_of (Some r) = record { left = r.0; right = r.1 }
 
--- Pinned by: `worked/options`, `worked/write`
 -- the struct of an option list: the last option of each kind counts; a window scale above 14 becomes 14
 abbrev pub tcp_options_of : List Item → TcpOptions
 tcp_options_of items =

@@ -1,4 +1,5 @@
 -- The line of text that a frame prints as.
+-- Pinned by: `worked/summary`
 use Rattle.std.specs.Prelude.{ℕ, ◌++◌, ◌==◌, ◌||◌, ◌/◌, ◌%◌, if◌then◌else◌, Bool, List, [], Option, Some, None, codes, decimal}
 use Rattle.ip_wire.specs.Endpoint.{endpoint_at, endpoint_text}
 use Rattle.ip_wire.specs.IpAddress.{address_text}
@@ -13,35 +14,29 @@ use Rattle.c_structs.specs.declared.types.Tcp.{Tcp}
 
 -- ---- the two ends
 
--- Pinned by: `worked/summary`
 -- the word for a network header (`enum lk_network`)
 abbrev pub network_word : ℕ → List ℕ
 network_word network =
     if network == 1 then codes "ARP " else if network == 2 then codes "IPv4 " else if network == 3 then codes "IPv6 " else []
 
--- Pinned by: `worked/summary`
 -- the transport header of a frame (`enum lk_transport`): the one that was read, or that was rejected and is stored
 abbrev pub transport_of : FrameFields → ℕ
 transport_of f = if f.transport == 0 then f.rejected else f.transport
 
--- Pinned by: `worked/summary`
 -- whether a transport header has ports: UDP and TCP
 abbrev pub has_ports : ℕ → Bool
 has_ports transport = (transport == 1) || (transport == 2)
 
--- Pinned by: `worked/summary`
 -- an address, with a port if there is one
 abbrev pub end_text : Bool → IpAddress → ℕ → List ℕ
 end_text ported address port = if ported then endpoint_text (endpoint_at address port) else address_text address
 
--- Pinned by: `worked/summary`
 -- the Ethernet addresses, and the EtherType in hex
 abbrev pub ethernet_text : Ethernet → List ℕ
 ethernet_text header =
     codes "Ethernet " ++ dashed header.src ++ codes " > " ++ dashed header.dst
     ++ codes " type=0x" ++ hex_byte (header.ethertype / 256) ++ hex_byte (header.ethertype % 256)
 
--- Pinned by: `worked/summary`
 -- the sender and the receiver: both IP addresses if there are two, else the Ethernet addresses
 abbrev pub ends_text : FrameFields → Option IpAddress → Option IpAddress → List ℕ
 ends_text f (Some src) (Some dst) =
@@ -52,19 +47,16 @@ ends_text f None dst = ethernet_text f.ethernet
 
 -- ---- the innermost header
 
--- Pinned by: `worked/summary`
 -- the text if this bit of the flags is set, else nothing
 abbrev pub where_set : ℕ → ℕ → List ℕ → List ℕ
 where_set flags bit text = if flags / bit % 2 == 1 then text else []
 
--- Pinned by: `worked/summary`
 -- the TCP flags that are set, but for ACK and URG
 abbrev pub flags_text : ℕ → List ℕ
 flags_text flags =
     where_set flags 2 (codes " syn") ++ where_set flags 1 (codes " fin") ++ where_set flags 4 (codes " rst")
     ++ where_set flags 8 (codes " psh") ++ where_set flags 64 (codes " ece") ++ where_set flags 128 (codes " cwr")
 
--- Pinned by: `worked/summary`
 -- the flags and numbers of a TCP header
 abbrev pub tcp_text : Tcp → List ℕ
 tcp_text h =
@@ -72,27 +64,22 @@ tcp_text h =
     ++ where_set h.flags 16 (codes " ack=" ++ decimal h.ack_number) ++ codes " win=" ++ decimal h.window_len
     ++ where_set h.flags 32 (codes " urg=" ++ decimal h.urgent_at)
 
--- Pinned by: `worked/summary`
 -- the operation of an ARP packet, and the hardware address of its sender
 abbrev pub arp_text : Arp → List ℕ
 arp_text h = codes " op=" ++ decimal h.operation ++ codes " hardware=" ++ dashed h.src_hardware
 
--- Pinned by: `worked/summary`
 -- the type and code of an ICMP message
 abbrev pub icmp_text : ℕ → ℕ → List ℕ
 icmp_text msg_type code = codes " ICMP type=" ++ decimal msg_type ++ codes " code=" ++ decimal code
 
--- Pinned by: `worked/summary`
 -- the offset of a fragment, with `+` if more fragments follow it
 abbrev pub fragment_text : Ip → List ℕ
 fragment_text h = codes " fragment=" ++ decimal h.fragment_offset ++ (if h.more_fragments == 0 then [] else codes "+")
 
--- Pinned by: `worked/summary`
 -- the protocol of an IP packet, and which part of it a fragment is
 abbrev pub protocol_text : FrameFields → List ℕ
 protocol_text f = codes " proto=" ++ decimal f.ip.protocol ++ (if f.is_fragment == 0 then [] else fragment_text f.ip)
 
--- Pinned by: `worked/summary`
 -- the innermost header of a frame
 abbrev pub header_text : FrameFields → ℕ → ℕ → List ℕ
 header_text f icmp_type icmp_code =
@@ -105,12 +92,10 @@ header_text f icmp_type icmp_code =
 
 -- ---- what is wrong
 
--- Pinned by: `worked/summary`
 -- the note about the checksum of an IPv4 header (`enum lk_verdict`)
 abbrev pub ipv4_note : ℕ → List ℕ
 ipv4_note verdict = if verdict == 2 then codes " (header checksum incorrect)" else []
 
--- Pinned by: `worked/summary`
 -- the note about the checksum of a transport header (`enum lk_verdict`)
 abbrev pub transport_note : ℕ → List ℕ
 transport_note verdict =
@@ -120,7 +105,6 @@ transport_note verdict =
     else if verdict == 5 then codes " (checksum cut)"
     else []
 
--- Pinned by: `worked/summary`
 -- the note about a rejected header (`enum lk_reason`)
 abbrev pub reason_note : ℕ → List ℕ
 reason_note reason =
@@ -135,7 +119,6 @@ reason_note reason =
     else if reason == 9 then codes " (unknown link)"
     else []
 
--- Pinned by: `worked/summary`
 -- the line of a frame with an ICMP message of this type and code, if it has one
 abbrev pub frame_line : FrameFields → ℕ → ℕ → List ℕ
 frame_line f icmp_type icmp_code =

@@ -1,4 +1,5 @@
 -- Whole frames as values: parsed, emitted and printed.
+-- Pinned by: `wire/frame`, `FrameOnce`, `calls/again`, `apps/uses`, `UnreadWorked`
 use Rattle.std.specs.Prelude.{List, ℕ, [], ⊤, ◌≡◌, ◌≤◌, ◌++◌, ◌+◌, Option, Some, None, Result, Ok, Err, MatchOption, drop, length, true}
 use Rattle.std.specs.Option.{option_and_then, option_map, option_map_or}
 use Rattle.ip_wire.specs.Frame as frame
@@ -25,7 +26,6 @@ use Rattle.wire_tcp.specs.TcpRepr as tcp
 
 -- ---- what a packet carries
 
--- Pinned by: `wire/frame`
 -- the values of a parsed transport, without borrows; none for bytes that do not parse
 abbrev pub transport_of : Transport → Option frame.Transport
 transport_of (transport.Udp u payload) = Some (frame.datagram u payload.now)
@@ -33,60 +33,49 @@ transport_of (transport.Tcp u) = Some (frame.segment (tcp.header_of u) u.payload
 transport_of (transport.Other payload) = Some (frame.other payload.now)
 transport_of (transport.Unread kept) = None
 
--- Pinned by: `wire/frame`
 -- the bytes of a transport that do not parse
 abbrev pub kept_of : Transport → List ℕ
 kept_of (transport.Unread kept) = kept.now
 kept_of _ = []
 
--- Pinned by: laws `frame_reads_back`, `frame_rebuilds`; `wire/frame`
 -- the emitted bytes of a transport in a packet with this header; bytes that do not parse are copied
 abbrev pub transport_bytes : ChecksumCapabilities → IpRepr → Transport → List ℕ
 transport_bytes caps v t =
     option_map_or (λ read. (describe_transport read).bytes caps (src_addr_of v) (dst_addr_of v)) (transport_of t) (kept_of t)
 
--- Pinned by: `wire/frame`
 -- the number of bytes of a transport with its header
 abbrev pub transport_len : Transport → ℕ
 transport_len t = option_map_or (λ read. (describe_transport read).len) (transport_of t) (length (kept_of t))
 
--- Pinned by: `wire/frame`; too wide: law `frame_reads_back`
 -- the length fields of the transport header can express its lengths
 abbrev pub FitsTransport : Transport → Type 0
 FitsTransport t = MatchOption (transport_of t) ⊤ (λ read. (describe_transport read).fits)
 
--- Pinned by: `wire/frame`; too wide: law `frame_reads_back`
 -- the IP header names this transport, and no port is 0 that must not be
 abbrev pub NamesTransport : IpRepr → Transport → Type 0
 NamesTransport v t = MatchOption (transport_of t) ⊥ (λ read. (describe_transport read).named_by v)
 
--- Pinned by: `wire/frame`
 -- the line of a transport; bytes that do not parse have none
 abbrev pub transport_text : Transport → List ℕ
 transport_text t = option_map_or (λ read. (describe_transport read).text) (transport_of t) []
 
--- Pinned by: `wire/frame`
 -- the payload of a transport, if it parses
 abbrev pub transport_payload : Transport → Option (List ℕ)
 transport_payload t = option_map (λ read. (describe_transport read).payload) (transport_of t)
 
--- Pinned by: law `frame_reads_back`
 -- the normal form of a transport, if it parses
 abbrev pub normal_transport_of : Transport → Option frame.Transport
 normal_transport_of t = option_map frame.normal_transport (transport_of t)
 
--- Pinned by: `wire/frame`, `calls/again`
 -- the payload of a packet with this header parses as this transport
 abbrev pub ParsesTransport : ChecksumCapabilities → IpRepr → List ℕ → Transport → Type 0
 ParsesTransport caps v bytes t = (read : frame.Transport) × (transport_of t ≡ Some read) × ReadsTransport caps v bytes read
 
--- Pinned by: proof of `udp_packet`
 -- the result is this transport
 abbrev pub GivesTransport : {E : Type 0} → Result Transport E → frame.Transport → Type 0
 GivesTransport (Ok t) read = transport_of t ≡ Some read
 GivesTransport (Err e) read = ⊥
 
--- Pinned by: law `frame_rebuilds`; `wire/frame`; too wide: `FrameOnce`
 -- the payload of a packet with this header parses as this transport, or it does not parse and its bytes are kept
 abbrev pub FindsTransport : ChecksumCapabilities → IpRepr → List ℕ → Transport → Type 0
 FindsTransport caps v bytes t =
@@ -95,29 +84,24 @@ FindsTransport caps v bytes t =
 
 -- ---- what a frame carries
 
--- Pinned by: law `frame_rebuilds`; too wide: `FrameOnce`
 -- The bytes begin with an IP header of the version that the type names. Its checksum is valid if it is verified.
 abbrev pub ReadsHeader : ChecksumCapabilities → EthernetProtocol → List ℕ → IpRepr → Type 0
 ReadsHeader caps t bytes v = (t ≡ type_of v) × ip.ReadsHeader bytes (verifies caps.ipv4) v
 
--- Pinned by: law `frame_rebuilds`; `wire/frame`; too wide: `FrameOnce`
 -- the payload of a frame of this type is no ARP packet, and begins with no IP header
 pub record ReadsNothing (caps : ChecksumCapabilities) (t : EthernetProtocol) (bytes : List ℕ) : Type 0 where
   pub no_message : (v : ArpRepr) → t ≡ ethertype.Arp → ¬ arp.Reads bytes v
   pub no_header : (v : IpRepr) → ¬ ReadsHeader caps t bytes v
 
--- Pinned by: laws `frame_reads_back`, `frame_rebuilds`; `wire/frame`
 -- the emitted bytes of an IP packet: its header gets the length of the transport
 abbrev pub packet_bytes : ChecksumCapabilities → IpRepr → Transport → List ℕ
 packet_bytes caps v t = ip.bytes_of (with_payload_len v (transport_len t)) (computes caps.ipv4) ++ transport_bytes caps v t
 
--- Pinned by: `wire/frame`
 -- the printed text of an IP header
 abbrev pub header_text : IpRepr → List ℕ
 header_text (Ipv4 v) = ipv4_text.value_text v
 header_text (Ipv6 v) = ipv6_text.value_text v
 
--- Pinned by: the definitions below, which apply it
 -- What is defined for each kind of payload of a frame: an ARP packet, an IP packet, a fragment, or bytes that do not
 -- parse.
 pub record CarriedDescription : Type 1 where
@@ -201,58 +185,47 @@ describe_carried (carried.Packet v inner) = describe_packet v inner
 describe_carried (carried.Fragment part) = describe_fragment (ipv4.packet_bytes part)
 describe_carried (carried.Unread kept) = describe_kept kept.now (λ caps t bytes. ReadsNothing caps t bytes × (kept.now ≡ bytes)) []
 
--- Pinned by: `wire/frame`
 -- the values of what a frame carries, without borrows, if all of them were parsed
 abbrev pub carried_of : Carried → Option frame.Carried
 carried_of c = (describe_carried c).value
 
--- Pinned by: law `frame_reads_back`
 -- the normal form of what a frame carries, if all of it was parsed
 abbrev pub normal_carried_of : Carried → Option frame.Carried
 normal_carried_of c = (describe_carried c).normal
 
--- Pinned by: laws `frame_reads_back`, `frame_rebuilds`; `wire/frame`
 -- the emitted bytes of what a frame carries
 abbrev pub carried_bytes : ChecksumCapabilities → Carried → List ℕ
 carried_bytes caps c = (describe_carried c).bytes caps
 
--- Pinned by: `wire/frame`
 -- the number of bytes of what a frame carries
 abbrev pub carried_len : Carried → ℕ
 carried_len c = (describe_carried c).len
 
--- Pinned by: `wire/frame`
 -- the innermost payload of what a frame carries, if all of it was parsed; ARP has none
 abbrev pub carried_payload : Carried → Option (List ℕ)
 carried_payload c = (describe_carried c).payload
 
--- Pinned by: `wire/frame`; too wide: law `frame_reads_back`
 -- the length fields of the headers in a frame's payload can express their lengths
 abbrev pub FitsCarried : Carried → Type 0
 FitsCarried c = (describe_carried c).fits
 
--- Pinned by: `wire/frame`; too wide: law `frame_reads_back`
 -- an EtherType names what the frame carries, and each header in it names what follows
 abbrev pub AgreesCarried : EthernetProtocol → Carried → Type 0
 AgreesCarried t c = (describe_carried c).named_by t
 
--- Pinned by: law `frame_rebuilds`; `wire/frame`; too wide: `FrameOnce`
 -- the payload of a frame of this type is parsed up to a header that does not parse, and the bytes from there on are
 -- kept
 abbrev pub FindsCarried : ChecksumCapabilities → EthernetProtocol → List ℕ → Carried → Type 0
 FindsCarried caps t bytes c = (describe_carried c).found_in caps t bytes
 
--- Pinned by: `wire/frame`
 -- the printed lines of what a frame carries; bytes that do not parse have none
 abbrev pub carried_text : Carried → List ℕ
 carried_text c = (describe_carried c).text
 
--- Pinned by: `wire/frame`, `calls/again`
 -- the payload of a frame of this type parses as these values
 abbrev pub ParsesCarried : ChecksumCapabilities → EthernetProtocol → List ℕ → Carried → Type 0
 ParsesCarried caps t bytes c = (read : frame.Carried) × (carried_of c ≡ Some read) × ReadsCarried caps t bytes read
 
--- Pinned by: proof of `udp_packet`
 -- the result is these values
 abbrev pub GivesCarried : {E : Type 0} → Result Carried E → frame.Carried → Type 0
 GivesCarried (Ok c) read = carried_of c ≡ Some read
@@ -260,72 +233,59 @@ GivesCarried (Err e) read = ⊥
 
 -- ---- whole frames
 
--- Pinned by: proof of `udp_packet`; `wire/frame`
 -- the frame parses as this value
 abbrev pub Parses : ChecksumCapabilities → List ℕ → Frame → Type 0
 Parses caps bytes f = (read : frame.Carried) × (carried_of f.carried ≡ Some read) × ReadsFrame caps bytes f.header read
 
--- Pinned by: proof of `udp_packet`
 -- the result is these values
 abbrev pub Gives : {E : Type 0} → Result Frame E → EthernetRepr → frame.Carried → Type 0
 Gives (Ok f) header read = (f.header ≡ header) × (carried_of f.carried ≡ Some read)
 Gives (Err e) header read = ⊥
 
--- Pinned by: law `frame_rebuilds`; `wire/frame`; too wide: `FrameOnce`
 -- the frame is parsed up to a header that does not parse, and the bytes from there on are kept
 pub record Finds (caps : ChecksumCapabilities) (bytes : List ℕ) (f : Frame) : Type 0 where
   pub header : ethernet.Reads bytes f.header
   pub carried : FindsCarried caps f.header.ethertype (drop 14 bytes) f.carried
 
--- Pinned by: laws `frame_reads_back`, `frame_rebuilds`; `wire/frame`
 -- the emitted bytes of a frame
 abbrev pub frame_bytes : ChecksumCapabilities → Frame → List ℕ
 frame_bytes caps f = ethernet.bytes_of f.header ++ carried_bytes caps f.carried
 
--- Pinned by: `wire/frame`
 -- the number of bytes of an emitted frame
 abbrev pub frame_len : Frame → ℕ
 frame_len f = 14 + carried_len f.carried
 
--- Pinned by: `wire/frame`; too wide: law `frame_reads_back`
 -- the length fields of the headers of a frame can express their lengths
 abbrev pub Fits : Frame → Type 0
 Fits f = FitsCarried f.carried
 
--- Pinned by: `wire/frame`; too wide: law `frame_reads_back`
 -- each header of a frame names what follows it
 abbrev pub Agrees : Frame → Type 0
 Agrees f = AgreesCarried f.header.ethertype f.carried
 
--- Pinned by: law `frame_composes`
 -- the bytes parse layer by layer as the normal forms of this header and of what it carries
 abbrev pub Composes : ChecksumCapabilities → List ℕ → EthernetRepr → Carried → Type 0
 Composes caps bytes header c =
     (read : frame.Carried) × (normal_carried_of c ≡ Some read) × ReadsFrame caps bytes (ethernet.normal header) read
 
--- Pinned by: laws `frame_reads_back`, `composes_once`
 -- the bytes parse as the normal form of this value
 abbrev pub ReadsNormalOf : ChecksumCapabilities → List ℕ → Frame → Type 0
 ReadsNormalOf caps bytes f = Composes caps bytes f.header f.carried
 
--- Pinned by: `UnreadWorked`; law `frame_composes`; proof of `write_udp`
 -- each checksum of these headers that the receiver verifies was computed by the sender
 abbrev pub Computes : ChecksumCapabilities → ChecksumCapabilities → Carried → Type 0
 Computes sent received c = (describe_carried c).computed sent received
 
 -- ---- frames that are put together
 
--- Pinned by: `wire/frame`
 -- the protocol that the header before this transport must name; bytes of another protocol keep that of their header
 abbrev pub protocol_before : IpRepr → Transport → IpProtocol
 protocol_before v t = option_map_or (λ p. p) (option_and_then (λ read. (describe_transport read).protocol) (transport_of t)) (ip.next_header_of v)
 
--- Pinned by: `wire/frame`; `apps/uses`
 -- the packet of this header and transport, with the protocol and the length of the transport in the header
 abbrev pub packet_around : IpRepr → Transport → Carried
 packet_around v t = carried.Packet (header_before v (protocol_before v t) (transport_len t)) t
 
--- Pinned by: `wire/frame`; `apps/uses`
 -- the frame between two hosts with a packet of this header and transport
 abbrev pub frame_around : EthernetAddress → EthernetAddress → IpRepr → Transport → Frame
 frame_around src dst v t = record {
@@ -333,7 +293,6 @@ frame_around src dst v t = record {
   carried = packet_around v t;
 }
 
--- Pinned by: `wire/frame`
 -- the frame between two hosts with an ARP packet
 abbrev pub arp_frame : EthernetAddress → EthernetAddress → ArpRepr → Frame
 arp_frame src dst v = record {
@@ -341,7 +300,6 @@ arp_frame src dst v = record {
   carried = carried.Arp v;
 }
 
--- Pinned by: `wire/frame`
 -- the printed text of a frame: a line for each layer, without a line feed after the last
 abbrev pub frame_text : Frame → List ℕ
 frame_text f = ethernet.header_text f.header ++ carried_text f.carried

@@ -1,11 +1,11 @@
 -- Why the IP header of a frame is rejected.
+-- Pinned by: `apps/router`, `apps/nat`
 use Rattle.std.specs.Prelude.{ℕ, ◌==◌, if◌then◌else◌, is_none, false, List, Option, Some, None, take}
 use Rattle.wire_checksum.specs.WordSum.{sum_of_bytes}
 use Rattle.wire_ipv4.specs.Ipv4.{header_len, ipv4_of}
 use Rattle.ip_wire.specs.declared.frame.header.HeaderFault.{HeaderFault}
 use Rattle.ip_wire.specs.declared.frame.header.HeaderFault.TheVariants.{BadHeader, WrongChecksum}
 
--- Pinned by: `apps/router`, `apps/nat`
 -- why the header of an IPv4 packet is rejected: its version or its lengths are wrong, or else its checksum
 abbrev pub ipv4_fault : List ℕ → Option HeaderFault
 ipv4_fault bytes =

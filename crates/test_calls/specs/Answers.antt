@@ -1,7 +1,7 @@
 -- The answer of the program to a text.
+-- Pinned by: `calls/eth`, `calls/ip`, `calls/endpoint`
 use Rattle.std.specs.Prelude.{ℕ, ◌≡◌, ◌⊎◌, List, ◌++◌, codes, Option, IfSome, Result, Ok, Err, IsUtf8}
 
--- Pinned by: `calls/eth`, `calls/ip`, `calls/endpoint`
 -- `ok` and the printed text of the value that the bytes parse as; `err` if they are not UTF-8 or do not parse
 abbrev pub IsAnswer : {A E : Type 0} → (List ℕ → Result A E → Type 0) → (A → Option (List ℕ)) → List ℕ → List ℕ → Type 0
 IsAnswer {A} {E} gives output bytes answer =

@@ -1,9 +1,9 @@
 -- When the search for an option agrees with the summary of the list.
+-- Pinned by: `apps/sack`
 use Rattle.std.specs.Prelude.{ℕ, ◌≡◌, List, MatchOption, Ok, Some, map}
 use Rattle.ip_wire.specs.TcpItems.{IsOptionList, Item}
 use Rattle.ip_wire.specs.TcpWalk.{Answers, first_of}
 
--- Pinned by: proof of `sack_by_summary`; `apps/sack`
 -- The first option of a kind in the list has this value; or there is none in the list, and the search after its end
 -- finds none.
 abbrev pub AgreesWith : {A : Type 0} → List ℕ → ℕ → (Item → A) → A → A → Type 0

@@ -1,4 +1,5 @@
 -- When `==` returns true for values that borrow: two references are equal if the borrowed bytes are.
+-- Pinned by: `apps/promises`, `promises/equality`
 use Rattle.std.specs.Prelude.{Bool, ◌≡◌, ◌↔◌, ⊤, true}
 use Rattle.ip_wire.specs.Ipv4 as ipv4
 use Rattle.ip_wire.specs.TcpRepr as tcp
@@ -11,12 +12,10 @@ use Rattle.ip_wire.specs.declared.TcpRepr.{TcpRepr}
 use Rattle.ip_wire.specs.declared.Transport.{Transport}
 use Rattle.ip_wire.specs.declared.Transport.TheVariants as transport
 
--- Pinned by: `apps/promises`
 -- `==` returns true exactly for values with this relation
 abbrev pub Compares : {T : Type 0} → (T → T → Type 0) → (T → T → Bool) → Type 0
 Compares {T} Same eq = (a b : T) → (eq a b ≡ true) ↔ Same a b
 
--- Pinned by: `apps/promises`; too wide: `promises/equality`
 -- the options have the same kind and the same data
 abbrev pub SameOption : TcpOption → TcpOption → Type 0
 SameOption option.EndOfList option.EndOfList = ⊤
@@ -29,12 +28,10 @@ SameOption (option.TimeStamp m e) (option.TimeStamp n f) = (m ≡ n) × (e ≡ f
 SameOption (option.Unknown k p) (option.Unknown l q) = (k ≡ l) × (p.now ≡ q.now)
 SameOption _ _ = ⊥
 
--- Pinned by: `apps/promises`; too wide: `promises/equality`
 -- the segments have equal headers and payloads
 abbrev pub SameSegment : TcpRepr → TcpRepr → Type 0
 SameSegment v w = (tcp.header_of v ≡ tcp.header_of w) × (v.payload.now ≡ w.payload.now)
 
--- Pinned by: `apps/promises`; too wide: `promises/equality`
 -- the transports have the same variant, equal headers and equal bytes
 abbrev pub SameTransport : Transport → Transport → Type 0
 SameTransport (transport.Udp v p) (transport.Udp w q) = (v ≡ w) × (p.now ≡ q.now)
@@ -43,7 +40,6 @@ SameTransport (transport.Other p) (transport.Other q) = p.now ≡ q.now
 SameTransport (transport.Unread p) (transport.Unread q) = p.now ≡ q.now
 SameTransport _ _ = ⊥
 
--- Pinned by: `apps/promises`; too wide: `promises/equality`
 -- the payloads of frames have the same variant, equal headers and equal bytes
 abbrev pub SameCarried : Carried → Carried → Type 0
 SameCarried (carried.Arp v) (carried.Arp w) = v ≡ w
@@ -52,7 +48,6 @@ SameCarried (carried.Fragment p) (carried.Fragment q) = ipv4.packet_bytes p ≡ 
 SameCarried (carried.Unread p) (carried.Unread q) = p.now ≡ q.now
 SameCarried _ _ = ⊥
 
--- Pinned by: `apps/promises`; too wide: `promises/equality`
 -- the frames have equal Ethernet headers and the same payload
 abbrev pub SameFrame : Frame → Frame → Type 0
 SameFrame f g = (f.header ≡ g.header) × SameCarried f.carried g.carried

@@ -1,9 +1,9 @@
 -- The order of numbers with names.
+-- Pinned by: `wire/orders`
 use Rattle.std.specs.Prelude.{ℕ}
 use Rattle.std.specs.Ordering.{nat_cmp, ordering_then}
 use Rattle.std.specs.declared.cmp.Ordering.{Ordering}
 
--- Pinned by: `wire/orders`
 -- the order of values that are numbers with or without a name: those with a name, for which is_unknown is 0, come
 -- first; otherwise the numbers decide
 abbrev pub named_cmp : {T : Type 0} → (T → ℕ) → (T → ℕ) → T → T → Ordering

@@ -1,30 +1,27 @@
 -- The bits of addresses, and prefixes: the first bits (RFC 4632, section 3.1; RFC 4291, section 2.3).
+-- Pinned by: `calls/prefix`, `wire/ipv4_address`, `calls/block`, `calls/worked_addresses`, `ClassWorked`
+-- Pinned by: `calls/netmask`, `wire/ipv6_address`
 use Rattle.std.specs.Prelude.{ℕ, ◌≡◌, ◌<◌, ◌≤◌, ◌+◌, ◌-◌, ◌*◌, ◌/◌, ◌%◌, ◌^◌, List, [], ◌∷◌, length, slice_index}
 use Rattle.std.specs.Int.{bit_at}
 
--- Pinned by: `calls/prefix`
 -- bit k of a list of bytes, counted from the highest bit of the first byte; past the last byte all bits are 0
 abbrev pub bit_of : List ℕ → ℕ → ℕ
 bit_of bytes k = bit_at (slice_index bytes (k / 8)) (7 - k % 8)
 
--- Pinned by: `wire/ipv4_address`
 -- the bytes as one big-endian number
 abbrev pub number_of : List ℕ → ℕ
 number_of [] = 0
 number_of (byte ∷ bytes) = byte * 2 ^ (8 * length bytes) + number_of bytes
 
--- Pinned by: `calls/block`; `calls/worked_addresses`; too wide: `ClassWorked`
 -- the first n bits of two addresses are the same
 abbrev pub AgreeFirst : ℕ → List ℕ → List ℕ → Type 0
 AgreeFirst n xs ys = (k : ℕ) → k < n → bit_of xs k ≡ bit_of ys k
 
--- Pinned by: `calls/prefix`, `calls/netmask`; too wide: law `one_netmask`
 -- the netmask of a prefix length: n ones, then zeros
 pub record IsNetmask (n : ℕ) (bytes : List ℕ) : Type 0 where
   pub ones : (k : ℕ) → k < n → bit_of bytes k ≡ 1
   pub zeros : (k : ℕ) → n ≤ k → bit_of bytes k ≡ 0
 
--- Pinned by: `wire/ipv6_address`; too wide: law `one_masked_address`
 -- the address with zeros after its first n bits
 pub record IsMasked (n : ℕ) (bytes masked : List ℕ) : Type 0 where
   pub kept : AgreeFirst n bytes masked

@@ -1,13 +1,12 @@
 -- Up to six bytes in an array of six.
+-- Pinned by: `wire/raw_hardware_address`
 use Rattle.std.specs.Prelude.{ℕ, ◌≡◌, ◌≤◌, ◌-◌, List, ◌++◌, length, replicate, take}
 use Rattle.wire_addr.specs.Bytes.{IsByteArray}
 
--- Pinned by: `wire/raw_hardware_address`
 -- the bytes, padded with zeros to six
 abbrev pub with_zeros : List ℕ → List ℕ
 with_zeros bytes = bytes ++ replicate (6 - length bytes) 0
 
--- Pinned by: `wire/raw_hardware_address`
 -- the array of six bytes has zeros after its first `len` bytes
 pub record HasZerosAfter (len : ℕ) (array : List ℕ) : Type 0 where
   pub within : len ≤ 6

@@ -1,4 +1,5 @@
 -- The fields of an ARP packet in the order of RFC 826, and which of them each call reads or writes.
+-- Pinned by: `tests/docs/diagrams.py`
 use Rattle.std.specs.Prelude.{ℕ, ◌≡◌, ◌*◌, List, [], ◌∷◌, length, slice_index, ⊤}
 use Rattle.wire_field.specs.Diagram.{nth_field, with_nth}
 use Rattle.byteorder.specs.Endian.{big_number}
@@ -11,13 +12,11 @@ use Rattle.wire_arp.specs.declared.laws.ArpGetting.TheVariants as get
 use Rattle.wire_arp.specs.declared.laws.ArpSetting.{ArpSetting}
 use Rattle.wire_arp.specs.declared.laws.ArpSetting.TheVariants as set
 
--- Pinned by: `tests/docs/diagrams.py`
 -- the widths of the fields in bits: hardware type, protocol type; their lengths, operation; the two addresses of the
 -- source and those of the target, of 6 and 4 bytes
 abbrev pub diagram : List ℕ
 diagram = 16 ∷ 16 ∷ 8 ∷ 8 ∷ 16 ∷ 48 ∷ 32 ∷ 48 ∷ 32 ∷ []
 
--- Pinned by: law `ethernet_ipv4_has_the_diagram_arp`
 -- the widths of the fields in bits, with addresses of the lengths that the bytes say
 abbrev pub widths : List ℕ → List ℕ
 widths bytes =
@@ -27,7 +26,6 @@ widths bytes =
 
 -- ---- getters
 
--- Pinned by: law `getters_read_fields_arp`
 -- the index of the field that a getter reads
 abbrev pub read_of : ArpGetting → ℕ
 read_of get.HardwareType = 0
@@ -36,12 +34,10 @@ read_of get.HardwareLen = 2
 read_of get.ProtocolLen = 3
 read_of get.Operation = 4
 
--- Pinned by: law `getters_read_fields_arp`
 -- the number that a getter returns
 abbrev pub got : ArpGetting → List ℕ → ℕ
 got getting = nth_field diagram (read_of getting)
 
--- Pinned by: law `address_getters_read_fields_arp`
 -- the index of the field that the getter of an address reads
 abbrev pub address_of : ArpAddressGetting → ℕ
 address_of address.SourceHardwareAddr = 5
@@ -49,7 +45,6 @@ address_of address.SourceProtocolAddr = 6
 address_of address.TargetHardwareAddr = 7
 address_of address.TargetProtocolAddr = 8
 
--- Pinned by: law `address_getters_read_fields_arp`
 -- what the getter of an address returns: as many bytes as its field has, with the value of the field
 pub record IsGot (getting : ArpAddressGetting) (octets bytes : List ℕ) : Type 0 where
   pub width : 8 * length octets ≡ slice_index (widths bytes) (address_of getting)
@@ -57,7 +52,6 @@ pub record IsGot (getting : ArpAddressGetting) (octets bytes : List ℕ) : Type 
 
 -- ---- setters
 
--- Pinned by: law `setter_writes_one_field_arp`
 -- the index of the field that a setter writes, and its argument as a number
 abbrev pub write_of : ArpSetting → ℕ × ℕ
 write_of (set.HardwareType x) = (0, hardware_number x)
@@ -70,7 +64,6 @@ write_of (set.SourceProtocolAddr x) = (6, big_number (length x.now) x.now)
 write_of (set.TargetHardwareAddr x) = (7, big_number (length x.now) x.now)
 write_of (set.TargetProtocolAddr x) = (8, big_number (length x.now) x.now)
 
--- Pinned by: law `setter_writes_one_field_arp`
 -- the argument fits: an address that is written has the length that the packet says
 abbrev pub Fits : ArpSetting → List ℕ → Type 0
 Fits (set.SourceHardwareAddr x) bytes = length x.now ≡ nth_field diagram 2 bytes
@@ -79,7 +72,6 @@ Fits (set.TargetHardwareAddr x) bytes = length x.now ≡ nth_field diagram 2 byt
 Fits (set.TargetProtocolAddr x) bytes = length x.now ≡ nth_field diagram 3 bytes
 Fits setting bytes = ⊤
 
--- Pinned by: law `setter_writes_one_field_arp`
 -- the bytes after a call of a setter
 abbrev pub after : ArpSetting → List ℕ → List ℕ
 after setting bytes = let write = write_of setting in with_nth (widths bytes) write.0 write.1 bytes

@@ -1,4 +1,5 @@
 -- The texts that ARP packets print as.
+-- Pinned by: `wire/arp`, `cases/arp_shapes`, `cases/arp_lengths`
 use Rattle.std.specs.Prelude.{ℕ, ◌++◌, ◌&&◌, nat_le, if◌then◌else◌, Bool, List, codes, decimal, length}
 use Rattle.std.specs.List.{join_by}
 use Rattle.std.specs.Option.{option_map_or}
@@ -45,7 +46,6 @@ list_text bytes = codes "[" ++ join_by decimal (codes ", ") bytes ++ codes "]"
 
 -- ---- texts
 
--- Pinned by: `wire/arp`, `cases/arp_shapes`
 -- the printed text of an ARP packet's values
 unfoldable pub value_text : ArpRepr → List ℕ
 value_text (EthernetIpv4 operation source_hardware source_protocol target_hardware target_protocol) =
@@ -70,12 +70,10 @@ fields_text bytes =
     numbers_text (hardware_of (field bytes 0 16)) (protocol_of (field bytes 16 16)) (hardware_len bytes) (protocol_len bytes) (operation_of (field bytes 48 16))
     ++ addresses_text bytes
 
--- Pinned by: `cases/arp_lengths`
 -- whether the lengths are valid
 abbrev pub has_lengths : List ℕ → Bool
 has_lengths bytes = nat_le 8 (length bytes) && nat_le (target_protocol_end bytes) (length bytes)
 
--- Pinned by: `wire/arp`, `cases/arp_shapes`
 -- the printed text of a packet: that of its values, or that of its fields if it is not for Ethernet and IPv4, or that
 -- the lengths are invalid
 unfoldable pub packet_text : List ℕ → List ℕ

@@ -1,4 +1,5 @@
 -- Addresses of either IP version.
+-- Pinned by: `calls/worked_addresses`, `wire/ip_address`, `wire/checksum`, `calls/ip`, `calls/block`, `wire/orders`
 use Rattle.std.specs.Prelude.{ℕ, ◌≡◌, ◌++◌, List, pos}
 use Rattle.std.specs.Cmp.Lexicographic.{slice_cmp}
 use Rattle.std.specs.Hash as hash
@@ -15,37 +16,31 @@ use Rattle.wire_ends.specs.declared.ip_address.IpAddress.TheVariants.{Ipv4, Ipv6
 use Rattle.wire_ends.specs.declared.ip_version.IpVersion.{IpVersion}
 use Rattle.wire_ends.specs.declared.ip_version.IpVersion.TheVariants as version
 
--- Pinned by: `wire/ip_address`, `wire/checksum`
 -- the IP version of an address
 abbrev pub version_of : IpAddress → IpVersion
 version_of (Ipv4 bytes) = version.Ipv4
 version_of (Ipv6 bytes) = version.Ipv6
 
--- Pinned by: `calls/worked_addresses`; `calls/ip`
 -- the printed text of an IP address
 abbrev pub address_text : IpAddress → List ℕ
 address_text (Ipv4 bytes) = dotted bytes
 address_text (Ipv6 bytes) = ipv6_text bytes
 
--- Pinned by: `wire/ip_address`, `wire/checksum`
 -- the bytes of an address of either version
 abbrev pub address_bytes : IpAddress → List ℕ
 address_bytes (Ipv4 bytes) = bytes
 address_bytes (Ipv6 bytes) = bytes
 
--- Pinned by: `wire/ip_address`, `wire/checksum`
 -- the number of bits in an address of this version
 abbrev pub bits_of : IpAddress → ℕ
 bits_of (Ipv4 bytes) = 32
 bits_of (Ipv6 bytes) = 128
 
--- Pinned by: `calls/block`, by `IsWithin`
 -- the address has as many bytes as its version has
 abbrev pub IsAddress : IpAddress → Type 0
 IsAddress (Ipv4 bytes) = IsByteArray 4 bytes
 IsAddress (Ipv6 bytes) = IsByteArray 16 bytes
 
--- Pinned by: `calls/worked_addresses`; `calls/ip`
 -- the text parses as this address, in the form of its version
 abbrev pub ReadsAddress : List ℕ → IpAddress → Type 0
 ReadsAddress text (Ipv4 bytes) = ReadsIpv4 text bytes
@@ -53,25 +48,21 @@ ReadsAddress text (Ipv6 bytes) = ReadsIpv6 text bytes
 
 -- ---- classes
 
--- Pinned by: `calls/worked_addresses`
 -- a unicast address of either version
 abbrev pub IsUnicast : IpAddress → Type 0
 IsUnicast (Ipv4 bytes) = IsIpv4Unicast bytes
 IsUnicast (Ipv6 bytes) = IsIpv6Unicast bytes
 
--- Pinned by: `calls/worked_addresses`
 -- a multicast address of either version
 abbrev pub IsMulticast : IpAddress → Type 0
 IsMulticast (Ipv4 bytes) = IsIn ipv4_multicast bytes
 IsMulticast (Ipv6 bytes) = IsIn ipv6_multicast bytes
 
--- Pinned by: `calls/worked_addresses`
 -- the broadcast address, which IPv6 does not have (RFC 4291, section 2)
 abbrev pub IsBroadcast : IpAddress → Type 0
 IsBroadcast (Ipv4 bytes) = bytes ≡ ipv4_broadcast
 IsBroadcast (Ipv6 bytes) = ⊥
 
--- Pinned by: `calls/worked_addresses`
 -- the unspecified address of either version
 abbrev pub IsUnspecified : IpAddress → Type 0
 IsUnspecified (Ipv4 bytes) = bytes ≡ ipv4_unspecified
@@ -79,7 +70,6 @@ IsUnspecified (Ipv6 bytes) = bytes ≡ ipv6_unspecified
 
 -- ---- order and hash
 
--- Pinned by: law `ip_address_order`; `wire/orders`
 -- the order of addresses: IPv4 before IPv6, and addresses of one version by their bytes
 abbrev pub address_cmp : IpAddress → IpAddress → Ordering
 address_cmp (Ipv4 a) (Ipv4 b) = slice_cmp nat_cmp a b
@@ -87,7 +77,6 @@ address_cmp (Ipv4 a) (Ipv6 b) = Less
 address_cmp (Ipv6 a) (Ipv4 b) = Greater
 address_cmp (Ipv6 a) (Ipv6 b) = slice_cmp nat_cmp a b
 
--- Pinned by: law `ip_address_order`
 -- the hashed values of an address: the index of its variant, and its bytes
 abbrev pub address_hash : IpAddress → hash.HashWrites
 address_hash (Ipv4 bytes) = hash.isize (pos 0) ++ hash.slice hash.u8 bytes

@@ -1,4 +1,5 @@
 -- The IP protocol numbers and their names.
+-- Pinned by: `cases/shapes`, `wire/protocol`, `cases/ipv6_shapes`
 use Rattle.std.specs.Prelude.{ℕ, ◌++◌, ◌==◌, if◌then◌else◌, List, codes, pos}
 use Rattle.std.specs.Hash as hash
 use Rattle.std.specs.declared.cmp.Ordering.{Ordering}
@@ -7,7 +8,6 @@ use Rattle.wire_addr.specs.Printed.{hex_byte}
 use Rattle.wire_ends.specs.declared.ip_protocol.IpProtocol.{IpProtocol}
 use Rattle.wire_ends.specs.declared.ip_protocol.IpProtocol.TheVariants as protocol
 
--- Pinned by: `wire/protocol`; `cases/shapes`, `cases/ipv6_shapes`
 -- the IP protocol that a number names (IANA)
 abbrev pub protocol_of : ℕ → IpProtocol
 protocol_of n =
@@ -24,7 +24,6 @@ protocol_of n =
     if n == 59 then protocol.Ipv6NoNxt else (
     if n == 60 then protocol.Ipv6Opts else protocol.Unknown n)))))))))))
 
--- Pinned by: `wire/protocol`; `cases/shapes`, `cases/ipv6_shapes`
 -- the number of an IP protocol (IANA)
 abbrev pub number_of : IpProtocol → ℕ
 number_of protocol.HopByHop = 0
@@ -41,12 +40,10 @@ number_of protocol.Ipv6NoNxt = 59
 number_of protocol.Ipv6Opts = 60
 number_of (protocol.Unknown n) = n
 
--- Pinned by: law `emit_reads_back_ipv4`
 -- the normal form of a protocol: a number that has a name becomes that name
 abbrev pub known : IpProtocol → IpProtocol
 known p = protocol_of (number_of p)
 
--- Pinned by: `cases/shapes`
 -- the printed text of a protocol: its name, or `0x` and two hex digits
 abbrev pub protocol_text : IpProtocol → List ℕ
 protocol_text protocol.HopByHop = codes "Hop-by-Hop"
@@ -63,18 +60,15 @@ protocol_text protocol.Ipv6NoNxt = codes "IPv6-NoNxt"
 protocol_text protocol.Ipv6Opts = codes "IPv6-Opts"
 protocol_text (protocol.Unknown n) = codes "0x" ++ hex_byte n
 
--- Pinned by: law `ip_protocol_order`
 -- 1 for a protocol without a name, else 0 (`wire/orders`)
 abbrev pub is_unknown : IpProtocol → ℕ
 is_unknown (protocol.Unknown n) = 1
 is_unknown p = 0
 
--- Pinned by: law `ip_protocol_order`
 -- the order of protocols: those with a name first; otherwise by number (`wire/orders`)
 abbrev pub protocol_cmp : IpProtocol → IpProtocol → Ordering
 protocol_cmp = named_cmp is_unknown number_of
 
--- Pinned by: law `ip_protocol_order`
 -- the index of the variant of a protocol (`wire/orders`)
 abbrev pub variant_of : IpProtocol → ℕ
 variant_of protocol.HopByHop = 0
@@ -91,7 +85,6 @@ variant_of protocol.Ipv6NoNxt = 10
 variant_of protocol.Ipv6Opts = 11
 variant_of (protocol.Unknown n) = 12
 
--- Pinned by: law `ip_protocol_order`
 -- the hashed values of a protocol: the index of its variant, and the number of one without a name (`wire/orders`)
 abbrev pub protocol_hash : IpProtocol → hash.HashWrites
 protocol_hash (protocol.Unknown n) = hash.isize (pos 12) ++ hash.u8 n

@@ -1,11 +1,11 @@
 -- What a mutable view leaves in the slice that it borrows.
+-- Pinned by: `wire/nested`, `wire/arp`, `wire/ipv6fragment`
 use Rattle.std.specs.Prelude.{ℕ, ◌≡◌, ◌↔◌, IsTrue, List, Result, length}
 use Rattle.std.specs.Borrow.{MutBor, Fml, Lends, RestsIfErr, Array, u8}
 use Rattle.wire_field.specs.Field.{with_range}
 use Rattle.wire_field.specs.declared.checked.Checked.{Checked}
 use Rattle.wire_field.specs.declared.located.Located.{Located}
 
--- Pinned by: proof of `Frame::try_emit`
 -- The new slice is the same borrow as the old one, so its owner sees what is written to it. It has the same length
 -- and now holds these bytes.
 pub record Holds (old new : MutBor (List ℕ)) (bytes : List ℕ) : Type 0 where
@@ -13,13 +13,11 @@ pub record Holds (old new : MutBor (List ℕ)) (bytes : List ℕ) : Type 0 where
   pub same_length : length new.now ≡ length old.now
   pub holds : new.now ≡ bytes
 
--- Pinned by: `wire/nested`
 -- The bytes of a slice from first up to last are borrowed on. At the end of that borrow the slice has the bytes that
 -- were written to them, and its other bytes are unchanged.
 abbrev pub BorrowsPart : MutBor (List ℕ) → ℕ → ℕ → MutBor (List ℕ) → Fml
 BorrowsPart bytes first last part = Lends (Array u8 0) (Array u8 0) bytes part (with_range bytes.now first last)
 
--- Pinned by: proofs of `payload_mut`, `new_checked`
 -- The located part is the bytes of this slice from first up to last. The borrow is still the same, and its bytes are
 -- unchanged.
 pub record Locates (bytes : MutBor (List ℕ)) (first last : ℕ) (located : Located) : Type 0 where
@@ -28,7 +26,6 @@ pub record Locates (bytes : MutBor (List ℕ)) (first last : ℕ) (located : Loc
   pub start : located.start ≡ first
   pub end : located.end ≡ last
 
--- Pinned by: proofs of `payload_mut`, `new_checked`
 -- The result says whether the bytes of a slice pass a check: `ok` is true exactly if φ holds. The borrow is still the
 -- same, and its bytes are unchanged.
 pub record Checks (bytes : MutBor (List ℕ)) (φ : Type 0) (checked : Checked) : Type 0 where
@@ -36,7 +33,6 @@ pub record Checks (bytes : MutBor (List ℕ)) (φ : Type 0) (checked : Checked) 
   pub same_bytes : checked.bytes.now ≡ bytes.now
   pub ok : IsTrue checked.ok ↔ φ
 
--- Pinned by: `wire/arp`, `wire/ipv6fragment`, not if too wide
 -- An error leaves the slice unchanged. A view borrows it as `slice view`, and the slice ends with the bytes that were
 -- last written through the view.
 abbrev pub StaysIfErr : {V E : Type 0} → MutBor (List ℕ) → (V → MutBor (List ℕ)) → Result V E → Fml

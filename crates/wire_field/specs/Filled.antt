@@ -1,7 +1,7 @@
 -- What a call returns that writes to the front of a slice, or nothing.
+-- Pinned by: `wire/frame`, `FrameOnce`
 use Rattle.std.specs.Prelude.{ℕ, ◌≡◌, ◌≤◌, ◌<◌, ◌++◌, List, Option, MatchOption, drop, length}
 
--- Pinned by: proof of `write_udp`; `wire/frame`; too wide: `FrameOnce`
 -- the bytes, `len` of them, are at the front of the slice, and `len` is returned; if they do not fit, nothing is
 -- returned and the slice is unchanged
 abbrev pub Fills : List ℕ → ℕ → List ℕ → List ℕ → Option ℕ → Type 0

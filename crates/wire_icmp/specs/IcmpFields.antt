@@ -9,17 +9,14 @@ use Rattle.wire_icmp.specs.declared.laws.IcmpGetting.TheVariants as get
 use Rattle.wire_icmp.specs.declared.laws.IcmpSetting.{IcmpSetting}
 use Rattle.wire_icmp.specs.declared.laws.IcmpSetting.TheVariants as set
 
--- Pinned by: law `setter_writes_one_field_icmp`
 -- the widths of the fields in bits: type, code, checksum, and a word whose meaning depends on the type
 abbrev pub diagram : List ℕ
 diagram = 8 ∷ 8 ∷ 16 ∷ 32 ∷ []
 
--- Pinned by: law `setter_writes_one_field_icmp`
 -- the widths of the fields of an echo message in bits: type, code, checksum, identifier, sequence number
 abbrev pub echo_diagram : List ℕ
 echo_diagram = 8 ∷ 8 ∷ 16 ∷ 16 ∷ 16 ∷ []
 
--- Pinned by: law `getters_read_fields_icmp`
 -- the index of the field that a getter reads
 abbrev pub read_of : IcmpGetting → ℕ
 read_of get.MsgType = 0
@@ -28,13 +25,11 @@ read_of get.Checksum = 2
 read_of get.Word = 3
 read_of get.EchoIdent = 3
 
--- Pinned by: law `getters_read_fields_icmp`
 -- the number that a getter returns
 abbrev pub got : IcmpGetting → List ℕ → ℕ
 got get.EchoIdent = nth_field echo_diagram (read_of get.EchoIdent)
 got getting = nth_field diagram (read_of getting)
 
--- Pinned by: law `setter_writes_one_field_icmp`
 -- the index of the field that a setter writes, and its argument
 abbrev pub write_of : IcmpSetting → ℕ × ℕ
 write_of (set.MsgType x) = (0, x)
@@ -43,18 +38,15 @@ write_of (set.Checksum x) = (2, x)
 write_of (set.Word x) = (3, x)
 write_of (set.EchoIdent x) = (3, x)
 
--- Pinned by: law `setter_writes_one_field_icmp`
 -- the bytes after a call of a setter
 abbrev pub after : IcmpSetting → List ℕ → List ℕ
 after (set.EchoIdent x) = with_nth echo_diagram 3 x
 after setting = let write = write_of setting in with_nth diagram write.0 write.1
 
--- Pinned by: law `fill_checksum_writes_one_field_icmp`
 -- the bytes after the checksum was computed, over all bytes, with 0 in the checksum field
 abbrev pub after_fill : IpAddress → IpAddress → List ℕ → List ℕ
 after_fill src dst bytes = with_nth diagram 2 (65535 - message_sum src dst (with_nth diagram 2 0 bytes)) bytes
 
--- Pinned by: law `update_checksum_writes_one_field_icmp`
 -- the bytes with the checksum updated for words that change from the sum old to the sum new; the new checksum is
 -- never 0
 abbrev pub with_sums : ℕ → ℕ → List ℕ → List ℕ

@@ -1,4 +1,5 @@
 -- The printed texts of ICMP messages.
+-- Pinned by: `wire/icmp`
 use Rattle.std.specs.Prelude.{ℕ, ◌++◌, if◌then◌else◌, List, codes, decimal, length}
 use Rattle.wire_field.specs.Field.{field}
 use Rattle.wire_icmp.specs.Icmp.{has_header, payload_of}
@@ -9,7 +10,6 @@ use Rattle.wire_icmp.specs.declared.icmp.reason.Unreachable.TheVariants as unrea
 use Rattle.wire_icmp.specs.declared.icmp.reason.Exceeded.{Exceeded}
 use Rattle.wire_icmp.specs.declared.icmp.reason.Exceeded.TheVariants as exceeded
 
--- Pinned by: `wire/icmp`
 -- the printed text of a message: its type, its code and its payload length, or that it has no whole header
 abbrev pub packet_text : List ℕ → List ℕ
 packet_text bytes =
@@ -17,7 +17,6 @@ packet_text bytes =
     then codes "ICMP type=" ++ decimal (field bytes 0 8) ++ codes " code=" ++ decimal (field bytes 8 8) ++ codes " len=" ++ decimal (length (payload_of bytes))
     else codes "ICMP (wire::Error)"
 
--- Pinned by: `wire/icmp`
 -- the printed text of the reason of "destination unreachable"
 abbrev pub unreachable_text : Unreachable → List ℕ
 unreachable_text unreachable.NoRoute = codes "no route"
@@ -26,14 +25,12 @@ unreachable_text unreachable.Port = codes "port"
 unreachable_text unreachable.Prohibited = codes "prohibited"
 unreachable_text (unreachable.Other code) = codes "code " ++ decimal code
 
--- Pinned by: `wire/icmp`
 -- the printed text of the reason of "time exceeded"
 abbrev pub exceeded_text : Exceeded → List ℕ
 exceeded_text exceeded.HopLimit = codes "hop limit"
 exceeded_text exceeded.Reassembly = codes "reassembly"
 exceeded_text (exceeded.Other code) = codes "code " ++ decimal code
 
--- Pinned by: `wire/icmp`
 -- the printed text of an ICMP value
 abbrev pub value_text : IcmpRepr → List ℕ
 value_text (EchoRequest ident seq_no) = codes "ICMP echo request id=" ++ decimal ident ++ codes " seq=" ++ decimal seq_no

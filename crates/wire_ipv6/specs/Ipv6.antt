@@ -1,4 +1,6 @@
 -- IPv6 headers (RFC 8200, section 3).
+-- Pinned by: `wire/ipv6`, `wire/ipv6fragment`, `cases/ipv6_versions_and_lengths`, `wire/ip`
+-- Pinned by: `cases/ipv6_truncations`, `calls/worked_headers`, `calls/header`
 use Rattle.std.specs.Prelude.{ℕ, ◌≡◌, ◌≤◌, ◌+◌, ◌++◌, ◌==◌, ◌&&◌, nat_le, if◌then◌else◌, Bool, Option, Some, None, List, [], ◌∷◌, length, slice_range}
 use Rattle.std.specs.Borrow.{Bor, MutBor}
 use Rattle.byteorder.specs.Endian.{big_bytes}
@@ -16,7 +18,6 @@ Reading = Ipv6View (Bor (List ℕ))
 abbrev pub Writing : Type 0
 Writing = Ipv6View (MutBor (List ℕ))
 
--- Pinned by: `wire/ipv6`, `wire/ipv6fragment`
 -- the slice under a view
 abbrev pub packet_slice : {B : Type 0} → Ipv6View B → B
 packet_slice p = p.buffer
@@ -33,22 +34,18 @@ packet_bytes_mut p = (packet_slice p).now
 abbrev pub Becomes : Writing → Writing → List ℕ → Type 0
 Becomes old new bytes = Holds (packet_slice old) (packet_slice new) bytes
 
--- Pinned by: `cases/ipv6_versions_and_lengths`
 -- the length of the packet in bytes: header and payload
 abbrev pub total_len : List ℕ → ℕ
 total_len bytes = 40 + field bytes 32 16
 
--- Pinned by: `wire/ip`
 -- the payload: the bytes after the header, up to the end of the packet
 abbrev pub payload_of : List ℕ → List ℕ
 payload_of bytes = slice_range bytes 40 (total_len bytes)
 
--- Pinned by: `cases/ipv6_truncations`
 -- the lengths are valid: the bytes hold a whole header, and a payload of the length that it says
 abbrev pub HasLengths : List ℕ → Type 0
 HasLengths bytes = total_len bytes ≤ length bytes
 
--- Pinned by: law `reads_once_ipv6`; `calls/worked_headers`
 -- the bytes begin with a packet that parses as this value
 pub record Reads (bytes : List ℕ) (v : Ipv6Repr) : Type 0 where
   pub lengths : HasLengths bytes
@@ -59,7 +56,6 @@ pub record Reads (bytes : List ℕ) (v : Ipv6Repr) : Type 0 where
   pub src_addr : v.src_addr ≡ slice_range bytes 8 24
   pub dst_addr : v.dst_addr ≡ slice_range bytes 24 40
 
--- Pinned by: law `reading_is_computed_ipv6`
 -- the values of the fields of an IPv6 header
 abbrev pub header_of : List ℕ → Ipv6Repr
 header_of bytes = record {
@@ -70,23 +66,19 @@ header_of bytes = record {
   hop_limit = field bytes 56 8;
 }
 
--- Pinned by: law `reading_is_computed_ipv6`
 -- whether the bytes parse
 abbrev pub is_read : List ℕ → Bool
 is_read bytes = nat_le (total_len bytes) (length bytes) && field bytes 0 4 == 6
 
--- Pinned by: law `reading_is_computed_ipv6`
 -- the value that the bytes parse as, if there is one
 unfoldable pub ipv6_of : List ℕ → Option Ipv6Repr
 ipv6_of bytes = if is_read bytes then Some (header_of bytes) else None
 
--- Pinned by: law `emit_reads_back_ipv6`; `calls/header`
 -- the header with these values: version 6, traffic class 0, flow label 0
 abbrev pub bytes_of : Ipv6Repr → List ℕ
 bytes_of v =
     (0x60 ∷ 0 ∷ 0 ∷ 0 ∷ []) ++ big_bytes 2 v.payload_len ++ (number_of v.next_header ∷ v.hop_limit ∷ []) ++ v.src_addr ++ v.dst_addr
 
--- Pinned by: law `emit_reads_back_ipv6`
 -- the normal form: the value that its header parses as; a protocol number that has a name becomes that name
 abbrev pub normal : Ipv6Repr → Ipv6Repr
 normal v = record v { next_header = known v.next_header }

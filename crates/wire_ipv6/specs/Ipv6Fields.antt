@@ -8,13 +8,11 @@ use Rattle.wire_ipv6.specs.declared.laws.Ipv6Getting.TheVariants as get
 use Rattle.wire_ipv6.specs.declared.laws.Ipv6Setting.{Ipv6Setting}
 use Rattle.wire_ipv6.specs.declared.laws.Ipv6Setting.TheVariants as set
 
--- Pinned by: law `setter_writes_one_field_ipv6`
 -- the widths of the fields in bits: version, traffic class, flow label; payload length, next header, hop limit; the
 -- two addresses
 abbrev pub diagram : List ℕ
 diagram = 4 ∷ 8 ∷ 20 ∷ 16 ∷ 8 ∷ 8 ∷ 128 ∷ 128 ∷ []
 
--- Pinned by: law `getters_read_fields_ipv6`
 -- the index of the field that a getter reads
 abbrev pub read_of : Ipv6Getting → ℕ
 read_of get.Version = 0
@@ -26,12 +24,10 @@ read_of get.HopLimit = 5
 read_of get.SrcAddr = 6
 read_of get.DstAddr = 7
 
--- Pinned by: law `getters_read_fields_ipv6`
 -- the number that a getter returns
 abbrev pub got : Ipv6Getting → List ℕ → ℕ
 got getting = nth_field diagram (read_of getting)
 
--- Pinned by: law `setter_writes_one_field_ipv6`
 -- the index of the field that a setter writes, and its argument as a number
 abbrev pub write_of : Ipv6Setting → ℕ × ℕ
 write_of (set.Version x) = (0, x)
@@ -43,7 +39,6 @@ write_of (set.HopLimit x) = (5, x)
 write_of (set.SrcAddr x) = (6, big_number 16 x)
 write_of (set.DstAddr x) = (7, big_number 16 x)
 
--- Pinned by: law `setter_writes_one_field_ipv6`
 -- the bytes after a call of a setter
 abbrev pub after : Ipv6Setting → List ℕ → List ℕ
 after setting = let write = write_of setting in with_nth diagram write.0 write.1

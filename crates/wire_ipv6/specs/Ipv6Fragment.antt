@@ -1,4 +1,5 @@
 -- IPv6 fragment headers (RFC 8200, section 4.5), without their first two bytes.
+-- Pinned by: `wire/ipv6fragment`, `calls/frag`, `cases/ipv6_fragments`, `wire/ipv6`
 use Rattle.std.specs.Prelude.{ℕ, ◌≡◌, ◌↔◌, ◌≤◌, ◌+◌, ◌*◌, ◌%◌, ◌^◌, ◌++◌, ◌==◌, nat_le, if◌then◌else◌, Bool, IsTrue, Option, Some, None, List, codes, decimal, length}
 use Rattle.std.specs.Borrow.{Bor, MutBor}
 use Rattle.std.specs.Option.{option_map_or}
@@ -16,7 +17,6 @@ Reading = Ipv6FragmentView (Bor (List ℕ))
 abbrev pub Writing : Type 0
 Writing = Ipv6FragmentView (MutBor (List ℕ))
 
--- Pinned by: `wire/ipv6`, `wire/ipv6fragment`
 -- the slice under a view
 abbrev pub header_slice : {B : Type 0} → Ipv6FragmentView B → B
 header_slice h = h.buffer
@@ -33,7 +33,6 @@ header_bytes_mut h = (header_slice h).now
 abbrev pub Becomes : Writing → Writing → List ℕ → Type 0
 Becomes old new bytes = Holds (header_slice old) (header_slice new) bytes
 
--- Pinned by: law `reads_once_ipv6_fragment`; `wire/ipv6fragment`
 -- the bytes begin with a fragment header that parses as this value; the two reserved bits are ignored
 pub record Reads (bytes : List ℕ) (v : Ipv6FragmentRepr) : Type 0 where
   pub whole : 6 ≤ length bytes
@@ -41,7 +40,6 @@ pub record Reads (bytes : List ℕ) (v : Ipv6FragmentRepr) : Type 0 where
   pub more_frags : IsTrue v.more_frags ↔ (field bytes 15 1 ≡ 1)
   pub ident : v.ident ≡ field bytes 16 32
 
--- Pinned by: law `reading_is_computed_ipv6_fragment`
 -- the values of the fields of a fragment header
 abbrev pub header_of : List ℕ → Ipv6FragmentRepr
 header_of bytes = record {
@@ -50,38 +48,31 @@ header_of bytes = record {
   ident = field bytes 16 32;
 }
 
--- Pinned by: law `reading_is_computed_ipv6_fragment`
 -- the value that the bytes parse as, if there is one
 unfoldable pub ipv6_fragment_of : List ℕ → Option Ipv6FragmentRepr
 ipv6_fragment_of bytes = if nat_le 6 (length bytes) then Some (header_of bytes) else None
 
--- Pinned by: law `emit_reads_back_ipv6_fragment`; `wire/ipv6fragment`, `calls/frag`
 -- the normal form: the value that its header parses as; the offset is cut to 13 bits
 abbrev pub normal : Ipv6FragmentRepr → Ipv6FragmentRepr
 normal v = record v { frag_offset = v.frag_offset % 2 ^ 13 }
 
--- Pinned by: `calls/frag`
 -- 1 for a flag that is set, else 0
 abbrev pub flag : Bool → ℕ
 flag set = if set then 1 else 0
 
--- Pinned by: `calls/frag`
 -- the fragment header with these values: the offset is cut to 13 bits, and the reserved bits are 0
 abbrev pub bytes_of : Ipv6FragmentRepr → List ℕ
 bytes_of v = big_bytes 2 (v.frag_offset % 2 ^ 13 * 8 + flag v.more_frags) ++ big_bytes 4 v.ident
 
--- Pinned by: `wire/ipv6fragment`; `cases/ipv6_fragments`
 -- the printed text of a flag
 abbrev pub flag_text : Bool → List ℕ
 flag_text set = if set then codes "true" else codes "false"
 
--- Pinned by: `wire/ipv6fragment`; `cases/ipv6_fragments`
 -- the printed text of a fragment header's values
 unfoldable pub value_text : Ipv6FragmentRepr → List ℕ
 value_text v =
     codes "IPv6 Fragment offset=" ++ decimal v.frag_offset ++ codes " more=" ++ flag_text v.more_frags ++ codes " ident=" ++ decimal v.ident
 
--- Pinned by: `wire/ipv6fragment`; `cases/ipv6_fragments`
 -- the printed text of a fragment header, or that the bytes hold none
 abbrev pub header_text : List ℕ → List ℕ
 header_text bytes = option_map_or value_text (ipv6_fragment_of bytes) (codes "IPv6 Fragment (wire::Error)")

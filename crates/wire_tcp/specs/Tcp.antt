@@ -1,4 +1,5 @@
 -- TCP segments (RFC 9293, section 3.1).
+-- Pinned by: `wire/tcp`, `cases/tcp_lengths`, `calls/worked_transport`, `cases/tcp_checksums`
 use Rattle.std.specs.Prelude.{ℕ, Bool, if◌then◌else◌, nat_le, ◌&&◌, ◌≡◌, ◌≤◌, ◌+◌, ◌-◌, ◌*◌, List, drop, length, slice_range}
 use Rattle.std.specs.Borrow.{Bor, MutBor}
 use Rattle.wire_ends.specs.declared.ip_address.IpAddress.{IpAddress}
@@ -10,7 +11,6 @@ use Rattle.wire_checksum.specs.WordSum.{sum_of_bytes, updated}
 use Rattle.wire_ends.specs.declared.ip_protocol.IpProtocol.TheVariants as protocol
 use Rattle.wire_tcp.specs.declared.tcp.packet.TcpView.{TcpView}
 
--- Pinned by: `wire/tcp`
 -- the slice under a view
 abbrev pub packet_slice : {B : Type 0} → TcpView B → B
 packet_slice p = p.buffer
@@ -23,83 +23,68 @@ Reading = TcpView (Bor (List ℕ))
 abbrev pub Writing : Type 0
 Writing = TcpView (MutBor (List ℕ))
 
--- Pinned by: `wire/tcp`
 -- the bytes under a reading view
 abbrev pub packet_bytes : Reading → List ℕ
 packet_bytes p = (packet_slice p).now
 
--- Pinned by: `wire/tcp`
 -- the bytes under a mutable view
 abbrev pub packet_bytes_mut : Writing → List ℕ
 packet_bytes_mut p = (packet_slice p).now
 
--- Pinned by: `wire/tcp`
 -- the view still borrows the same slice, and the slice now holds these bytes
 abbrev pub Becomes : Writing → Writing → List ℕ → Type 0
 Becomes old new bytes = Holds (packet_slice old) (packet_slice new) bytes
 
--- Pinned by: `cases/tcp_lengths`
 -- the length of the header in bytes: the data offset counts words of 4
 abbrev pub header_len : List ℕ → ℕ
 header_len bytes = 4 * field bytes 96 4
 
--- Pinned by: `wire/tcp`
 -- the bytes of the options, up to the end of the header
 abbrev pub options_of : List ℕ → List ℕ
 options_of bytes = slice_range bytes 20 (header_len bytes)
 
--- Pinned by: `wire/tcp`
 -- the payload: all bytes after the header
 abbrev pub payload_of : List ℕ → List ℕ
 payload_of bytes = drop (header_len bytes) bytes
 
--- Pinned by: law `lengths_agree_tcp`; `wire/tcp`
 -- the number of sequence numbers that a segment uses: one for each byte of its payload, for SYN and for FIN
 abbrev pub segment_len : List ℕ → ℕ
 segment_len bytes = length bytes - header_len bytes + field bytes 110 1 + field bytes 111 1
 
--- Pinned by: `calls/worked_transport`
 -- the bytes with a flag set or cleared
 abbrev pub with_flag : List ℕ → ℕ → Bool → List ℕ
 with_flag bytes place value = with_field bytes place 1 (if value then 1 else 0)
 
--- Pinned by: `wire/tcp`; `cases/tcp_lengths`
 -- the lengths are valid: the header has at least 20 bytes, and the bytes hold all of it
 pub record HasLengths (bytes : List ℕ) : Type 0 where
   pub least : 20 ≤ length bytes
   pub header : 20 ≤ header_len bytes
   pub whole : header_len bytes ≤ length bytes
 
--- Pinned by: `wire/tcp`; `cases/tcp_lengths`
 -- whether the lengths are valid
 abbrev pub has_lengths : List ℕ → Bool
 has_lengths bytes = nat_le 20 (length bytes) && nat_le 20 (header_len bytes) && nat_le (header_len bytes) (length bytes)
 
 -- ---- the checksum
 
--- Pinned by: `wire/tcp`; `cases/tcp_checksums`
 -- the sum of the pseudo-header of a segment between two addresses
 abbrev pub pseudo_header_sum : IpAddress → IpAddress → List ℕ → ℕ
 pseudo_header_sum src dst bytes = sum_of_bytes (pseudo_header_bytes (address_bytes src) (address_bytes dst) protocol.Tcp (length bytes))
 
--- Pinned by: `wire/tcp`; `cases/tcp_checksums`
 -- the sum of a segment between two addresses and its pseudo-header
 abbrev pub segment_sum : IpAddress → IpAddress → List ℕ → ℕ
 segment_sum src dst bytes = sum_of_bytes (with_pseudo_header src dst protocol.Tcp bytes)
 
--- Pinned by: `wire/tcp`; `cases/tcp_checksums`
 -- the checksum is correct: the sum of pseudo-header and segment is 0xffff
 abbrev pub Verifies : IpAddress → IpAddress → List ℕ → Type 0
 Verifies src dst bytes = segment_sum src dst bytes ≡ 65535
 
--- Pinned by: law `filled_checksum_verifies`; `calls/worked_transport`
 -- the bytes with a correct checksum: the complement of their sum with 0 in the checksum field
 abbrev pub with_checksum : IpAddress → IpAddress → List ℕ → List ℕ
 with_checksum src dst bytes =
     let zeroed = with_field bytes 128 16 0 in
     with_field zeroed 128 16 (65535 - segment_sum src dst zeroed)
 
--- Pinned by: `calls/worked_transport`
 -- the bytes with the checksum updated, after words that it covers changed from the sum old to the sum new
 abbrev pub with_updated_checksum : List ℕ → ℕ → ℕ → List ℕ
 with_updated_checksum bytes old new = with_field bytes 128 16 (updated (field bytes 128 16) old new)

@@ -16,7 +16,6 @@ use Rattle.wire_tcp.specs.declared.laws.TcpSetting.TheVariants as set
 use Rattle.wire_tcp.specs.declared.laws.TcpUpdate.{TcpUpdate}
 use Rattle.wire_tcp.specs.declared.laws.TcpUpdate.TheVariants as update
 
--- Pinned by: law `setter_writes_one_field_tcp`
 -- the widths of the fields in bits: ports; sequence number; acknowledgement number; data offset, three reserved bits,
 -- nine flags, window; checksum, urgent pointer
 abbrev pub diagram : List ℕ
@@ -24,7 +23,6 @@ diagram = 16 ∷ 16 ∷ 32 ∷ 32 ∷ 4 ∷ 3 ∷ 1 ∷ 1 ∷ 1 ∷ 1 ∷ 1 ∷ 
 
 -- ---- getters
 
--- Pinned by: law `getters_read_fields_tcp`
 -- the index of the field that a getter reads, and the unit in which the field counts
 abbrev pub read_of : TcpGetting → ℕ × ℕ
 read_of get.SrcPort = (0, 1)
@@ -45,14 +43,12 @@ read_of get.WindowLen = (15, 1)
 read_of get.Checksum = (16, 1)
 read_of get.UrgentAt = (17, 1)
 
--- Pinned by: law `getters_read_fields_tcp`
 -- the number that a getter returns
 abbrev pub got : TcpGetting → List ℕ → ℕ
 got getting bytes = let read = read_of getting in read.1 * nth_field diagram read.0 bytes
 
 -- ---- setters
 
--- Pinned by: law `setter_writes_one_field_tcp`
 -- the index of the field that a setter writes, and its argument as a number
 abbrev pub write_of : TcpSetting → ℕ × ℕ
 write_of (set.SrcPort x) = (0, x)
@@ -73,19 +69,16 @@ write_of (set.WindowLen x) = (15, x)
 write_of (set.Checksum x) = (16, x)
 write_of (set.UrgentAt x) = (17, x)
 
--- Pinned by: law `setter_writes_one_field_tcp`
 -- the bytes after a call of a setter
 abbrev pub after : TcpSetting → List ℕ → List ℕ
 after setting = let write = write_of setting in with_nth diagram write.0 write.1
 
--- Pinned by: law `clear_flags_writes_the_flags_tcp`
 -- the bytes with 0 in the reserved bits and in each of the nine flags
 abbrev pub with_no_flags : List ℕ → List ℕ
 with_no_flags bytes = with_field bytes (sum (take 5 diagram)) (sum (slice_range diagram 5 15)) 0
 
 -- ---- calls that write the checksum too
 
--- Pinned by: law `update_writes_two_fields_tcp`
 -- the bytes with the field that an updating call writes besides the checksum; an address is in no field of a TCP
 -- header
 abbrev pub with_update : TcpUpdate → List ℕ → List ℕ
@@ -94,7 +87,6 @@ with_update (update.DstPort x) bytes = with_nth diagram 1 x bytes
 with_update (update.WindowLen x) bytes = with_nth diagram 15 x bytes
 with_update (update.Address old new) bytes = bytes
 
--- Pinned by: law `update_writes_two_fields_tcp`
 -- the sums of the words that an updating call changes, before and after it
 abbrev pub sums_of : TcpUpdate → List ℕ → ℕ × ℕ
 sums_of (update.SrcPort x) bytes = (nth_field diagram 0 bytes, x)
@@ -102,28 +94,23 @@ sums_of (update.DstPort x) bytes = (nth_field diagram 1 bytes, x)
 sums_of (update.WindowLen x) bytes = (nth_field diagram 15 bytes, x)
 sums_of (update.Address old new) bytes = (sum_of_bytes (address_bytes old), sum_of_bytes (address_bytes new))
 
--- Pinned by: law `update_checksum_writes_one_field_tcp`
 -- the bytes with the checksum updated for words that change from the sum old to the sum new
 abbrev pub with_sums : ℕ → ℕ → List ℕ → List ℕ → List ℕ
 with_sums old new before = with_nth diagram 16 (updated (nth_field diagram 16 before) old new)
 
--- Pinned by: law `update_writes_two_fields_tcp`
 -- the bytes after an updating call
 abbrev pub after_update : TcpUpdate → List ℕ → List ℕ
 after_update call bytes = let sums = sums_of call bytes in with_sums sums.0 sums.1 bytes (with_update call bytes)
 
--- Pinned by: law `fill_checksum_writes_one_field_tcp`
 -- the bytes after the checksum was computed: the complement of the sum with 0 in the checksum field
 abbrev pub after_fill : IpAddress → IpAddress → List ℕ → List ℕ
 after_fill src dst bytes = with_nth diagram 16 (65535 - segment_sum src dst (with_nth diagram 16 0 bytes)) bytes
 
--- Pinned by: law `update_writes_two_fields_tcp`
 -- an address of the segment before an updating call
 abbrev pub address_before : TcpUpdate → IpAddress → IpAddress
 address_before (update.Address old new) address = old
 address_before _ address = address
 
--- Pinned by: law `update_writes_two_fields_tcp`
 -- an address of the segment after an updating call
 abbrev pub address_after : TcpUpdate → IpAddress → IpAddress
 address_after (update.Address old new) address = new
@@ -131,7 +118,6 @@ address_after _ address = address
 
 -- ---- fields of a value
 
--- Pinned by: law `one_value_changes_tcp`
 -- the control of a segment without RST, SYN and FIN
 abbrev pub quiet_of : List ℕ → TcpControl
 quiet_of bytes = if nth_field diagram 11 bytes == 1 then control.Psh else control.None

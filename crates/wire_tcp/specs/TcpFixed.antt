@@ -2,7 +2,6 @@
 use Rattle.std.specs.Prelude.{ℕ, List, ◌++◌}
 use Rattle.byteorder.specs.Endian.{big_bytes}
 
--- Pinned by: proof of `TcpRepr::emit`
 -- the first 20 bytes of a TCP header: ports, sequence and acknowledgement number, the word with data offset and
 -- flags, the window, 0 as checksum and urgent pointer
 abbrev pub fixed_bytes : ℕ → ℕ → ℕ → ℕ → ℕ → ℕ → List ℕ

@@ -1,4 +1,5 @@
 -- The printed text of a value of a segment.
+-- Pinned by: `wire/tcp_repr`
 use Rattle.std.specs.Prelude.{ℕ, ◌++◌, List, [], Option, codes, decimal}
 use Rattle.std.specs.Option.{option_map_or}
 use Rattle.wire_tcp_parts.specs.TcpSeq.{number}
@@ -32,7 +33,6 @@ start_text src_port dst_port asked seq =
 unfoldable pub flow_text : ℕ → ℕ → List ℕ
 flow_text window_len payload_len = codes " win=" ++ decimal window_len ++ codes " len=" ++ decimal payload_len
 
--- Pinned by: `wire/tcp_repr`
 -- the printed text of a value with a payload of this length
 abbrev pub value_text : TcpHeader → ℕ → List ℕ
 value_text v payload_len =

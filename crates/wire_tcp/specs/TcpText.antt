@@ -1,4 +1,5 @@
 -- The printed texts of TCP segments.
+-- Pinned by: `cases/tcp_shapes`, `cases/tcp_options`, `wire/tcp_options`, `wire/tcp_repr`
 use Rattle.std.specs.Prelude.{ℕ, zero, suc, ◌++◌, ◌==◌, ◌-◌, if◌then◌else◌, List, [], ◌∷◌, codes, decimal, length, replicate, Option, Some, None}
 use Rattle.std.specs.List.{join_by}
 use Rattle.std.specs.Option.{option_map_or}
@@ -12,7 +13,6 @@ use Rattle.wire_tcp_parts.specs.declared.tcp.option.TcpOption.TheVariants.{EndOf
 
 -- ---- the header
 
--- Pinned by: `cases/tcp_shapes`
 -- the printed text of the ports
 abbrev pub ports_text : ℕ → ℕ → List ℕ
 ports_text src dst = codes "TCP src=" ++ (decimal src ++ (codes " dst=" ++ decimal dst))
@@ -21,7 +21,6 @@ ports_text src dst = codes "TCP src=" ++ (decimal src ++ (codes " dst=" ++ decim
 abbrev pub where_set : List ℕ → ℕ → List ℕ → List ℕ
 where_set bytes at text = if field bytes at 1 == 1 then text else []
 
--- Pinned by: `cases/tcp_shapes`
 -- the printed text of the flags that are set
 unfoldable pub flags_text : List ℕ → List ℕ
 flags_text bytes =
@@ -37,7 +36,6 @@ numbered name n = name ++ decimal n
 abbrev pub numbered_some : List ℕ → Option ℕ → List ℕ
 numbered_some name n = option_map_or (numbered name) n []
 
--- Pinned by: `cases/tcp_shapes`
 -- the printed text of the numbers of a header, and of the length of the payload
 unfoldable pub numbers_text : ℕ → Option ℕ → ℕ → Option ℕ → ℕ → List ℕ
 numbers_text seq ack window urgent len =
@@ -48,7 +46,6 @@ numbers_text seq ack window urgent len =
 abbrev pub number_where : List ℕ → ℕ → ℕ → Option ℕ
 number_where bytes at n = if field bytes at 1 == 1 then Some n else None
 
--- Pinned by: `cases/tcp_shapes`
 -- the printed text of the numbers of the header that the bytes begin with
 abbrev pub fields_text : List ℕ → List ℕ
 fields_text bytes =
@@ -73,7 +70,6 @@ ranges_text ranges = codes "[" ++ join_by range_text (codes ", ") ranges ++ code
 abbrev pub hex_word : ℕ → List ℕ
 hex_word n = replicate (8 - length (hex n)) 48 ++ hex n
 
--- Pinned by: `cases/tcp_options`; `wire/tcp_options`
 -- the printed text of an option
 abbrev pub shown : TcpOption → List ℕ
 shown EndOfList = []
@@ -85,7 +81,6 @@ shown (SackRange ranges) = codes " sACKr" ++ ranges_text ranges
 shown (TimeStamp tsval tsecr) = codes " tsval " ++ hex_word tsval ++ codes " tsecr " ++ hex_word tsecr
 shown (Unknown kind bytes) = codes " opt(" ++ decimal kind ++ codes ")"
 
--- Pinned by: `cases/tcp_options`; `wire/tcp_options`
 -- the text of the option that an item parses as
 abbrev pub item_text : Item → List ℕ
 item_text i =
@@ -103,14 +98,12 @@ options_text_within (suc n) (kind ∷ rest) =
     if kind == 0 then []
     else option_map_or (λ d. item_text d.0 ++ options_text_within n d.1) (first_item (kind ∷ rest)) (codes " (wire::Error)")
 
--- Pinned by: `cases/tcp_options`; `wire/tcp_options`
 -- the texts of the items, up to the end of the list or the first malformed item
 abbrev pub options_text : List ℕ → List ℕ
 options_text bytes = options_text_within (length bytes) bytes
 
 -- ---- the segment
 
--- Pinned by: `cases/tcp_shapes`; `wire/tcp_repr`
 -- the printed text of a segment: its fields and its options, or that the lengths are invalid
 unfoldable pub packet_text : List ℕ → List ℕ
 packet_text bytes =

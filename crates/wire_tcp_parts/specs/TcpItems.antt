@@ -1,11 +1,11 @@
 -- The options of a TCP header as a list of items (RFC 9293, section 3.1; RFC 2018; RFC 7323).
+-- Pinned by: `calls/walk`, `ItemsWorked`, `cases/tcp_options`, `cases/tcp_sack`
 use Rattle.std.specs.Prelude.{ℕ, ◌≡◌, ◌==◌, ◌&&◌, ◌||◌, ◌<◌, ◌≤◌, ◌+◌, ◌-◌, ◌*◌, ◌%◌, nat_le, nat_lt, not, if◌then◌else◌, Bool, is_some, List, [], ◌∷◌, ◌++◌, length, map, drop, slice_index, take, Option, Some, None}
 use Rattle.std.specs.List.{AllByRecursion, flat_map, range_with_len}
 use Rattle.std.specs.Option.{option_map, option_map_or, option_or}
 use Rattle.byteorder.specs.Endian.{big_number}
 use Rattle.wire_tcp_parts.specs.declared.tcp.TheConstants.{SACK_BLOCKS}
 
--- Pinned by: law `one_option_list`; `calls/walk`; too wide: `ItemsWorked`
 -- an option: its kind and its data
 pub record Item : Type 0 where
   pub kind : ℕ
@@ -15,7 +15,6 @@ pub record Item : Type 0 where
 abbrev pub item : ℕ → List ℕ → Item
 item kind content = record { kind = kind; content = content }
 
--- Pinned by: law `one_option_list`; `calls/walk`; too wide: `ItemsWorked`
 -- An option is well-formed: its kind is 1 to 255, and the data of the kinds 1 to 5 have a valid length. No operation
 -- has no data; the data of the kinds 2 to 4 have 2, 1 and 0 bytes, those of kind 5 one or more blocks of 8.
 pub record IsItem (i : Item) : Type 0 where
@@ -28,23 +27,19 @@ pub record IsItem (i : Item) : Type 0 where
   pub sack_permitted : i.kind ≡ 4 → i.content ≡ []
   pub sack_ranges : i.kind ≡ 5 → (n : ℕ) × (0 < n) × (length i.content ≡ 8 * n)
 
--- Pinned by: `calls/walk`
 -- the bytes of an option: its kind, its length and its data; only the kind for no operation
 abbrev pub text : Item → List ℕ
 text i = if i.kind == 1 then 1 ∷ [] else i.kind ∷ (2 + length i.content) ∷ i.content
 
--- Pinned by: `calls/walk`
 -- the bytes of options, one after the other
 abbrev pub texts : List Item → List ℕ
 texts items = flat_map text items
 
--- Pinned by: law `one_option_list`; `cases/tcp_options`; too wide: `ItemsWorked`, law `one_option_list`
 -- the rest after the last option: nothing, or the end mark 0 and any bytes after it
 abbrev pub IsTail : List ℕ → Type 0
 IsTail [] = Unit {0}
 IsTail (b ∷ bs) = b ≡ 0
 
--- Pinned by: law `one_option_list`; `cases/tcp_options`; too wide: `ItemsWorked`, law `one_option_list`
 -- the bytes are well-formed options, and then this tail
 pub record IsOptionList (bytes : List ℕ) (items : List Item) (tail : List ℕ) : Type 0 where
   pub each : AllByRecursion IsItem items
@@ -53,7 +48,6 @@ pub record IsOptionList (bytes : List ℕ) (items : List Item) (tail : List ℕ)
 
 -- ---- the first item, computed
 
--- Pinned by: law `reading_is_computed_tcp`
 -- whether an option of this kind can have this many bytes of data
 abbrev pub is_sized : ℕ → ℕ → Bool
 is_sized kind size =
@@ -61,7 +55,6 @@ is_sized kind size =
     && (not (kind == 2) || (size == 2)) && (not (kind == 3) || (size == 1)) && (not (kind == 4) || (size == 0))
     && (not (kind == 5) || (nat_lt 0 size && (size % 8 == 0)))
 
--- Pinned by: law `reading_is_computed_tcp`
 -- the first option in the bytes and the bytes after it, if the bytes begin with a well-formed option
 unfoldable pub first_item : List ℕ → Option (Item × List ℕ)
 first_item [] = None
@@ -75,59 +68,48 @@ first_item (kind ∷ rest) =
 
 -- ---- the values of items
 
--- Pinned by: `calls/walk`, `cases/tcp_sack`; law `constant_lengths`
 -- block k of the data of a SACK option, its left and its right edge, if there is one
 abbrev pub block_at : List ℕ → ℕ → Option (ℕ × ℕ)
 block_at content k =
     if nat_lt (8 * k) (length content) then Some (big_number 4 (drop (8 * k) content), big_number 4 (drop (8 * k + 4) content)) else None
 
--- Pinned by: `calls/walk`, `cases/tcp_sack`; law `constant_lengths`
 -- the first `SACK_BLOCKS` blocks of the data of a SACK option, `None` for each that is missing
 abbrev pub first_blocks : List ℕ → List (Option (ℕ × ℕ))
 first_blocks content = map (block_at content) (range_with_len 0 SACK_BLOCKS)
 
--- Pinned by: `calls/walk`
 -- the two numbers in the data of a timestamp option: the timestamp, and the echoed timestamp
 abbrev pub stamps : List ℕ → ℕ × ℕ
 stamps content = (big_number 4 content, big_number 4 (drop 4 content))
 
--- Pinned by: `calls/walk`
 -- whether an option has this kind
 abbrev pub is_of : ℕ → Item → Bool
 is_of kind i = i.kind == kind
 
--- Pinned by: `calls/walk`
 -- whether an option is a timestamp: kind 8 with data of 8 bytes
 abbrev pub is_timestamp : Item → Bool
 is_timestamp i = i.kind == 8 && length i.content == 8
 
--- Pinned by: `calls/walk`
 -- the last option that passes a test
 abbrev pub last_of : (Item → Bool) → List Item → Option Item
 last_of p [] = None
 last_of p (i ∷ items) = option_or (last_of p items) (if p i then Some i else None)
 
--- Pinned by: `calls/walk`
 -- the maximum segment size in the last option of kind 2
 abbrev pub segment_size_of : List Item → Option ℕ
 segment_size_of items = option_map (λ i. big_number 2 i.content) (last_of (is_of 2) items)
 
--- Pinned by: `calls/walk`
 -- the window scale in the last option of kind 3
 abbrev pub window_scale_of : List Item → Option ℕ
 window_scale_of items = option_map (λ i. big_number 1 i.content) (last_of (is_of 3) items)
 
--- Pinned by: `calls/walk`
 -- whether there is an option "SACK permitted", kind 4
 abbrev pub sack_permitted_of : List Item → Bool
 sack_permitted_of items = is_some (last_of (is_of 4) items)
 
--- Pinned by: `calls/walk`
 -- the ranges in the last SACK option, kind 5
 abbrev pub sack_ranges_of : List Item → List (Option (ℕ × ℕ))
 sack_ranges_of items = first_blocks (option_map_or (λ i. i.content) (last_of (is_of 5) items) [])
 
--- Pinned by: `calls/walk`
 -- the timestamp and the echoed timestamp in the last timestamp option
 abbrev pub timestamp_of : List Item → Option (ℕ × ℕ)
 timestamp_of items = option_map (λ i. stamps i.content) (last_of is_timestamp items)

@@ -1,15 +1,14 @@
 -- What `TcpOption::emit` promises on the borrowed bytes.
+-- Pinned by: `wire/tcp_options`
 use Rattle.std.specs.Prelude.{ℕ, ◌≡◌, ◌++◌, List, length}
 use Rattle.std.specs.Borrow.{Lends, MutBor, Fml, Array, u8}
 use Rattle.wire_field.specs.declared.located.Located.{Located}
 
--- Pinned by: `wire/tcp_options`
 -- At the end of the borrow the slice has these bytes at its front, followed by the bytes that were written to the
 -- rest.
 abbrev pub BorrowsRest : MutBor (List ℕ) → List ℕ → MutBor (List ℕ) → Fml
 BorrowsRest buffer front rest = Lends (Array u8 0) (Array u8 0) buffer rest (λ w. front ++ w)
 
--- Pinned by: `wire/tcp_options`
 -- The located part is the rest of the slice after this front. The borrow is still the same, and now holds the front
 -- and this rest.
 pub record LocatesRest (buffer : MutBor (List ℕ)) (front rest : List ℕ) (located : Located) : Type 0 where

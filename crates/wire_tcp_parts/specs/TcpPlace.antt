@@ -1,9 +1,9 @@
 -- Where a value is in the options of a header.
+-- Pinned by: `calls/set`
 use Rattle.std.specs.Prelude.{ℕ, ◌+◌, if◌then◌else◌, List, [], ◌∷◌, length, Option, Some, None}
 use Rattle.std.specs.Option.{option_map, option_or}
 use Rattle.wire_tcp_parts.specs.TcpItems.{Item, is_of, text}
 
--- Pinned by: `calls/set`
 -- the index of the data of the last option of kind 2: they follow its kind and its length
 abbrev pub segment_size_at : List Item → Option ℕ
 segment_size_at [] = None

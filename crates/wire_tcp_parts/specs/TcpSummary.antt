@@ -1,10 +1,10 @@
 -- The values of the options of a header.
+-- Pinned by: `calls/walk`, `calls/worked_transport`
 use Rattle.std.specs.Prelude.{ℕ, ◌≡◌, List}
 use Rattle.wire_tcp_parts.specs.TcpItems.{Item, IsOptionList, first_blocks, sack_permitted_of, sack_ranges_of, segment_size_of, timestamp_of, window_scale_of}
 use Rattle.wire_tcp_parts.specs.declared.tcp.summary.OptionValues.{OptionValues}
 use Rattle.wire_tcp_parts.specs.declared.tcp.summary.TcpOptionSummary.{TcpOptionSummary}
 
--- Pinned by: `calls/walk`, `calls/worked_transport`; too wide: law `one_summary`
 -- the values of an option list: the last option of each kind counts
 abbrev pub summary_of : List Item → TcpOptionSummary
 summary_of items = record {
@@ -15,12 +15,10 @@ summary_of items = record {
   timestamp = timestamp_of items;
 }
 
--- Pinned by: `calls/walk`, `calls/worked_transport`; too wide: law `one_summary`
 -- the bytes have an option list with these values
 abbrev pub Summarizes : List ℕ → TcpOptionSummary → Type 0
 Summarizes bytes summary = (items : List Item) × (tail : List ℕ) × IsOptionList bytes items tail × (summary ≡ summary_of items)
 
--- Pinned by: `calls/walk`, `calls/worked_transport`; too wide: law `one_summary`
 -- the bytes have no option list: an option is malformed
 abbrev pub HasNoList : List ℕ → Type 0
 HasNoList bytes = (items : List Item) (tail : List ℕ) → IsOptionList bytes items tail → ⊥

@@ -1,8 +1,8 @@
 -- Texts that end in a mark and a number, as CIDR blocks and endpoints do.
+-- Pinned by: `calls/cidr4`, `BlockWorked`
 use Rattle.std.specs.Prelude.{◌≡◌, ℕ, List, ◌∷◌, ◌++◌}
 use Rattle.wire_text.specs.Grammar.{IsNumber}
 
--- Pinned by: `calls/cidr4`; too wide: `BlockWorked`
 -- the text is the front, the mark, and a decimal number of at most `places` digits and of value at most `most`
 pub record EndsInNumber (mark places most : ℕ) (text front : List ℕ) (n : ℕ) : Type 0 where
   pub digits : List ℕ

@@ -21,7 +21,6 @@ abbrev pub pieces_after : ℕ → Option (Bor (List ℕ)) → List (List ℕ)
 pieces_after mark None = []
 pieces_after mark (Some rest) = pieces_of mark rest.now
 
--- Pinned by: lemmas `.._sound`, `.._complete`
 -- the value of a text that is one number of at most `places` digits and at most `most`, if it is one
 unfoldable pub number_of : ℕ → ℕ → ℕ → List ℕ → Option ℕ
 number_of radix places most text =
@@ -54,13 +53,11 @@ abbrev pub FilledFrom : Option (List ℕ) → List ℕ → Bool → Type 0
 FilledFrom read values true = read ≡ Some values
 FilledFrom read values false = (ns : List ℕ) → read ≡ Some ns → length ns ≡ length values → ⊥
 
--- Pinned by: lemmas `.._sound`, `.._complete`
 -- the four bytes of a dotted text, if it is one
 unfoldable pub dotted_read : List ℕ → Option (List ℕ)
 dotted_read text =
     numbers_of 10 3 255 (pieces_of dot text) >>= λ bytes. if length bytes == 4 then Some bytes else None
 
--- Pinned by: lemmas `.._sound`, `.._complete`
 -- the six bytes of a text in hex with this mark, if it is one
 unfoldable pub hex_bytes_read : ℕ → List ℕ → Option (List ℕ)
 hex_bytes_read mark text =
@@ -120,7 +117,6 @@ inner_text (c ∷ []) = if c == colon then None else Some (c ∷ [])
 inner_text (c ∷ d ∷ text) =
     if c == colon then (if d == colon then Some (d ∷ text) else None) else Some (c ∷ d ∷ text)
 
--- Pinned by: lemmas `.._sound`, `.._complete`
 -- the eight groups of an IPv6 text, if it is one
 unfoldable pub groups_read : List ℕ → Option (List ℕ)
 groups_read text = inner_text text >>= λ inner. groups_from None [] (pieces_of colon inner)

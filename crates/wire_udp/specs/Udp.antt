@@ -1,4 +1,6 @@
 -- UDP packets (RFC 768; over IPv6 RFC 8200, section 8.1).
+-- Pinned by: `wire/udp`, `calls/udp`, `cases/udp_lengths`, `cases/udp_checksums`, `wire/checksum`
+-- Pinned by: `calls/worked_transport`
 use Rattle.std.specs.Prelude.{ℕ, ◌≡◌, ◌≢◌, ◌≤◌, ◌+◌, ◌-◌, ◌⊎◌, ◌++◌, ◌==◌, ◌&&◌, ◌||◌, not, nat_le, if◌then◌else◌, Bool, true, false, IsTrue, Option, Some, None, List, length, slice_range, take}
 use Rattle.std.specs.Borrow.{Bor, MutBor}
 use Rattle.byteorder.specs.Endian.{big_bytes}
@@ -22,42 +24,34 @@ Reading = UdpView (Bor (List ℕ))
 abbrev pub Writing : Type 0
 Writing = UdpView (MutBor (List ℕ))
 
--- Pinned by: `wire/udp`
 -- the slice under a view
 abbrev pub packet_slice : {B : Type 0} → UdpView B → B
 packet_slice p = p.buffer
 
--- Pinned by: `wire/udp`
 -- the bytes under a reading view
 abbrev pub packet_bytes : Reading → List ℕ
 packet_bytes p = (packet_slice p).now
 
--- Pinned by: `wire/udp`
 -- the bytes under a mutable view
 abbrev pub packet_bytes_mut : Writing → List ℕ
 packet_bytes_mut p = (packet_slice p).now
 
--- Pinned by: `wire/udp`
 -- the view still borrows the same slice, and the slice now holds these bytes
 abbrev pub Becomes : Writing → Writing → List ℕ → Type 0
 Becomes old new bytes = Holds (packet_slice old) (packet_slice new) bytes
 
--- Pinned by: `cases/udp_lengths`
 -- the length field: the length of header and payload in bytes
 abbrev pub packet_len : List ℕ → ℕ
 packet_len bytes = field bytes 32 16
 
--- Pinned by: law `constant_lengths`, by `lk_emit_udp`
 -- the length of the longest payload in bytes: the length field counts the 8 bytes of the header too
 abbrev pub max_payload_len : ℕ
 max_payload_len = 65527
 
--- Pinned by: `cases/udp_lengths`
 -- the payload: the bytes after the header, up to the length field
 abbrev pub payload_of : List ℕ → List ℕ
 payload_of bytes = slice_range bytes 8 (packet_len bytes)
 
--- Pinned by: `cases/udp_lengths`
 -- the lengths are valid: the bytes hold a whole header, and as many bytes as the length field says
 pub record HasLengths (bytes : List ℕ) : Type 0 where
   pub least : 8 ≤ length bytes
@@ -66,39 +60,32 @@ pub record HasLengths (bytes : List ℕ) : Type 0 where
 
 -- ---- the checksum
 
--- Pinned by: `wire/udp`; `wire/checksum`
 -- the sum of the pseudo-header of a packet between two addresses
 abbrev pub pseudo_header_sum : IpAddress → IpAddress → List ℕ → ℕ
 pseudo_header_sum src dst bytes = sum_of_bytes (pseudo_header_bytes (address_bytes src) (address_bytes dst) protocol.Udp (packet_len bytes))
 
--- Pinned by: `wire/udp`; `wire/checksum`
 -- the sum of a packet between two addresses and its pseudo-header
 abbrev pub packet_sum : IpAddress → IpAddress → List ℕ → ℕ
 packet_sum src dst packet = sum_of_bytes (with_pseudo_header src dst protocol.Udp packet)
 
--- Pinned by: `wire/udp`; `cases/udp_checksums`
 -- the checksum is correct: the sum of pseudo-header and packet is 0xffff
 abbrev pub Verifies : IpAddress → IpAddress → List ℕ → Type 0
 Verifies src dst bytes = packet_sum src dst (take (packet_len bytes) bytes) ≡ 65535
 
--- Pinned by: `cases/udp_checksums`
 -- the checksum is valid: not 0 and correct, or 0 over IPv4
 abbrev pub HasChecksum : IpAddress → IpAddress → List ℕ → Type 0
 HasChecksum src dst bytes = ((field bytes 48 16 ≡ 0) × (version_of src ≡ version.Ipv4)) ⊎ ((field bytes 48 16 ≢ 0) × Verifies src dst bytes)
 
--- Pinned by: `calls/udp`
 -- the checksum of a sum: its complement, or 0xffff instead of 0, because 0 means that there is no checksum
 abbrev pub checksum_for : ℕ → ℕ
 checksum_for sum = if 65535 - sum == 0 then 65535 else 65535 - sum
 
--- Pinned by: `calls/udp`
 -- the bytes with a correct checksum of the packet at their front, computed with 0 in the checksum field
 abbrev pub with_checksum : IpAddress → IpAddress → List ℕ → List ℕ
 with_checksum src dst bytes =
     let zeroed = with_field bytes 48 16 0 in
     with_field zeroed 48 16 (checksum_for (packet_sum src dst (take (packet_len bytes) zeroed)))
 
--- Pinned by: `calls/worked_transport`
 -- the bytes with the checksum updated, after words that it covers changed from the sum old to the sum new; 0, which
 -- means that there is no checksum, stays
 abbrev pub with_updated_checksum : List ℕ → ℕ → ℕ → List ℕ
@@ -108,7 +95,6 @@ with_updated_checksum bytes old new =
 
 -- ---- reading and writing
 
--- Pinned by: law `reads_once_udp`; `calls/worked_transport`
 -- the bytes begin with a packet between two addresses that parses as this value and payload
 pub record Reads (bytes : List ℕ) (src dst : IpAddress) (verified : Bool) (v : UdpRepr) (payload : List ℕ) : Type 0 where
   pub lengths : HasLengths bytes
@@ -118,48 +104,39 @@ pub record Reads (bytes : List ℕ) (src dst : IpAddress) (verified : Bool) (v :
   pub dst_port : v.dst_port ≡ field bytes 16 16
   pub body : payload ≡ payload_of bytes
 
--- Pinned by: law `reading_is_computed_udp`
 -- the values of the fields of a UDP header
 abbrev pub header_of : List ℕ → UdpRepr
 header_of bytes = record { src_port = field bytes 0 16; dst_port = field bytes 16 16 }
 
--- Pinned by: `cases/udp_lengths`
 -- whether the lengths are valid
 abbrev pub has_lengths : List ℕ → Bool
 has_lengths bytes = nat_le 8 (length bytes) && nat_le 8 (packet_len bytes) && nat_le (packet_len bytes) (length bytes)
 
--- Pinned by: law `reading_is_computed_udp`
 -- whether an address is an IPv4 address
 abbrev pub is_ipv4 : IpAddress → Bool
 is_ipv4 (address.Ipv4 bytes) = true
 is_ipv4 (address.Ipv6 bytes) = false
 
--- Pinned by: `cases/udp_checksums`
 -- whether the checksum is valid
 abbrev pub has_checksum : IpAddress → IpAddress → List ℕ → Bool
 has_checksum src dst bytes = if field bytes 48 16 == 0 then is_ipv4 src else packet_sum src dst (take (packet_len bytes) bytes) == 65535
 
--- Pinned by: law `reading_is_computed_udp`
 -- whether the bytes parse
 abbrev pub is_read : IpAddress → IpAddress → Bool → List ℕ → Bool
 is_read src dst verified bytes = has_lengths bytes && not (field bytes 16 16 == 0) && (not verified || has_checksum src dst bytes)
 
--- Pinned by: law `reading_is_computed_udp`
 -- the value that the bytes parse as, if there is one
 unfoldable pub udp_of : IpAddress → IpAddress → Bool → List ℕ → Option UdpRepr
 udp_of src dst verified bytes = if is_read src dst verified bytes then Some (header_of bytes) else None
 
--- Pinned by: law `emit_reads_back_udp`; `calls/udp`
 -- the UDP header with these values, for a payload of this length, with this checksum
 abbrev pub header_bytes : UdpRepr → ℕ → ℕ → List ℕ
 header_bytes v payload_len checksum = big_bytes 2 v.src_port ++ big_bytes 2 v.dst_port ++ big_bytes 2 (8 + payload_len) ++ big_bytes 2 checksum
 
--- Pinned by: law `emit_reads_back_udp`; `calls/udp`
 -- the UDP packet with this checksum: header and payload
 abbrev pub packet_with : UdpRepr → List ℕ → ℕ → List ℕ
 packet_with v payload checksum = header_bytes v (length payload) checksum ++ payload
 
--- Pinned by: law `emit_reads_back_udp`; `calls/udp`
 -- the UDP packet with these values and this payload, with its checksum if it is computed, else with 0
 abbrev pub bytes_of : UdpRepr → List ℕ → IpAddress → IpAddress → Bool → List ℕ
 bytes_of v payload src dst computed = packet_with v payload (if computed then checksum_for (packet_sum src dst (packet_with v payload 0)) else 0)
