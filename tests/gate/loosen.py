@@ -92,6 +92,17 @@ def is_law(statement):
     return "laws" in statement.module.path
 
 
+def is_met_exactly(statement, clause):
+    """Whether a law of the crate calls this method with exactly as many bytes as the clause requires, up to the end of the field
+    that it reads or writes: the law itself has no proof then if the clause requires one more."""
+    least = clause.text.partition(" ≤ length ")[0]
+    modules = untried.sources().crates[statement.crate].modules
+    laws = [item for path, module in modules.items() if "laws" in path for item in module.items if item.kind == "fn"]
+    calls = [law for law in laws if re.search(rf"\.{statement.item.name}\(", law.body)]
+    conditions = [it.text for law in calls for it in law.clauses if it.kind == "requires"]
+    return any(text.startswith((f"{least} ≤ length ", "end_of ")) for text in conditions)
+
+
 def weakened(statement):
     item = statement.item
 
@@ -110,7 +121,7 @@ def weakened(statement):
         if clause.kind == "ensures" and one_more and is_call:
             wider = Clause("ensures", clause.name, f"({clause.text}) ⊎ ({one_more})")
             yield Weaker(statement, f"one result more{label}", with_instead(clause, wider), [clause])
-        if clause.kind == "requires" and " ≤ length " in clause.text:
+        if clause.kind == "requires" and " ≤ length " in clause.text and not is_met_exactly(statement, clause):
             longer = Clause("requires", clause.name, clause.text.replace(" ≤ length ", " < length "))
             yield Weaker(statement, f"one byte more{label}", with_instead(clause, longer), [])
 

@@ -7,12 +7,14 @@ import collections
 import fcntl
 import functools
 import hashlib
+import re
 import sys
 
 import proved
 
 TOP = proved.TOP
 LIST = TOP / "tests/data/tried.txt"
+COMMENT = re.compile(rb"^[ \t]*(?://|--).*\n", re.M)
 sys.path[:0] = [str(TOP / "tests/docs"), str(TOP / "tools")]
 from sources import Sources, words_of  # noqa: E402
 from statements import Statements  # noqa: E402
@@ -24,9 +26,9 @@ def sum_of(parts):
 
 
 def files_in(*places):
-    """These files and those in these folders, with their bytes."""
+    """These files and those in these folders, with their bytes without the lines of comments."""
     paths = sorted({path for place in places for path in (place, *place.rglob("*")) if path.is_file()})
-    return [(str(path.relative_to(TOP)), path.read_bytes()) for path in paths]
+    return [(str(path.relative_to(TOP)), COMMENT.sub(b"", path.read_bytes())) for path in paths]
 
 
 @functools.lru_cache(maxsize=None)
