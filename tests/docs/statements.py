@@ -171,9 +171,13 @@ def differences(old, new):
         left[fact[:4]].append(fact)
     gone = []
     for fact in statements_of(old):
-        found = next((it for it in left[fact[:4]] if is_same(old, new, fact.meanings, it.meanings)), None)
+        places = [fact[:4]]
+        if fact.kind == "export" and fact.owner not in new.crates:
+            # Its crate was joined with another one.
+            places = [("export", crate, *fact[2:4]) for crate in new.crates]
+        found = next((it for key in places for it in left[key] if is_same(old, new, fact.meanings, it.meanings)), None)
         if found:
-            left[fact[:4]].remove(found)
+            left[found[:4]].remove(found)
         else:
             gone.append(fact)
     return gone, [fact for facts in left.values() for fact in facts]

@@ -23,7 +23,7 @@ use Rattle.wire_ends.proofs.EndTexts.{address_once, cidr_once, endpoint_once}
 use Rattle.wire_ndisc.proofs.NdiscComputed.{ndisc_of_Reads}
 use Rattle.wire_ndisc.specs.Ndisc as ndisc
 use Rattle.wire_ndisc.specs.declared.NdiscRepr.{NdiscRepr}
-use Rattle.wire_text.proofs.Readers.{hex_text_once}
+use Rattle.wire_addr.proofs.Readers.{hex_text_once}
 use Rattle.c_icmp.specs.Neighbours.{CarriesNdisc, ReadsNdisc}
 use Rattle.c_structs.specs.TcpOptions.{ReadsItems}
 use Rattle.c_structs.specs.Written.{IsRead, Writes, WritesBytes, max_len, usable, within}

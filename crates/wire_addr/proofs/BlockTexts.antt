@@ -6,9 +6,9 @@ use Rattle.std.specs.Result.{IsErr}
 use Rattle.wire_addr.specs.Block.{Block}
 use Rattle.wire_addr.specs.BlockText.{IsBlockText}
 use Rattle.wire_addr.specs.Printed.{block_text}
-use Rattle.wire_text.specs.Ending.{EndsInNumber}
-use Rattle.wire_text.proofs.Endings.{ends_once, ends_printed}
-use Rattle.wire_text.proofs.Rejections.{rejected, was_none, was_some}
+use Rattle.wire_addr.specs.Ending.{EndsInNumber}
+use Rattle.wire_addr.proofs.Endings.{ends_once, ends_printed}
+use Rattle.wire_addr.proofs.Rejections.{rejected, was_none, was_some}
 
 module _ (ReadsAddress : List ℕ → List ℕ → Type 0) (places most : ℕ) where
   -- a text that does not end in a number parses as no block

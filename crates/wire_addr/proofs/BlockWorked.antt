@@ -2,10 +2,10 @@
 use Rattle.std.proofs.Common.{ℕ, ◌≡◌, ◌<◌, ◌⊎◌, List, ◌∷◌, ◌++◌, Some, ap, arith, codes, inl, inr, length, lit≤, refl}
 use Rattle.wire_addr.specs.Block.{Block}
 use Rattle.wire_addr.specs.BlockText.{ReadsIpv4Block, ReadsIpv6Block}
-use Rattle.wire_text.specs.Ending.{EndsInNumber}
-use Rattle.wire_text.specs.Reading.{number_of}
-use Rattle.wire_text.proofs.Endings.{ends_once, ends_wider, length_is}
-use Rattle.wire_text.proofs.Numbers.{number_sound}
+use Rattle.wire_addr.specs.Ending.{EndsInNumber}
+use Rattle.wire_addr.specs.Reading.{number_of}
+use Rattle.wire_addr.proofs.Endings.{ends_once, ends_wider, length_is}
+use Rattle.wire_addr.proofs.NumberTexts.{number_sound}
 
 wrong_end : (places most : ℕ) (front digits other : List ℕ) (n m : ℕ) → places < 6 → most < 65536 → number_of 10 5 65535 digits ≡ Some n
     → (places < length digits) ⊎ (most < n) → ¬ (EndsInNumber 47 places most (front ++ 47 ∷ digits) other m)

@@ -12,7 +12,7 @@ use Rattle.std.proofs.NetLemmas.Texts.{AllSegments, AllSegments-take, AllSegment
 use Rattle.wire_addr.specs.Bytes.{IsByteArray, address_bytes, mapped_prefix}
 use Rattle.wire_addr.specs.Printed.{dotted, dashed, hex_byte, hex, colon_hex, groups_text, ipv6_text}
 use Rattle.wire_addr.specs.Read.{ReadsIpv6}
-use Rattle.wire_text.specs.Grammar.{EachReads, IsNumber, IsDecimalByte, IsDotted, IsHexBytes, IsGroup, AreGroupsText, IsElidedMappedText, IsIpv6Text, groups_of, mapped_groups}
+use Rattle.wire_addr.specs.Grammar.{EachReads, IsNumber, IsDecimalByte, IsDotted, IsHexBytes, IsGroup, AreGroupsText, IsElidedMappedText, IsIpv6Text, groups_of, mapped_groups}
 use Rattle.std.proofs.lemmas.Grind.{common_steps}
 use Rattle.std.proofs.lemmas.Bool.Decides.{nat_tests}
 

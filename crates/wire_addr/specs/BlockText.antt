@@ -4,7 +4,7 @@ use Rattle.std.specs.Prelude.{ℕ, List}
 use Rattle.wire_addr.specs.Read.{ReadsIpv4, ReadsIpv6}
 use Rattle.wire_addr.specs.Block.{Block}
 use Rattle.wire_addr.specs.Printed.{slash}
-use Rattle.wire_text.specs.Ending.{EndsInNumber}
+use Rattle.wire_addr.specs.Ending.{EndsInNumber}
 
 -- The text of a CIDR block: an address, a slash and a prefix length of at most `places` digits and at most `most`.
 -- The address keeps its bits after the prefix (RFC 4632, section 3.1).

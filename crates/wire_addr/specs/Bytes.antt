@@ -1,7 +1,7 @@
 -- Lists of bytes, and of the groups that an IPv6 address is written in (RFC 4291, section 2.2).
 -- Pinned by: `calls/block`, `wire/ipv6_address`, `calls/worked_addresses`
 use Rattle.std.specs.Prelude.{ℕ, ◌≡◌, ◌<◌, ◌^◌, ◌/◌, ◌%◌, List, [], ◌∷◌, length, slice_index}
-pub use Rattle.wire_text.specs.Grammar.{groups_of}
+pub use Rattle.wire_addr.specs.Grammar.{groups_of}
 
 -- the list has n elements, and each is a byte: a number of eight bits
 abbrev pub IsByteArray : ℕ → List ℕ → Type 0

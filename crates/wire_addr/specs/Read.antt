@@ -3,7 +3,7 @@
 use Rattle.std.specs.Prelude.{ℕ, ◌≡◌, List}
 use Rattle.wire_addr.specs.Bytes.{address_bytes}
 use Rattle.wire_addr.specs.declared.ethernet_address.EthernetAddress.{EthernetAddress}
-use Rattle.wire_text.specs.Grammar.{IsDotted, IsHexText, IsIpv6Text}
+use Rattle.wire_addr.specs.Grammar.{IsDotted, IsHexText, IsIpv6Text}
 
 -- the text parses as this Ethernet address: six bytes in hex, joined all by dashes or all by colons
 -- (RFC 4291, section 2.2)

@@ -8,13 +8,12 @@ ghost use Rattle.wire_addr.specs.Bytes.{IsByteArray};
 ghost use Rattle.wire_addr.specs.Prefix.{IsNetmask};
 ghost use Rattle.wire_addr.specs.Printed.{block_text, dotted};
 
-use crate::Ipv4Address;
 use crate::prefix::mask_32;
+use crate::{Ipv4Address, number_after};
 use net_base::{Error, Result};
 use std::fmt;
 use std::marker::Model;
 use std::str::FromStr;
-use wire_text::number_after;
 
 /// A CIDR block: all IPv4 addresses with the same first bits as one address (RFC 4632, section
 /// 3.1). It keeps that address with all its bits.

@@ -10,11 +10,10 @@ ghost use Rattle.wire_addr.specs.Bytes.{IsByteArray};
 ghost use Rattle.wire_addr.specs.Printed.{block_text, ipv6_text};
 
 use crate::prefix::mask_128;
-use crate::{HardwareAddress, Ipv6Address};
+use crate::{HardwareAddress, Ipv6Address, number_after};
 use std::fmt;
 use std::marker::Model;
 use std::str::FromStr;
-use wire_text::number_after;
 
 /// A CIDR block: all IPv6 addresses with the same first bits as one address (RFC 4291, section
 /// 2.3). It keeps that address with all its bits.

@@ -3,9 +3,8 @@
 ghost use Rattle.std.specs.Net.Grammar.{Parses};
 ghost use Rattle.wire_addr.specs.Read.{ReadsEthernet, ReadsIpv4, ReadsIpv6};
 
-use crate::{EthernetAddress, Ipv4Address, Ipv6Address};
+use crate::{EthernetAddress, Ipv4Address, Ipv6Address, groups, hex_bytes, octets};
 use std::str::FromStr;
-use wire_text::{groups, hex_bytes, octets};
 
 /// Parses six groups of one or two hex digits, all joined by `-` or all by `:`.
 impl FromStr for EthernetAddress {

@@ -16,10 +16,10 @@ use Rattle.wire_ends.specs.declared.ip_address.IpAddress.TheVariants as ip
 use Rattle.wire_ends.specs.declared.ip_cidr.IpCidr.{IpCidr}
 use Rattle.wire_ends.specs.declared.ip_cidr.IpCidr.TheVariants as cidr
 use Rattle.wire_ends.specs.declared.ip_endpoint.IpEndpoint.{IpEndpoint}
-use Rattle.wire_text.specs.Ending.{EndsInNumber}
-use Rattle.wire_text.proofs.Apart.{IsFirstMark, dotted_first, ipv6_first, mark_before, no_port, same_mark}
-use Rattle.wire_text.proofs.Endings.{ends_once, ends_printed, ends_wider}
-use Rattle.wire_text.proofs.Rejections.{rejected, was_none, was_some}
+use Rattle.wire_addr.specs.Ending.{EndsInNumber}
+use Rattle.wire_addr.proofs.Apart.{IsFirstMark, dotted_first, ipv6_first, mark_before, no_port, same_mark}
+use Rattle.wire_addr.proofs.Endings.{ends_once, ends_printed, ends_wider}
+use Rattle.wire_addr.proofs.Rejections.{rejected, was_none, was_some}
 
 -- ---- rejected texts
 

@@ -8,11 +8,11 @@ use Rattle.wire_ends.specs.declared.ip_address.IpAddress.{IpAddress}
 use Rattle.wire_ends.specs.declared.ip_address.IpAddress.TheVariants.{Ipv4, Ipv6}
 use Rattle.wire_ends.specs.declared.ip_endpoint.IpEndpoint.{IpEndpoint}
 use Rattle.wire_ends.proofs.EndTexts.{no_bracket}
-use Rattle.wire_text.specs.Grammar.{IsNumber}
-use Rattle.wire_text.specs.Reading.{number_of}
-use Rattle.wire_text.proofs.Apart.{ipv6_first, same_mark}
-use Rattle.wire_text.proofs.Endings.{ends_at}
-use Rattle.wire_text.proofs.Numbers.{number_complete}
+use Rattle.wire_addr.specs.Grammar.{IsNumber}
+use Rattle.wire_addr.specs.Reading.{number_of}
+use Rattle.wire_addr.proofs.Apart.{ipv6_first, same_mark}
+use Rattle.wire_addr.proofs.Endings.{ends_at}
+use Rattle.wire_addr.proofs.NumberTexts.{number_complete}
 
 -- the block of all IPv4 addresses contains no IPv6 address
 other_version : ¬ (IsIn (block_at (Ipv4 (0 ∷ 0 ∷ 0 ∷ 0 ∷ [])) 0) (Ipv6 (0 ∷ 0 ∷ 0 ∷ 0 ∷ 0 ∷ 0 ∷ 0 ∷ 0 ∷ 0 ∷ 0 ∷ 0 ∷ 0 ∷ 0 ∷ 0 ∷ 0 ∷ 1 ∷ [])))

@@ -12,8 +12,8 @@ use Rattle.wire_ends.specs.declared.ip_address.IpAddress.{IpAddress}
 use Rattle.wire_ends.specs.declared.ip_address.IpAddress.TheVariants.{Ipv4, Ipv6}
 use Rattle.wire_ends.specs.declared.ip_endpoint.IpEndpoint.{IpEndpoint}
 use Rattle.wire_ends.specs.declared.ip_listen_endpoint.IpListenEndpoint.{IpListenEndpoint}
-use Rattle.wire_text.specs.Ending.{EndsInNumber}
-use Rattle.wire_text.specs.Grammar.{colon}
+use Rattle.wire_addr.specs.Ending.{EndsInNumber}
+use Rattle.wire_addr.specs.Grammar.{colon}
 
 -- the endpoint with an address and a port
 abbrev pub endpoint_at : IpAddress → ℕ → IpEndpoint

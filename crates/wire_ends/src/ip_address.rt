@@ -39,7 +39,7 @@ impl IpAddress {
     }
 
     /// Parses an address of either version as `from_str` does, from bytes.
-    #[tactic(auto, using(wire_text::proofs::Rejections::rejected, crate::proofs::EndTexts::no_address))]
+    #[tactic(auto, using(wire_addr::proofs::Rejections::rejected, crate::proofs::EndTexts::no_address))]
     pub fn parse_ascii(text: &[u8]) -> Result<IpAddress, ()>
         ensures { Parses ReadsAddress text.now result }
     {

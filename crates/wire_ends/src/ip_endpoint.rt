@@ -14,8 +14,7 @@ use itoa::Buffer;
 use std::fmt;
 use std::net::{SocketAddr, SocketAddrV4, SocketAddrV6};
 use std::str::FromStr;
-use wire_addr::{Ipv4Address, Ipv6Address};
-use wire_text::number_after;
+use wire_addr::{Ipv4Address, Ipv6Address, number_after};
 
 /// An address and a port.
 #[derive(Debug, Clone, Copy, PartialEq, Eq, PartialOrd, Ord, Hash)]

@@ -1,4 +1,4 @@
-use Rattle.wire_text.proofs.Readers.{hex_text_once}
+use Rattle.wire_addr.proofs.Readers.{hex_text_once}
 use Rattle.wire_addr.proofs.laws.ethernet_one_reading.Goals as goal
 
 pub returns : goal.returns

@@ -1,4 +1,4 @@
-use Rattle.wire_text.proofs.Readers.{dotted_once}
+use Rattle.wire_addr.proofs.Readers.{dotted_once}
 use Rattle.wire_addr.proofs.laws.ipv4_one_reading.Goals as goal
 
 pub returns : goal.returns

@@ -1,6 +1,6 @@
 use Rattle.std.proofs.Common.{sym, ap, ◌∙◌}
 use Rattle.wire_addr.specs.Bytes.{address_bytes}
-use Rattle.wire_text.proofs.Readers.{groups_once}
+use Rattle.wire_addr.proofs.Readers.{groups_once}
 use Rattle.wire_addr.proofs.laws.ipv6_one_reading.Goals as goal
 
 pub returns : goal.returns

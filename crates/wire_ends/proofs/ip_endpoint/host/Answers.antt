@@ -1,5 +1,5 @@
 use Rattle.wire_ends.specs.Endpoint.{ReadsHost}
-use Rattle.wire_text.proofs.Rejections.{rejected}
+use Rattle.wire_addr.proofs.Rejections.{rejected}
 use Rattle.wire_ends.proofs.EndTexts.{no_inner_host, no_plain_host}
 use Rattle.wire_ends.proofs.ip_endpoint.host.Goals as goal
 

@@ -1,7 +1,7 @@
 use Rattle.std.proofs.Common.{rules, sym, ap, ◌∙◌}
 use Rattle.std.proofs.NetLemmas.Arrays.{eight_items}
 use Rattle.wire_addr.specs.Bytes.{address_bytes}
-use Rattle.wire_addr.proofs.Groups.{be_bytes-group}
+use Rattle.wire_addr.proofs.GroupBytes.{be_bytes-group}
 use Rattle.wire_addr.proofs.ipv6_address.Ipv6AddressFromArrayU168.from.Goals as goal
 
 pub returns : goal.returns

@@ -2,7 +2,7 @@ use Rattle.std.proofs.Common.{◌≡◌, ◌-◌, get_or, take, drop, length, ar
 use Rattle.std.proofs.lemmas.Grind.{common_steps}
 use Rattle.wire_addr.proofs.Prints.{hex_joined-pairs, padded, padded_hex_byte}
 use Rattle.wire_addr.specs.Printed.{hex_byte}
-use Rattle.wire_text.specs.Grammar.{colon}
+use Rattle.wire_addr.specs.Grammar.{colon}
 use Rattle.wire_addr.proofs.raw_hardware_address.RawHardwareAddressDisplay.fmt.Goals as goal
 
 pub loop-octet-init : goal.loop-octet-init

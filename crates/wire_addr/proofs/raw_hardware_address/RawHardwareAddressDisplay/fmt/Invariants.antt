@@ -1,6 +1,6 @@
 use Rattle.std.proofs.Common.{◌∷◌, get_or, take}
 use Rattle.std.specs.Fmt.{HasWritten, IsPlainFormatter}
-use Rattle.wire_text.specs.Grammar.{colon}
+use Rattle.wire_addr.specs.Grammar.{colon}
 use Rattle.wire_addr.proofs.Prints.{pairs_with}
 use Rattle.wire_addr.proofs.raw_hardware_address.RawHardwareAddressDisplay.fmt.Given as goal
 
