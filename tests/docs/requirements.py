@@ -25,7 +25,7 @@ SHOWN = re.compile(r"net_base|(?:ip|app)_\w+")
 # `app_link` uses bit fields only, and the proofs of `app_host`, `app_nat` and `test_c_needs` use lemmas about single formats.
 # Crates with tests or needs of the layer name what they test, so that they are proved early.
 ABOVE = re.compile(r"ip_(?!wire\b)\w+|app_(?!(?:host|link|nat)\b)\w+|test_(?!wire\b|support\b|(?:base|ip|transport|frame|c)_needs\b)\w+")
-BESIDE = ("wire_icmp", "wire_ndisc")
+BESIDE = ("wire_icmp",)
 TEST_FUNCTION = re.compile(r"#\[test\]\n(?: *#.*\n)* *fn (\w+)\(")
 # A function that allocates is given an allocator, and returns one of these types.
 ALLOCATES = re.compile(r"\b(alloc|AllocError|HostRuntime|Vec|String|Box|Rc|Arc)\b")
@@ -53,7 +53,7 @@ class Statements:
                 for item in module.items:
                     self.add(crate.name, module, item)
             self.definitions |= {f"{path[-1]}.{d.name}" for path, module in crate.specs.items() for d in module.items}
-        self.laws = {name[-1] for crate in ("ip_wire", "wire_icmp", "wire_ndisc", "app_nat", "app_host", "app_edit", "c_structs",
+        self.laws = {name[-1] for crate in ("ip_wire", "wire_icmp", "app_nat", "app_host", "app_edit", "c_structs",
                      "c_icmp")
                      for name, target in sources.exports(crate).items() if name[0] == "laws" and name[-1][0].islower()}
 

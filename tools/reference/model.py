@@ -11,7 +11,7 @@ from sources import Crate, Module, Sources  # noqa: E402
 
 # The libraries that a program in Rattle names.
 LIBRARIES = (
-    "net_base", "ip_wire", "wire_icmp", "wire_ndisc", "app_short", "app_link", "app_host", "app_router", "app_nat",
+    "net_base", "ip_wire", "wire_icmp", "app_short", "app_link", "app_host", "app_router", "app_nat",
     "app_edit",
 )
 VIEW = re.compile(r"= (\w+View)<")

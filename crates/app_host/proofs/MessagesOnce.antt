@@ -19,9 +19,9 @@ use Rattle.wire_icmp.specs.Icmp as icmp
 use Rattle.wire_icmp.specs.Icmp.{protocol_of}
 use Rattle.wire_icmp.specs.declared.IcmpRepr.{IcmpRepr}
 use Rattle.wire_icmp.specs.declared.IcmpRepr.TheVariants.{EchoReply, EchoRequest}
-use Rattle.wire_ndisc.proofs.NdiscComputed.{ndisc_of_Reads}
-use Rattle.wire_ndisc.specs.Ndisc as ndisc
-use Rattle.wire_ndisc.specs.declared.NdiscRepr.TheVariants.{NeighborSolicit}
+use Rattle.wire_icmp.proofs.NdiscComputed.{ndisc_of_Reads}
+use Rattle.wire_icmp.specs.Ndisc as ndisc
+use Rattle.wire_icmp.specs.declared.NdiscRepr.TheVariants.{NeighborSolicit}
 
 -- ---- errors
 

@@ -4,8 +4,8 @@ use Rattle.ip_wire.specs.Frame.{other, packet}
 use Rattle.ip_wire.specs.Ip.{dst_addr_of, src_addr_of}
 use Rattle.ip_wire.specs.IpAddress.{address_bytes}
 use Rattle.ip_wire.specs.Types.{EthernetAddress, EthernetRepr, Ipv6, Ipv6Repr}
-use Rattle.wire_ndisc.specs.Ndisc.{Reads, bytes_of}
-use Rattle.wire_ndisc.specs.declared.NdiscRepr.TheVariants.{NeighborSolicit}
+use Rattle.wire_icmp.specs.Ndisc.{Reads, bytes_of}
+use Rattle.wire_icmp.specs.declared.NdiscRepr.TheVariants.{NeighborSolicit}
 use Rattle.app_host.proofs.Messages.{sendable}
 use Rattle.app_host.specs.Message.{Gives, message_frame}
 use Rattle.app_host.specs.Neighbour.{IsAnsweredTo, IsNeighbourReply, IsSolicited, advert_header, advert_of}

@@ -13,7 +13,7 @@ use Rattle.ip_wire.specs.Types.{EthernetAddress, EthernetRepr, IpRepr, IpVersion
 use Rattle.ip_wire.specs.declared.IpVersion.TheVariants as version
 use Rattle.wire_icmp.specs.Icmp as icmp
 use Rattle.wire_icmp.specs.Icmp.{protocol_of}
-use Rattle.wire_ndisc.specs.Ndisc as ndisc
+use Rattle.wire_icmp.specs.Ndisc as ndisc
 use Rattle.app_host.specs.declared.message.Message.{Message}
 use Rattle.app_host.specs.declared.message.Message.TheVariants.{Icmp, Ndisc}
 use Rattle.app_host.specs.declared.message.MessageFrame.{MessageFrame}

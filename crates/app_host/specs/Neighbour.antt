@@ -11,9 +11,9 @@ use Rattle.ip_wire.specs.declared.EthernetProtocol.TheVariants as ethertype
 use Rattle.ip_wire.specs.declared.Frame.{Frame}
 use Rattle.ip_wire.specs.declared.IpAddress.TheVariants as address
 use Rattle.ip_wire.specs.declared.IpProtocol.TheVariants as protocol
-use Rattle.wire_ndisc.specs.Ndisc.{Reads, bytes_of}
-use Rattle.wire_ndisc.specs.declared.NdiscRepr.{NdiscRepr}
-use Rattle.wire_ndisc.specs.declared.NdiscRepr.TheVariants.{NeighborAdvert, NeighborSolicit}
+use Rattle.wire_icmp.specs.Ndisc.{Reads, bytes_of}
+use Rattle.wire_icmp.specs.declared.NdiscRepr.{NdiscRepr}
+use Rattle.wire_icmp.specs.declared.NdiscRepr.TheVariants.{NeighborAdvert, NeighborSolicit}
 use Rattle.app_host.specs.Source.{IsHostAddr, IsInvalidSource}
 use Rattle.app_host.specs.declared.interface.Interface.{Interface}
 

@@ -9,7 +9,7 @@ ghost use Rattle.ip_wire.specs.Frame.{IsReadWhole, ReadsPacket, all_checked, typ
 ghost use Rattle.ip_wire.specs.Ip.{bytes_of, dst_addr_of, header_len_of, max_payload_len, payload_len_of, src_addr_of, version_of};
 ghost use Rattle.ip_wire.specs.Filled.{Fills};
 ghost use Rattle.wire_icmp.specs.Icmp as icmp;
-ghost use Rattle.wire_ndisc.specs.Ndisc as ndisc;
+ghost use Rattle.wire_icmp.specs.Ndisc as ndisc;
 
 use ip_wire::laws::field::bytes_fit;
 use ip_wire::{
@@ -17,8 +17,7 @@ use ip_wire::{
     IpRepr, IpVersion, Ipv4PacketMut, Ipv6PacketMut, Ipv6Repr, send,
 };
 use net_base::ChecksumCapabilities;
-use wire_icmp::{ICMP_HEADER_LEN, IcmpRepr, protocol_of};
-use wire_ndisc::NdiscRepr;
+use wire_icmp::{ICMP_HEADER_LEN, IcmpRepr, NdiscRepr, protocol_of};
 
 /// What a packet of the protocol ICMP or ICMPv6 carries.
 #[derive(Debug, Clone, Copy, PartialEq, Eq)]

@@ -17,8 +17,7 @@ use ip_wire::{
     IpProtocol, IpRepr, Ipv6Address, Ipv6Repr, Transport,
 };
 use net_base::ChecksumCapabilities;
-use wire_icmp::IcmpPacket;
-use wire_ndisc::{NDISC_HOP_LIMIT, NdiscNeighborFlags, NdiscRepr};
+use wire_icmp::{IcmpPacket, NDISC_HOP_LIMIT, NdiscNeighborFlags, NdiscRepr};
 
 /// The advertisement to a solicitation for the IPv6 address, with the hardware address. The solicitation
 /// goes to the address or to its solicited-node group, and the frame to the hardware address or to that of the

@@ -6,9 +6,9 @@ use Rattle.ip_wire.specs.Frame.{IsReadWhole, other, packet}
 use Rattle.ip_wire.specs.Types.{EthernetAddress, EthernetRepr, IpRepr, Ipv4, Ipv6}
 use Rattle.ip_wire.specs.declared.IpProtocol.TheVariants as protocol
 use Rattle.wire_ends.specs.declared.ip_address.IpAddress.TheVariants as address
-use Rattle.wire_ndisc.specs.Ndisc.{Reads, bytes_of}
-use Rattle.wire_ndisc.specs.declared.ndisc.repr.NdiscRepr.{NdiscRepr}
-use Rattle.wire_ndisc.specs.declared.ndisc.repr.NdiscRepr.TheVariants.{NeighborSolicit, NeighborAdvert}
+use Rattle.wire_icmp.specs.Ndisc.{Reads, bytes_of}
+use Rattle.wire_icmp.specs.declared.ndisc.repr.NdiscRepr.{NdiscRepr}
+use Rattle.wire_icmp.specs.declared.ndisc.repr.NdiscRepr.TheVariants.{NeighborSolicit, NeighborAdvert}
 use Rattle.c_structs.specs.Addresses.{addr_of}
 use Rattle.c_structs.specs.Frames.{framed}
 use Rattle.c_structs.specs.FrameFields.{no_ip}

@@ -2,7 +2,7 @@
 
 ghost use Rattle.std.specs.Prelude.{◌≡◌, MatchOption};
 ghost use Rattle.ip_wire.specs.Types.{Ipv6};
-ghost use Rattle.wire_ndisc.specs.declared.ndisc.repr.NdiscRepr.{NdiscRepr};
+ghost use Rattle.wire_icmp.specs.declared.ndisc.repr.NdiscRepr.{NdiscRepr};
 ghost use Rattle.c_structs.specs.Written.{Fills, IsRead};
 ghost use Rattle.c_icmp.specs.Neighbours.{CarriesNdisc, ReadsNdisc, has_ipv6, hardware_bytes, hardware_of, ndisc_failure, ndisc_frame, ndisc_ip, ndisc_struct, ndisc_value};
 
@@ -13,8 +13,7 @@ use ip_wire::{
     Carried, EthernetAddress, Frame, IpAddress, IpProtocol, IpRepr, Ipv6Repr, Transport,
 };
 use net_base::ChecksumCapabilities;
-use wire_icmp::IcmpPacket;
-use wire_ndisc::{NDISC_HOP_LIMIT, NdiscNeighborFlags, NdiscRepr};
+use wire_icmp::{IcmpPacket, NDISC_HOP_LIMIT, NdiscNeighborFlags, NdiscRepr};
 
 impl Ndisc {
     /// Parses a message in a frame, stores it, and returns 1. Returns 0 if the frame carries none that is valid.

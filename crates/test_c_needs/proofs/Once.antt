@@ -20,9 +20,9 @@ use Rattle.ip_wire.specs.declared.IpAddress.{IpAddress}
 use Rattle.ip_wire.specs.declared.IpCidr.{IpCidr}
 use Rattle.ip_wire.specs.declared.IpEndpoint.{IpEndpoint}
 use Rattle.wire_ends.proofs.EndTexts.{address_once, cidr_once, endpoint_once}
-use Rattle.wire_ndisc.proofs.NdiscComputed.{ndisc_of_Reads}
-use Rattle.wire_ndisc.specs.Ndisc as ndisc
-use Rattle.wire_ndisc.specs.declared.NdiscRepr.{NdiscRepr}
+use Rattle.wire_icmp.proofs.NdiscComputed.{ndisc_of_Reads}
+use Rattle.wire_icmp.specs.Ndisc as ndisc
+use Rattle.wire_icmp.specs.declared.NdiscRepr.{NdiscRepr}
 use Rattle.wire_addr.proofs.Readers.{hex_text_once}
 use Rattle.c_icmp.specs.Neighbours.{CarriesNdisc, ReadsNdisc}
 use Rattle.c_structs.specs.TcpOptions.{ReadsItems}

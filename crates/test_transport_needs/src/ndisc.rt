@@ -2,12 +2,11 @@
 
 ghost use Rattle.std.specs.Prelude.{◌≡◌, ◌≤◌, IsTrue, Some, length};
 ghost use Rattle.wire_icmp.specs.Icmp.{packet_bytes_mut};
-ghost use Rattle.wire_ndisc.specs.Ndisc.{IsAllowed, Reads, bytes_of, len_of, ndisc_of};
+ghost use Rattle.wire_icmp.specs.Ndisc.{IsAllowed, Reads, bytes_of, len_of, ndisc_of};
 
 use net_base::ChecksumCapabilities;
 use wire_addr::Ipv6Address;
-use wire_icmp::IcmpPacketMut;
-use wire_ndisc::{NdiscRepr, laws};
+use wire_icmp::{IcmpPacketMut, NdiscRepr, laws};
 
 /// Any message that the addresses allow, with the hop limit 255. A checksum that is verified was computed.
 fn emit_reads_back(

@@ -12,6 +12,12 @@ use crate::icmp::{IcmpPacket, IcmpPacketMut, IcmpRepr};
 use wire_ends::{IpAddress, IpVersion};
 use wire_field::laws::bytes_fit;
 
+mod ndisc;
+
+pub use ndisc::{
+    emit_reads_back_ndisc, no_more_bytes_ndisc, reading_is_computed_ndisc, reads_once_ndisc,
+};
+
 /// The emitted message parses as the normal form of the value, and as the same payload. A checksum
 /// that is verified must have been computed.
 pub fn emit_reads_back_icmp(

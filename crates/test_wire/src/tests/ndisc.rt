@@ -5,8 +5,7 @@ use net_base::ChecksumCapabilities;
 use test_support::bytes::change;
 use test_support::texts::prints;
 use wire_addr::Ipv6Address;
-use wire_icmp::IcmpPacket;
-use wire_ndisc::{NDISC_HOP_LIMIT, NdiscRepr};
+use wire_icmp::{IcmpPacket, NDISC_HOP_LIMIT, NdiscRepr};
 
 /// A solicitation from `::` to the solicited-node group of its target. Its option is a nonce (RFC 3971).
 const PROBE: [u8; 32] = [

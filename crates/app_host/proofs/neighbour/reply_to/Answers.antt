@@ -2,7 +2,7 @@ use Rattle.std.proofs.Common.{◌≡◌, ◌∙◌, Ok, Some, ap, length, rules,
 use Rattle.ip_wire.specs.Frame.{all_checked, other, packet}
 use Rattle.ip_wire.specs.Types.{Ipv6}
 use Rattle.wire_icmp.specs.Icmp.{packet_bytes}
-use Rattle.wire_ndisc.specs.declared.NdiscRepr.TheVariants.{NeighborSolicit}
+use Rattle.wire_icmp.specs.declared.NdiscRepr.TheVariants.{NeighborSolicit}
 use Rattle.app_host.proofs.Neighbours.{advertised, no_advert}
 use Rattle.app_host.specs.Message.{Gives}
 use Rattle.app_host.specs.Neighbour.{IsAnsweredTo, IsNeighbourReply, IsSolicited}

@@ -1,5 +1,0 @@
-use Rattle.wire_ndisc.proofs.ReadsBack.{bytes_of_shorter}
-use Rattle.wire_ndisc.proofs.laws.no_more_bytes_ndisc.Goals as goal
-
-pub returns : goal.returns
-returns c = bytes_of_shorter c.args.value c.args.bytes.now c.args.src_addr c.args.dst_addr c.args.hop_limit c.args.verified c.args.computed c.requires

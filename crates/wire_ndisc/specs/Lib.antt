@@ -1,3 +1,0 @@
-pub mod Ndisc
-pub mod NdOption
-pub mod NdiscText
