@@ -14,6 +14,20 @@ TOP = os.path.dirname(os.path.dirname(os.path.abspath(__file__)))
 HEADER = "c/ip_wire.h"
 # What a program in C alone uses.
 ONLY_C = {"lk_out"}
+# The calls that the Rust crate has no method for, and what a program has instead.
+NOT_IN_RUST = {
+    "lk_version": "`version`", "lk_cpu_supported": "`cpu_supported`", "lk_failure_name": "`Debug` of `Error`",
+    "lk_reason_name": "`Debug` of `Reason`", "lk_rejection_name": "`Debug` of `Rejection`", "lk_tcp_flag_name": "`TcpFlags`",
+    "lk_print_addr": "`Display` of `IpAddr`", "lk_print_endpoint": "`Display` of `SocketAddr`",
+    "lk_is_multicast": "`IpAddr::is_multicast`", "lk_choose_route": "lk_choose_route_by_table without cells",
+    "lk_check_source": "lk_check_source_by_table without cells",
+}
+# The same of the Python package. A table saves less time than a call from Python takes.
+NOT_IN_PYTHON = {
+    "lk_clamp_mss": "lk_clamp_mss_as", "lk_set_addr": "lk_set_addr_as", "lk_set_port": "lk_set_port_as",
+    "lk_set_bytes": "lk_set_bytes_as", "lk_make_route_table": "", "lk_choose_route_by_table": "lk_choose_route",
+    "lk_check_source_by_table": "lk_check_source",
+}
 RUST = {"uint8_t": "u8", "uint16_t": "u16", "uint32_t": "u32", "uint64_t": "u64", "int32_t": "i32", "size_t": "usize",
         "ptrdiff_t": "isize", "int": "c_int", "char": "c_char"}
 PYTHON = {"void": "None", "ptrdiff_t": "c_ssize_t", "size_t": "c_size_t", "int": "c_int"}
@@ -123,6 +137,8 @@ def rust(header):
             yield "    }\n"
     yield "}\n\ncalls! {"
     for name, result, given in calls_of(header):
+        if name in NOT_IN_RUST:
+            continue
         words = [f"{'r#type' if it == 'type' else it}: {rust_type(kind, is_with_length(given, at))}" for at, (kind, it) in enumerate(given)]
         returned = "" if result == "void" else f" -> {rust_type(result)}"
         yield wrapped(f"    fn {name}(", words, f"){returned};", " " * 8)
@@ -178,6 +194,8 @@ def python(header):
     yield "# Of each call the result and the parameters. A pair is a pointer with a length. A struct or array is a pointer to one."
     yield "CALLS: Dict[str, Tuple[Any, ...]] = {"
     for name, result, given in calls_of(header):
+        if name in NOT_IN_PYTHON:
+            continue
         returned = "c_char_p" if "*" in result else python_type(result)
         yield f'    "{name}": ({", ".join([returned, *python_parameters(given)])}{"" if given else ","}),'
     yield "}"

@@ -2,7 +2,6 @@
 
 IP_WIRE_HEADER is the path of ip_wire.h, if it is not that of the source tree or of the release archive.
 """
-import glob
 import os
 import re
 import subprocess
@@ -21,29 +20,15 @@ from ip_wire import _c as c
 TOP = os.path.join(os.path.dirname(os.path.abspath(__file__)), "..", "..", "..")
 HEADERS = [os.path.join(TOP, folder, "ip_wire.h") for folder in ("c", "include")]
 HEADER = os.environ.get("IP_WIRE_HEADER") or next(filter(os.path.exists, HEADERS), HEADERS[0])
-# The calls that the package does not use. The first four are those with `_as` and LK_GUESS. A table saves less time than a call
-# from Python takes.
-UNBOUND = [
-    "lk_clamp_mss", "lk_set_addr", "lk_set_port", "lk_set_bytes", "lk_make_route_table", "lk_choose_route_by_table",
-    "lk_check_source_by_table",
-]  # fmt: skip
 
 
 class Declarations(unittest.TestCase):
-    """The package uses the calls of ip_wire.h, and has its numbers."""
+    """The numbers are those of ip_wire.h."""
 
     @classmethod
     def setUpClass(cls):
         with open(HEADER, encoding="ascii") as file:
             cls.header = re.sub(r"/\*.*?\*/", " ", file.read(), flags=re.S)
-
-    def test_calls(self):
-        sources = ""
-        for path in glob.glob(os.path.join(os.path.dirname(ip_wire.__file__), "*.py")):
-            if not path.endswith("_declarations.py"):
-                with open(path, encoding="utf-8") as file:
-                    sources += file.read()
-        self.assertEqual([name for name in c.CALLS if not re.search(rf"\b{name}\b", sources)], UNBOUND)
 
     def test_numbers(self):
         enums = {"lk_reason": (Reason, 1), "lk_network": (Network, 1), "lk_transport": (Transport, 1),

@@ -213,21 +213,14 @@ structs! {
 }
 
 calls! {
-    fn lk_version() -> u32;
-    fn lk_cpu_supported() -> c_int;
-    fn lk_failure_name(failure: isize) -> *const c_char;
     fn lk_parse_addr(text: *const c_char, len: usize, addr: &mut Addr) -> c_int;
-    fn lk_print_addr(addr: &Addr, out: *mut c_char, cap: usize) -> isize;
     fn lk_parse_block(text: *const c_char, len: usize, block: &mut Block) -> c_int;
     fn lk_print_block(block: &Block, out: *mut c_char, cap: usize) -> isize;
     fn lk_contains(block: &Block, addr: &Addr) -> c_int;
     fn lk_parse_endpoint(text: *const c_char, len: usize, endpoint: &mut Endpoint) -> c_int;
-    fn lk_print_endpoint(endpoint: &Endpoint, out: *mut c_char, cap: usize) -> isize;
     fn lk_parse_ethernet(text: *const c_char, len: usize, octets: *mut u8) -> c_int;
     fn lk_print_ethernet(octets: *const u8, out: *mut c_char, cap: usize) -> isize;
-    fn lk_is_multicast(addr: &Addr) -> c_int;
     fn lk_is_unicast(addr: &Addr) -> c_int;
-    fn lk_reason_name(reason: c_int) -> *const c_char;
     fn lk_read_frame(ptr: *const u8, len: usize, frame: &mut Frame) -> c_int;
     fn lk_read_packet(ptr: *const u8, len: usize, frame: &mut Frame) -> c_int;
     fn lk_read_captured(ptr: *const u8, captured: usize, len: usize, frame: &mut Frame) -> c_int;
@@ -237,7 +230,6 @@ calls! {
     fn lk_print_frame(frame: &Frame, out: *mut c_char, cap: usize) -> isize;
     fn lk_protocol_name(protocol: c_int) -> *const c_char;
     fn lk_ethertype_name(r#type: c_int) -> *const c_char;
-    fn lk_tcp_flag_name(flag: c_int) -> *const c_char;
     fn lk_next_ipv6_header(ptr: *const u8, len: usize, header: &mut Ipv6Header) -> c_int;
     fn lk_read_tcp_options(ptr: *const u8, len: usize, options: &mut TcpOptions) -> c_int;
     fn lk_read_frame_options(ptr: *const u8, len: usize, frame: &mut Frame, options: &mut TcpOptions) -> c_int;
@@ -288,7 +280,6 @@ calls! {
     fn lk_emit_icmp_error(
         own: &Interface, problem: c_int, mtu: u32, frame: *const u8, len: usize, out: *mut u8, cap: usize
     ) -> isize;
-    fn lk_rejection_name(rejection: c_int) -> *const c_char;
     fn lk_forward(frame: *mut u8, len: usize, src: *const u8, dst: *const u8) -> c_int;
     fn lk_translate(frame: *mut u8, len: usize, side: c_int, end: &Endpoint) -> c_int;
     fn lk_clamp_mss(frame: *mut u8, len: usize, max_seg_size: u16) -> c_int;
@@ -305,14 +296,10 @@ calls! {
     ) -> c_int;
     fn lk_fill_checksum(frame: *mut u8, len: usize) -> c_int;
     fn lk_index_routes(routes: *const Route, count: usize, nodes: *mut RouteNode, node_count: usize) -> isize;
-    fn lk_choose_route(nodes: *const RouteNode, count: usize, addr: &Addr) -> isize;
     fn lk_make_route_table(nodes: *const RouteNode, count: usize, cells: *mut u64, cell_count: usize) -> isize;
     fn lk_choose_route_by_table(
         nodes: *const RouteNode, count: usize, cells: *const u64, cell_count: usize, addr: &Addr
     ) -> isize;
-    fn lk_check_source(
-        routes: *const Route, route_count: usize, nodes: *const RouteNode, count: usize, src: &Addr, interface: u16
-    ) -> c_int;
     fn lk_check_source_by_table(
         routes: *const Route, route_count: usize, nodes: *const RouteNode, count: usize, cells: *const u64,
         cell_count: usize, src: &Addr, interface: u16

@@ -36,7 +36,6 @@ macro_rules! calls {
         }
 
         #[allow(clippy::too_many_arguments, reason = "they are those of C")]
-        #[allow(dead_code, reason = "a test says which calls are not used")]
         impl Library {
             $(
                 #[inline]
@@ -58,6 +57,11 @@ macro_rules! calls {
 }
 
 include!("declarations.rs");
+
+extern "C" {
+    fn lk_version() -> u32;
+    fn lk_cpu_supported() -> c_int;
+}
 
 /// The permission to call the library, which only `library` gives.
 #[derive(Clone, Copy)]
@@ -89,13 +93,13 @@ fn check() {
 
 pub fn cpu_supported() -> bool {
     // SAFETY: this call takes nothing, and runs on every x86-64 processor.
-    unsafe { c::lk_cpu_supported() != 0 }
+    unsafe { lk_cpu_supported() != 0 }
 }
 
 /// Major, minor and patch. The processor must be supported.
 fn version_of_library() -> (u32, u32, u32) {
     // SAFETY: this call takes nothing. `check` has looked at the processor.
-    let version = unsafe { c::lk_version() };
+    let version = unsafe { lk_version() };
     (version >> 16, version >> 8 & 255, version & 255)
 }
 

@@ -1,9 +1,6 @@
 //! Compares the declarations with `ip_wire.h`, by a C compiler.
 
-use super::c::{
-    lk_failure_name, lk_is_multicast, lk_print_addr, lk_print_endpoint, lk_reason_name, lk_rejection_name,
-};
-use super::{CALLS, STRUCTS};
+use super::{Addr, Endpoint, CALLS, STRUCTS};
 use crate::{Error, Network, Offload, Problem, Reason, Rejection, Side, Transport, Verdict};
 use core::ffi::{c_char, c_int, CStr};
 use core::net::{IpAddr, SocketAddr};
@@ -12,19 +9,14 @@ use std::process::Command;
 use std::string::{String, ToString};
 use std::{env, format, fs, println, vec::Vec};
 
-/// The calls that this crate does not use: `Debug`, `Display`, core and constants say what they say, and those with a table
-/// or `_as` do what they do.
-const UNUSED: &[&str] = &[
-    "lk_failure_name",
-    "lk_print_addr",
-    "lk_print_endpoint",
-    "lk_is_multicast",
-    "lk_reason_name",
-    "lk_tcp_flag_name",
-    "lk_rejection_name",
-    "lk_choose_route",
-    "lk_check_source",
-];
+extern "C" {
+    fn lk_failure_name(failure: isize) -> *const c_char;
+    fn lk_reason_name(reason: c_int) -> *const c_char;
+    fn lk_rejection_name(rejection: c_int) -> *const c_char;
+    fn lk_print_addr(addr: &Addr, out: *mut c_char, cap: usize) -> isize;
+    fn lk_print_endpoint(endpoint: &Endpoint, out: *mut c_char, cap: usize) -> isize;
+    fn lk_is_multicast(addr: &Addr) -> c_int;
+}
 
 /// The C type of a declared type.
 fn c_type(rust: &str) -> String {
@@ -104,18 +96,6 @@ fn own_numbers() -> String {
     assert_numbers(problems.map(|problem| (c_name(problem), problem.number())))
         + &assert_numbers(sides.map(|side| (c_name(side), side.number())))
         + &assert_numbers(offloads.map(|offload| (c_name(offload), offload.number())))
-}
-
-#[test]
-fn each_call_is_used() {
-    let folder = concat!(env!("CARGO_MANIFEST_DIR"), "/src");
-    let files = fs::read_dir(folder).unwrap().map(|file| file.unwrap().path());
-    let sources: String =
-        files.filter(|path| path.is_file()).map(|path| fs::read_to_string(path).unwrap()).collect();
-    let is_used =
-        |name: &str| sources.contains(&format!(".{name}(")) || sources.contains(&format!("c::{name}("));
-    let unused: Vec<_> = CALLS.iter().map(|(name, ..)| *name).filter(|name| !is_used(name)).collect();
-    assert_eq!(unused, UNUSED);
 }
 
 #[test]
