@@ -144,47 +144,17 @@ fn views_have_the_bytes(bytes: &[u8]) -> bool
     laws::views_have_the_bytes_ethernet(bytes)
 }
 
-/// The first 6 bytes are the receiver's address.
-fn view_of_six_bytes(frame: &EthernetFrame<'_>)
-    requires { length (frame_bytes frame.now) ≡ 6 }
-{
-    let _ = frame.dst_addr();
-}
-
-/// The sender's address ends with byte 12.
-fn view_of_twelve_bytes(frame: &EthernetFrame<'_>)
-    requires { length (frame_bytes frame.now) ≡ 12 }
-{
-    let _ = frame.src_addr();
-}
-
-/// The EtherType ends with byte 14, and an empty payload follows.
+/// The header ends with byte 14, and an empty payload follows.
 fn view_of_header(frame: &EthernetFrame<'_>)
     requires { length (frame_bytes frame.now) ≡ 14 }
 {
-    let _ = frame.ethertype();
     let _ = frame.payload();
 }
 
-/// The receiver's address is written to 6 bytes.
-fn mutable_view_of_six_bytes(frame: &mut EthernetFrameMut<'_>, addr: EthernetAddress)
-    requires { length (frame_bytes_mut frame.old) ≡ 6 }
-{
-    frame.set_dst_addr(addr);
-}
-
-/// The sender's address is written to 12 bytes.
-fn mutable_view_of_twelve_bytes(frame: &mut EthernetFrameMut<'_>, addr: EthernetAddress)
-    requires { length (frame_bytes_mut frame.old) ≡ 12 }
-{
-    frame.set_src_addr(addr);
-}
-
-/// The EtherType and the whole header are written to 14 bytes.
+/// The header is emitted to 14 bytes, and an empty payload follows.
 fn mutable_view_of_header(frame: &mut EthernetFrameMut<'_>, value: EthernetRepr)
     requires { length (frame_bytes_mut frame.old) ≡ 14 }
 {
-    frame.set_ethertype(value.ethertype);
     value.emit(frame);
     let _ = frame.payload_mut();
 }

@@ -13,8 +13,6 @@ use wire_addr::{EthernetAddress, Ipv4Address};
 use wire_arp::{ArpHardware, ArpOperation, ArpPacket, ArpPacketMut, ArpRepr, laws};
 use wire_ethernet::EthernetProtocol;
 
-mod lengths;
-
 /// The first 6 bytes of the packet of any value say Ethernet and IPv4. The padding of a frame follows.
 fn emit_reads_back(value: ArpRepr, rest: &[u8])
     ensures len { 28 ≤ length (bytes_of value ++ rest.now) }
@@ -322,4 +320,11 @@ fn views_have_the_bytes(bytes: &[u8]) -> bool
     ensures { result ≡ true }
 {
     laws::views_have_the_bytes_arp(bytes)
+}
+
+/// The packet of a value is emitted to 28 bytes.
+fn emits_28_bytes(packet: &mut ArpPacketMut<'_>, value: ArpRepr)
+    requires { length (packet_bytes_mut packet.old) ≡ 28 }
+{
+    value.emit(packet);
 }

@@ -82,7 +82,7 @@ fn filled_checksum_verifies(bytes: &[u8])
 /// A header of 3 words ends with the checksum, in the fewest bytes.
 fn filled_checksum_verifies_at_its_end(bytes: &[u8])
     requires header { header_len bytes.now ≡ 12 }
-    requires len { length bytes.now ≡ 20 }
+    requires len { length bytes.now ≡ 12 }
     ensures valid { HasChecksum (with_checksum bytes.now) }
 {
     laws::filled_checksum_verifies_ipv4(bytes);
@@ -228,7 +228,7 @@ fn getters_read_addresses(packet: &Ipv4Packet<'_>) -> [u32; 2]
 
 /// The flag MF is set, or the offset is 8 bytes, or none of both.
 fn is_fragment_reads_two_fields(packet: &Ipv4Packet<'_>) -> bool
-    requires { length (packet_bytes packet.now) ≡ 20 }
+    requires { length (packet_bytes packet.now) ≡ 8 }
     ensures more_frags { field (packet_bytes packet.now) 50 1 ≡ 1 → result ≡ true }
     ensures frag_offset { field (packet_bytes packet.now) 51 13 ≡ 1 → result ≡ true }
     ensures neither { field (packet_bytes packet.now) 50 1 ≡ 0 → field (packet_bytes packet.now) 51 13 ≡ 0 → result ≡ false }
@@ -257,19 +257,19 @@ fn get_key_reads_addresses(packet: &Ipv4Packet<'_>) -> Ipv4FragKey
     key
 }
 
-/// In a header of ones only the three flags become 0.
+/// In bytes of ones only the three flags become 0.
 fn clear_flags_writes_the_flags(packet: &mut Ipv4PacketMut<'_>, rest: &[u8])
-    requires { packet_bytes_mut packet.old ≡ replicate 20 255 ++ rest.now }
-    ensures { packet_bytes_mut packet.new ≡ replicate 6 255 ++ 0x1f ∷ replicate 13 255 ++ rest.now }
+    requires { packet_bytes_mut packet.old ≡ replicate 7 255 ++ rest.now }
+    ensures { packet_bytes_mut packet.new ≡ replicate 6 255 ++ 0x1f ∷ rest.now }
 {
     laws::clear_flags_writes_the_flags_ipv4(packet);
 }
 
-/// The example of RFC 1624, section 4, in a header of zeros.
+/// The example of RFC 1624, section 4, after zeros.
 #[tactic(auto, unfolding(wire_checksum::specs::WordSum::residue))]
 fn update_checksum_writes_one_field(packet: &mut Ipv4PacketMut<'_>, rest: &[u8])
-    requires { packet_bytes_mut packet.old ≡ replicate 10 0 ++ 0xdd ∷ 0x2f ∷ replicate 8 0 ++ rest.now }
-    ensures { packet_bytes_mut packet.new ≡ replicate 10 0 ++ 0x00 ∷ 0x00 ∷ replicate 8 0 ++ rest.now }
+    requires { packet_bytes_mut packet.old ≡ replicate 10 0 ++ 0xdd ∷ 0x2f ∷ rest.now }
+    ensures { packet_bytes_mut packet.new ≡ replicate 10 0 ++ 0x00 ∷ 0x00 ∷ rest.now }
 {
     laws::update_checksum_writes_one_field_ipv4(packet, 0x5555, 0x3285);
 }
@@ -277,8 +277,8 @@ fn update_checksum_writes_one_field(packet: &mut Ipv4PacketMut<'_>, rest: &[u8])
 /// The hop limit 64 becomes 63. The checksum b861 becomes b961.
 #[tactic(auto, unfolding(wire_checksum::specs::WordSum::residue, wire_checksum::specs::WordSum::words))]
 fn update_writes_hop_limit(packet: &mut Ipv4PacketMut<'_>, rest: &[u8])
-    requires { packet_bytes_mut packet.old ≡ (0x45 ∷ 0 ∷ 0 ∷ 0x73 ∷ 0 ∷ 0 ∷ 0x40 ∷ 0 ∷ 64 ∷ 17 ∷ 0xb8 ∷ 0x61 ∷ 192 ∷ 168 ∷ 0 ∷ 1 ∷ 192 ∷ 168 ∷ 0 ∷ 199 ∷ []) ++ rest.now }
-    ensures { packet_bytes_mut packet.new ≡ (0x45 ∷ 0 ∷ 0 ∷ 0x73 ∷ 0 ∷ 0 ∷ 0x40 ∷ 0 ∷ 63 ∷ 17 ∷ 0xb9 ∷ 0x61 ∷ 192 ∷ 168 ∷ 0 ∷ 1 ∷ 192 ∷ 168 ∷ 0 ∷ 199 ∷ []) ++ rest.now }
+    requires { packet_bytes_mut packet.old ≡ (0x45 ∷ 0 ∷ 0 ∷ 0x73 ∷ 0 ∷ 0 ∷ 0x40 ∷ 0 ∷ 64 ∷ 17 ∷ 0xb8 ∷ 0x61 ∷ []) ++ rest.now }
+    ensures { packet_bytes_mut packet.new ≡ (0x45 ∷ 0 ∷ 0 ∷ 0x73 ∷ 0 ∷ 0 ∷ 0x40 ∷ 0 ∷ 63 ∷ 17 ∷ 0xb9 ∷ 0x61 ∷ []) ++ rest.now }
 {
     laws::update_writes_two_fields_ipv4(packet, laws::Ipv4Update::HopLimit(63));
 }
@@ -286,8 +286,8 @@ fn update_writes_hop_limit(packet: &mut Ipv4PacketMut<'_>, rest: &[u8])
 /// DSCP becomes 46, expedited forwarding. The checksum b861 becomes b7a9.
 #[tactic(auto, unfolding(wire_checksum::specs::WordSum::residue, wire_checksum::specs::WordSum::words))]
 fn update_writes_dscp(packet: &mut Ipv4PacketMut<'_>, rest: &[u8])
-    requires { packet_bytes_mut packet.old ≡ (0x45 ∷ 0 ∷ 0 ∷ 0x73 ∷ 0 ∷ 0 ∷ 0x40 ∷ 0 ∷ 64 ∷ 17 ∷ 0xb8 ∷ 0x61 ∷ 192 ∷ 168 ∷ 0 ∷ 1 ∷ 192 ∷ 168 ∷ 0 ∷ 199 ∷ []) ++ rest.now }
-    ensures { packet_bytes_mut packet.new ≡ (0x45 ∷ 0xb8 ∷ 0 ∷ 0x73 ∷ 0 ∷ 0 ∷ 0x40 ∷ 0 ∷ 64 ∷ 17 ∷ 0xb7 ∷ 0xa9 ∷ 192 ∷ 168 ∷ 0 ∷ 1 ∷ 192 ∷ 168 ∷ 0 ∷ 199 ∷ []) ++ rest.now }
+    requires { packet_bytes_mut packet.old ≡ (0x45 ∷ 0 ∷ 0 ∷ 0x73 ∷ 0 ∷ 0 ∷ 0x40 ∷ 0 ∷ 64 ∷ 17 ∷ 0xb8 ∷ 0x61 ∷ []) ++ rest.now }
+    ensures { packet_bytes_mut packet.new ≡ (0x45 ∷ 0xb8 ∷ 0 ∷ 0x73 ∷ 0 ∷ 0 ∷ 0x40 ∷ 0 ∷ 64 ∷ 17 ∷ 0xb7 ∷ 0xa9 ∷ []) ++ rest.now }
 {
     laws::update_writes_two_fields_ipv4(packet, laws::Ipv4Update::Dscp(46));
 }
@@ -295,8 +295,8 @@ fn update_writes_dscp(packet: &mut Ipv4PacketMut<'_>, rest: &[u8])
 /// ECN becomes 3, congestion experienced. The checksum b861 becomes b85e.
 #[tactic(auto, unfolding(wire_checksum::specs::WordSum::residue, wire_checksum::specs::WordSum::words))]
 fn update_writes_ecn(packet: &mut Ipv4PacketMut<'_>, rest: &[u8])
-    requires { packet_bytes_mut packet.old ≡ (0x45 ∷ 0 ∷ 0 ∷ 0x73 ∷ 0 ∷ 0 ∷ 0x40 ∷ 0 ∷ 64 ∷ 17 ∷ 0xb8 ∷ 0x61 ∷ 192 ∷ 168 ∷ 0 ∷ 1 ∷ 192 ∷ 168 ∷ 0 ∷ 199 ∷ []) ++ rest.now }
-    ensures { packet_bytes_mut packet.new ≡ (0x45 ∷ 0x03 ∷ 0 ∷ 0x73 ∷ 0 ∷ 0 ∷ 0x40 ∷ 0 ∷ 64 ∷ 17 ∷ 0xb8 ∷ 0x5e ∷ 192 ∷ 168 ∷ 0 ∷ 1 ∷ 192 ∷ 168 ∷ 0 ∷ 199 ∷ []) ++ rest.now }
+    requires { packet_bytes_mut packet.old ≡ (0x45 ∷ 0 ∷ 0 ∷ 0x73 ∷ 0 ∷ 0 ∷ 0x40 ∷ 0 ∷ 64 ∷ 17 ∷ 0xb8 ∷ 0x61 ∷ []) ++ rest.now }
+    ensures { packet_bytes_mut packet.new ≡ (0x45 ∷ 0x03 ∷ 0 ∷ 0x73 ∷ 0 ∷ 0 ∷ 0x40 ∷ 0 ∷ 64 ∷ 17 ∷ 0xb8 ∷ 0x5e ∷ []) ++ rest.now }
 {
     laws::update_writes_two_fields_ipv4(packet, laws::Ipv4Update::Ecn(3));
 }

@@ -2,9 +2,9 @@
 
 ghost use Rattle.std.specs.Prelude.{◌≡◌, ◌↔◌, ◌++◌, ◌≤◌, IsTrue, Some, length, true};
 ghost use Rattle.wire_addr.specs.Order.{named_cmp};
-ghost use Rattle.wire_field.specs.Diagram.{nth_field};
-ghost use Rattle.wire_arp.specs.Arp.{HasLengths, Reads, arp_of, bytes_of, hardware_number, is_unknown_hardware, is_unknown_operation, normal, operation_number, packet_bytes, packet_bytes_mut};
-ghost use Rattle.wire_arp.specs.ArpFields.{Fits, IsGot, after, diagram, got, widths};
+ghost use Rattle.wire_field.specs.Diagram.{end_of, nth_field};
+ghost use Rattle.wire_arp.specs.Arp.{Reads, arp_of, bytes_of, hardware_number, is_unknown_hardware, is_unknown_operation, normal, operation_number, packet_bytes, packet_bytes_mut};
+ghost use Rattle.wire_arp.specs.ArpFields.{Fits, IsGot, address_of, after, diagram, got, read_of, widths, write_of};
 
 use crate::arp::{ArpHardware, ArpOperation, ArpPacket, ArpPacketMut, ArpRepr};
 use wire_ethernet::EthernetProtocol;
@@ -75,7 +75,7 @@ pub enum ArpSetting<'a> {
 
 /// A setter writes its field, and nothing else. The places of the addresses are those before the write.
 pub fn setter_writes_one_field_arp(packet: &mut ArpPacketMut<'_>, setting: ArpSetting<'_>)
-    requires lengths { HasLengths (packet_bytes_mut packet.old) }
+    requires lengths { let bytes = packet_bytes_mut packet.old in end_of (widths bytes) (write_of setting).0 ≤ length bytes }
     requires fits { Fits setting (packet_bytes_mut packet.old) }
     ensures { packet_bytes_mut packet.new ≡ after setting.entry (packet_bytes_mut packet.old) }
 {
@@ -116,7 +116,7 @@ pub enum ArpGetting {
 
 /// A getter returns the number in its field.
 pub fn getters_read_fields_arp(packet: &ArpPacket<'_>, getting: ArpGetting) -> u16
-    requires { 8 ≤ length (packet_bytes packet.now) }
+    requires { end_of diagram (read_of getting) ≤ length (packet_bytes packet.now) }
     ensures { result ≡ got getting (packet_bytes packet.now) }
 {
     match getting {
@@ -142,7 +142,7 @@ pub fn address_getters_read_fields_arp<'a>(
     packet: &ArpPacket<'a>,
     getting: ArpAddressGetting,
 ) -> &'a [u8]
-    requires { HasLengths (packet_bytes packet.now) }
+    requires { let bytes = packet_bytes packet.now in end_of (widths bytes) (address_of getting) ≤ length bytes }
     ensures { IsGot getting result.now (packet_bytes packet.now) }
 {
     bytes_fit(packet.as_bytes());
@@ -159,7 +159,7 @@ pub fn mutable_address_getters_read_fields_arp<'a>(
     packet: &'a ArpPacketMut<'_>,
     getting: ArpAddressGetting,
 ) -> &'a [u8]
-    requires { HasLengths (packet_bytes_mut packet.now) }
+    requires { let bytes = packet_bytes_mut packet.now in end_of (widths bytes) (address_of getting) ≤ length bytes }
     ensures { IsGot getting result.now (packet_bytes_mut packet.now) }
 {
     bytes_fit(packet.as_bytes());

@@ -3,7 +3,8 @@
 ghost use Rattle.std.specs.Prelude.{◌≡◌, ◌↔◌, ◌++◌, ◌≤◌, IsTrue, Some, length, true};
 ghost use Rattle.wire_addr.specs.Order.{named_cmp};
 ghost use Rattle.wire_ethernet.specs.Ethernet.{Reads, bytes_of, ethernet_of, frame_bytes, frame_bytes_mut, is_unknown, normal, number_of};
-ghost use Rattle.wire_ethernet.specs.EthernetFields.{after, got};
+ghost use Rattle.wire_ethernet.specs.EthernetFields.{after, diagram, got, read_of, write_of};
+ghost use Rattle.wire_field.specs.Diagram.{end_of};
 
 use crate::ethernet::{EthernetFrame, EthernetFrameMut, EthernetProtocol, EthernetRepr};
 use byteorder::{ByteOrder, NetworkEndian};
@@ -55,7 +56,7 @@ pub enum EthernetSetting {
 
 /// A setter writes its field of the header's diagram, and nothing else.
 pub fn setter_writes_one_field_ethernet(frame: &mut EthernetFrameMut<'_>, setting: EthernetSetting)
-    requires { 14 ≤ length (frame_bytes_mut frame.old) }
+    requires { end_of diagram (write_of setting).0 ≤ length (frame_bytes_mut frame.old) }
     ensures { frame_bytes_mut frame.new ≡ after setting (frame_bytes_mut frame.old) }
 {
     match setting {
@@ -81,7 +82,7 @@ pub enum EthernetGetting {
 
 /// A getter returns the number in its field of the header's diagram.
 pub fn getters_read_fields_ethernet(frame: &EthernetFrame<'_>, getting: EthernetGetting) -> u64
-    requires { 14 ≤ length (frame_bytes frame.now) }
+    requires { end_of diagram (read_of getting) ≤ length (frame_bytes frame.now) }
     ensures { result ≡ got getting (frame_bytes frame.now) }
 {
     bytes_fit(frame.as_bytes());

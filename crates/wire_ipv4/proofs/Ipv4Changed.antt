@@ -76,12 +76,12 @@ reads-dst_addr bytes a verified checked v four r =
 -- ---- what is no value
 
 -- the checksum
-pub sets-checksum : (bytes : List ℕ) (x : ℕ) → 20 ≤ length bytes → Sets bytes (with_field bytes 80 16 x) (λ h. h)
+pub sets-checksum : (bytes : List ℕ) (x : ℕ) → 12 ≤ length bytes → Sets bytes (with_field bytes 80 16 x) (λ h. h)
 sets-checksum bytes x room = grind arith
 
 pub reads_checksum : (bytes : List ℕ) (x : ℕ) (verified checked : Bool) (v : Ipv4Repr) → Reads bytes verified v
     → (IsTrue checked → HasChecksum (with_field bytes 80 16 x)) → Reads (with_field bytes 80 16 x) checked v
-reads_checksum bytes x verified checked v r = reads-set bytes (with_field bytes 80 16 x) (λ h. h) verified checked v r (sets-checksum bytes x r.lengths.least)
+reads_checksum bytes x verified checked v r = reads-set bytes (with_field bytes 80 16 x) (λ h. h) verified checked v r (sets-checksum bytes x (omega (arith, r.lengths.least)))
 
 -- the same of bytes in which it was written
 pub reads-summed : (bytes new : List ℕ) (x : ℕ) (verified checked : Bool) (v : Ipv4Repr) → new ≡ with_field bytes 80 16 x → Reads bytes verified v → (IsTrue checked → HasChecksum new) → Reads new checked v

@@ -32,11 +32,11 @@ address_updated bytes a first are octets four room =
     rw (written, old) refl
 
 -- a checksum that is filled in is written once
-pub filled : (bytes : List ℕ) → AreBytes bytes → 20 ≤ length bytes → with_checksum bytes ≡ after_fill bytes
+pub filled : (bytes : List ℕ) → AreBytes bytes → 12 ≤ length bytes → with_checksum bytes ≡ after_fill bytes
 filled bytes are least = grind arith
 
 -- it leaves the lengths
-pub shape-filled : (bytes : List ℕ) → 20 ≤ length bytes → (length (with_checksum bytes) ≡ length bytes) × (header_len (with_checksum bytes) ≡ header_len bytes)
+pub shape-filled : (bytes : List ℕ) → 12 ≤ length bytes → (length (with_checksum bytes) ≡ length bytes) × (header_len (with_checksum bytes) ≡ header_len bytes)
 shape-filled bytes least =
     let first = sets-checksum bytes 0 least in
     let second = sets-checksum (with_field bytes 80 16 0) (65535 - sum_of_bytes (take (header_len bytes) (with_field bytes 80 16 0))) (omega (arith, first.long, least)) in

@@ -20,7 +20,7 @@ valid-updated : (bytes changed : List ℕ) (f : Ipv4Repr → Ipv4Repr) (old new 
     → HasChecksum bytes → HasChecksum (with_updated_checksum changed (residue old) (residue new))
 valid-updated bytes changed f old new are header room s change valid =
     let n = header_len bytes in
-    let least : 20 ≤ length changed = omega (arith, s.long, header, room) in
+    let least : 12 ≤ length changed = omega (arith, s.long, header, room) in
     let zeroed = sets-checksum changed 0 least in
     let same : header_len (with_updated_checksum changed (residue old) (residue new)) ≡ n = (sets-checksum changed _ least).header ∙ s.header in
     let positive = sum-take-positive (with_field changed 80 16 0) n (omega (arith, header)) (omega (arith, zeroed.long, s.long, room)) (omega (arith, zeroed.header, s.header, header)) in
@@ -87,9 +87,10 @@ valid-dst_addr bytes a are octets four header room =
 -- ---- a checksum that is filled in
 
 -- a checksum that was computed is valid
-pub valid-filled : (bytes : List ℕ) → AreBytes bytes → 20 ≤ length bytes → 12 ≤ header_len bytes → header_len bytes ≤ length bytes → HasChecksum (with_checksum bytes)
-valid-filled bytes are least header room =
+pub valid-filled : (bytes : List ℕ) → AreBytes bytes → 12 ≤ header_len bytes → header_len bytes ≤ length bytes → HasChecksum (with_checksum bytes)
+valid-filled bytes are header room =
     let n = header_len bytes in
+    let least : 12 ≤ length bytes = omega (arith, header, room) in
     let zeroed = with_field bytes 80 16 0 in
     let long = length_with_field bytes 80 16 0 (omega arith) (omega (arith, least)) in
     let total = sum (words (take n zeroed)) in
@@ -104,4 +105,4 @@ valid-filled bytes are least header room =
 pub reads-filled : (bytes : List ℕ) (verified checked : Bool) (v : Ipv4Repr) → AreBytes bytes → Reads bytes verified v → Reads (with_checksum bytes) checked v
 reads-filled bytes verified checked v are r =
     reads_checksum (with_field bytes 80 16 0) _ false checked v (reads_checksum bytes 0 verified false v r (λ no. cc))
-    (λ on. valid-filled bytes are r.lengths.least (omega (arith, r.lengths.header)) (omega (arith, r.lengths.within, r.lengths.whole)))
+    (λ on. valid-filled bytes are (omega (arith, r.lengths.header)) (omega (arith, r.lengths.within, r.lengths.whole)))

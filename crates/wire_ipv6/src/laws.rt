@@ -2,6 +2,7 @@
 
 ghost use Rattle.std.specs.Prelude.{◌≡◌, ◌↔◌, ℕ, ◌+◌, ◌++◌, ◌<◌, ◌≤◌, IsTrue, Some, length};
 ghost use Rattle.wire_ends.specs.Protocol.{protocol_of};
+ghost use Rattle.wire_field.specs.Diagram.{end_of};
 ghost use Rattle.wire_field.specs.Field.{with_field, with_range};
 ghost use Rattle.wire_ipv6.specs.Ipv6 as ipv6;
 ghost use Rattle.wire_ipv6.specs.Ipv6Fields as ipv6_fields;
@@ -102,7 +103,7 @@ pub enum Ipv6Setting {
 
 /// A setter writes its field of the header's diagram, and nothing else.
 pub fn setter_writes_one_field_ipv6(packet: &mut Ipv6PacketMut<'_>, setting: Ipv6Setting)
-    requires { 40 ≤ length (ipv6.packet_bytes_mut packet.old) }
+    requires { end_of ipv6_fields.diagram (ipv6_fields.write_of setting).0 ≤ length (ipv6.packet_bytes_mut packet.old) }
     ensures { ipv6.packet_bytes_mut packet.new ≡ ipv6_fields.after setting (ipv6.packet_bytes_mut packet.old) }
 {
     match setting {
@@ -132,7 +133,7 @@ pub enum Ipv6Getting {
 
 /// A getter returns the number in its field of the header's diagram.
 pub fn getters_read_fields_ipv6(packet: &Ipv6Packet<'_>, getting: Ipv6Getting) -> u128
-    requires { 40 ≤ length (ipv6.packet_bytes packet.now) }
+    requires { end_of ipv6_fields.diagram (ipv6_fields.read_of getting) ≤ length (ipv6.packet_bytes packet.now) }
     ensures { result ≡ ipv6_fields.got getting (ipv6.packet_bytes packet.now) }
 {
     bytes_fit(packet.as_bytes());
@@ -186,7 +187,7 @@ pub fn setter_writes_one_field_ipv6_fragment(
     header: &mut Ipv6FragmentHeaderMut<'_>,
     setting: Ipv6FragmentSetting,
 )
-    requires { 6 ≤ length (fragment.header_bytes_mut header.old) }
+    requires { end_of fragment_fields.diagram (fragment_fields.write_of setting).0 ≤ length (fragment.header_bytes_mut header.old) }
     ensures { fragment.header_bytes_mut header.new ≡ fragment_fields.after setting (fragment.header_bytes_mut header.old) }
 {
     match setting {
@@ -210,7 +211,7 @@ pub fn getters_read_fields_ipv6_fragment(
     header: &Ipv6FragmentHeader<'_>,
     getting: Ipv6FragmentGetting,
 ) -> u32
-    requires { 6 ≤ length (fragment.header_bytes header.now) }
+    requires { end_of fragment_fields.diagram (fragment_fields.read_of getting) ≤ length (fragment.header_bytes header.now) }
     ensures { result ≡ fragment_fields.got getting (fragment.header_bytes header.now) }
 {
     match getting {

@@ -126,7 +126,7 @@ impl<B: Octets> Ipv4View<B> {
 
     /// Returns `true` if the flag DF (don't fragment) is set.
     pub fn dont_frag(&self) -> bool
-        requires { 8 ≤ length (B.octets (packet_slice self.now)) }
+        requires { 7 ≤ length (B.octets (packet_slice self.now)) }
         ensures { IsTrue result ↔ (field (B.octets (packet_slice self.now)) 49 1 ≡ 1) }
     {
         is_bit_set(self.as_bytes(), 49)
@@ -134,7 +134,7 @@ impl<B: Octets> Ipv4View<B> {
 
     /// Returns `true` if the flag MF (more fragments) is set.
     pub fn more_frags(&self) -> bool
-        requires { 8 ≤ length (B.octets (packet_slice self.now)) }
+        requires { 7 ≤ length (B.octets (packet_slice self.now)) }
         ensures { IsTrue result ↔ (field (B.octets (packet_slice self.now)) 50 1 ≡ 1) }
     {
         is_bit_set(self.as_bytes(), 50)

@@ -98,7 +98,7 @@ impl<'a> Ipv4PacketMut<'a> {
 
     /// Writes the flag DF (don't fragment).
     pub fn set_dont_frag(&mut self, value: bool)
-        requires { 8 ≤ length (packet_bytes_mut self.old) }
+        requires { 7 ≤ length (packet_bytes_mut self.old) }
         ensures { Becomes self.old self.new (with_field (packet_bytes_mut self.old) 49 1 (if value then 1 else 0)) }
     {
         set_bits(self.buffer, 49, 1, value.into());
@@ -106,7 +106,7 @@ impl<'a> Ipv4PacketMut<'a> {
 
     /// Writes the flag MF (more fragments).
     pub fn set_more_frags(&mut self, value: bool)
-        requires { 8 ≤ length (packet_bytes_mut self.old) }
+        requires { 7 ≤ length (packet_bytes_mut self.old) }
         ensures { Becomes self.old self.new (with_field (packet_bytes_mut self.old) 50 1 (if value then 1 else 0)) }
     {
         set_bits(self.buffer, 50, 1, value.into());
@@ -162,7 +162,7 @@ impl<'a> Ipv4PacketMut<'a> {
 
     /// Clears the three flags, also the reserved one.
     pub fn clear_flags(&mut self)
-        requires { 8 ≤ length (packet_bytes_mut self.old) }
+        requires { 7 ≤ length (packet_bytes_mut self.old) }
         ensures { Becomes self.old self.new (with_field (packet_bytes_mut self.old) 48 3 0) }
     {
         set_bits(self.buffer, 48, 3, 0);

@@ -1,6 +1,6 @@
-use Rattle.std.proofs.Common.{◌≡◌, ◌≤◌, ◌∙◌, ℕ, List, length, arith, subst, sym}
+use Rattle.std.proofs.Common.{◌∙◌, arith, subst, sym}
 use Rattle.wire_field.proofs.Spelled.{AreBytes}
-use Rattle.wire_ipv4.specs.Ipv4.{HasChecksum, header_len, packet_bytes_mut}
+use Rattle.wire_ipv4.specs.Ipv4.{HasChecksum, packet_bytes_mut}
 use Rattle.wire_ipv4.proofs.Ipv4Numbers.{filled, shape-filled}
 use Rattle.wire_ipv4.proofs.Ipv4Updated.{valid-filled}
 use Rattle.wire_ipv4.proofs.laws.fill_checksum_writes_one_field_ipv4.Goals as goal
@@ -14,5 +14,5 @@ pub returns : goal.returns
 returns c =
     let bytes = packet_bytes_mut c.args.packet.now in
     let octets = subst AreBytes c.as_bytes.ensures c.bytes_fit.ensures in
-    let valid = subst HasChecksum (sym c.fill_checksum.ensures.holds) (valid-filled (packet_bytes_mut c.args.packet.now) octets c.requires.least c.requires.field c.requires.header) in
-    record { written = c.fill_checksum.ensures.holds ∙ filled bytes octets c.requires.least; valid = valid; verified = c.verify_checksum.ensures.1 valid }
+    let valid = subst HasChecksum (sym c.fill_checksum.ensures.holds) (valid-filled (packet_bytes_mut c.args.packet.now) octets c.requires.field c.requires.header) in
+    record { written = c.fill_checksum.ensures.holds ∙ filled bytes octets (omega (arith, c.requires.field, c.requires.header)); valid = valid; verified = c.verify_checksum.ensures.1 valid }
