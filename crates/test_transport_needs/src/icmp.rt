@@ -268,13 +268,13 @@ fn fill_checksum_writes_one_field_over_ipv6(
     laws::fill_checksum_writes_one_field_icmp(packet, src, dst);
 }
 
-/// The checksum of any message of 8 bytes or more is correct after it was filled in.
+/// The checksum of any message of 4 bytes or more is correct after it was filled in.
 fn fill_checksum_writes_one_field_and_verifies(
     packet: &mut IcmpPacketMut<'_>,
     src_addr: IpAddress,
     dst_addr: IpAddress,
 )
-    requires header { 8 ≤ length (packet_bytes_mut packet.old) }
+    requires header { 4 ≤ length (packet_bytes_mut packet.old) }
     requires family { version_of src_addr ≡ version_of dst_addr }
     ensures { message_sum src_addr dst_addr (packet_bytes_mut packet.new) ≡ 65535 }
 {
@@ -301,7 +301,7 @@ fn update_checksum_writes_one_field_of_zeros(packet: &mut IcmpPacketMut<'_>)
 
 /// Whatever the words were, all bytes but those of the checksum stay.
 fn update_checksum_writes_one_field_of_any(packet: &mut IcmpPacketMut<'_>, old: u16, new: u16)
-    requires { 8 ≤ length (packet_bytes_mut packet.old) }
+    requires { 4 ≤ length (packet_bytes_mut packet.old) }
     ensures before { take 2 (packet_bytes_mut packet.new) ≡ take 2 (packet_bytes_mut packet.old) }
     ensures after { drop 4 (packet_bytes_mut packet.new) ≡ drop 4 (packet_bytes_mut packet.old) }
 {
@@ -324,7 +324,7 @@ fn update_ident_writes_two_fields_and_verifies(
     dst_addr: IpAddress,
     ident: u16,
 )
-    requires header { 8 ≤ length (packet_bytes_mut packet.old) }
+    requires header { 6 ≤ length (packet_bytes_mut packet.old) }
     requires sum { message_sum src_addr dst_addr (packet_bytes_mut packet.old) ≡ 65535 }
     ensures { message_sum src_addr dst_addr (packet_bytes_mut packet.new) ≡ 65535 }
 {
@@ -344,7 +344,7 @@ fn errors_are_no_queries(
     version: IpVersion,
     packet: &mut IcmpPacketMut<'_>,
 ) -> bool
-    requires { length (packet_bytes_mut packet.old) ≡ 8 }
+    requires { length (packet_bytes_mut packet.old) ≡ 1 }
     ensures { IsTrue result }
 {
     laws::errors_are_no_queries_icmp(value, version, packet)

@@ -375,7 +375,8 @@ fn checksum_verdicts_agree(
     src_addr: &IpAddress,
     dst_addr: &IpAddress,
 ) -> bool
-    requires lengths { HasLengths (packet_bytes packet.now) }
+    requires header { 8 ≤ length (packet_bytes packet.now) }
+    requires whole { packet_len (packet_bytes packet.now) ≤ length (packet_bytes packet.now) }
     requires family { version_of src_addr.now ≡ version_of dst_addr.now }
     ensures { IsTrue result }
 {

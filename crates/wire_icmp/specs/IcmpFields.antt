@@ -25,6 +25,11 @@ read_of get.Checksum = 2
 read_of get.Word = 3
 read_of get.EchoIdent = 3
 
+-- the widths of the fields of the message that a getter reads
+abbrev pub read_in : IcmpGetting → List ℕ
+read_in get.EchoIdent = echo_diagram
+read_in _ = diagram
+
 -- the number that a getter returns
 abbrev pub got : IcmpGetting → List ℕ → ℕ
 got get.EchoIdent = nth_field echo_diagram (read_of get.EchoIdent)
@@ -37,6 +42,11 @@ write_of (set.MsgCode x) = (1, x)
 write_of (set.Checksum x) = (2, x)
 write_of (set.Word x) = (3, x)
 write_of (set.EchoIdent x) = (3, x)
+
+-- the widths of the fields of the message that a setter writes
+abbrev pub write_in : IcmpSetting → List ℕ
+write_in (set.EchoIdent x) = echo_diagram
+write_in _ = diagram
 
 -- the bytes after a call of a setter
 abbrev pub after : IcmpSetting → List ℕ → List ℕ

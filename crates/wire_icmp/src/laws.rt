@@ -3,9 +3,9 @@
 ghost use Rattle.std.specs.Prelude.{◌≡◌, ◌≢◌, ◌↔◌, ◌%◌, ◌≤◌, IsTrue, List, Some, false, length, not, true, ℕ};
 ghost use Rattle.wire_ends.specs.IpAddress.{address_bytes, version_of};
 ghost use Rattle.wire_ends.specs.declared.ip_address.IpAddress.{IpAddress};
-ghost use Rattle.wire_field.specs.Diagram.{nth_field, with_nth};
-ghost use Rattle.wire_icmp.specs.Icmp.{HasHeader, IsExact, IsNormal, Reads, Verifies, bytes_of, icmp_of, packet_bytes, packet_bytes_mut, payload_of, with_checksum};
-ghost use Rattle.wire_icmp.specs.IcmpFields.{after, after_fill, diagram, echo_diagram, got, with_sums};
+ghost use Rattle.wire_field.specs.Diagram.{end_of, nth_field, with_nth};
+ghost use Rattle.wire_icmp.specs.Icmp.{IsExact, IsNormal, Reads, Verifies, bytes_of, icmp_of, packet_bytes, packet_bytes_mut, payload_of, with_checksum};
+ghost use Rattle.wire_icmp.specs.IcmpFields.{after, after_fill, echo_diagram, got, read_in, read_of, with_sums, write_in, write_of};
 ghost use Rattle.wire_icmp.specs.declared.icmp.repr.IcmpRepr.{IcmpRepr};
 
 use crate::icmp::{IcmpPacket, IcmpPacketMut, IcmpRepr};
@@ -146,7 +146,7 @@ pub enum IcmpSetting {
 
 /// A setter writes its field of the header's diagram, and nothing else.
 pub fn setter_writes_one_field_icmp(packet: &mut IcmpPacketMut<'_>, setting: IcmpSetting)
-    requires { HasHeader (packet_bytes_mut packet.old) }
+    requires { end_of (write_in setting) (write_of setting).0 ≤ length (packet_bytes_mut packet.old) }
     ensures { packet_bytes_mut packet.new ≡ after setting (packet_bytes_mut packet.old) }
 {
     match setting {
@@ -170,7 +170,7 @@ pub enum IcmpGetting {
 
 /// A getter returns the number in its field of the header's diagram.
 pub fn getters_read_fields_icmp(packet: &IcmpPacket<'_>, getting: IcmpGetting) -> u32
-    requires { HasHeader (packet_bytes packet.now) }
+    requires { end_of (read_in getting) (read_of getting) ≤ length (packet_bytes packet.now) }
     ensures { result ≡ got getting (packet_bytes packet.now) }
 {
     match getting {
@@ -189,7 +189,7 @@ pub fn fill_checksum_writes_one_field_icmp(
     src_addr: IpAddress,
     dst_addr: IpAddress,
 )
-    requires header { HasHeader (packet_bytes_mut packet.old) }
+    requires header { 4 ≤ length (packet_bytes_mut packet.old) }
     requires family { version_of src_addr ≡ version_of dst_addr }
     ensures fields { packet_bytes_mut packet.new ≡ after_fill src_addr dst_addr (packet_bytes_mut packet.old) }
     ensures valid { Verifies src_addr dst_addr (packet_bytes_mut packet.new) }
@@ -200,7 +200,7 @@ pub fn fill_checksum_writes_one_field_icmp(
 
 /// Updating the checksum for changed words writes the checksum, and nothing else.
 pub fn update_checksum_writes_one_field_icmp(packet: &mut IcmpPacketMut<'_>, old: u16, new: u16)
-    requires { HasHeader (packet_bytes_mut packet.old) }
+    requires { 4 ≤ length (packet_bytes_mut packet.old) }
     ensures { packet_bytes_mut packet.new ≡ with_sums old new (packet_bytes_mut packet.old) }
 {
     packet.update_checksum(old, new);
@@ -209,7 +209,7 @@ pub fn update_checksum_writes_one_field_icmp(packet: &mut IcmpPacketMut<'_>, old
 /// Writing the identifier of an echo with the checksum writes these two fields, and nothing else. A
 /// correct checksum stays correct.
 pub fn update_ident_writes_two_fields_icmp(packet: &mut IcmpPacketMut<'_>, ident: u16)
-    requires { HasHeader (packet_bytes_mut packet.old) }
+    requires { 6 ≤ length (packet_bytes_mut packet.old) }
     ensures fields { let bytes = packet_bytes_mut packet.old in
         packet_bytes_mut packet.new ≡ with_sums (nth_field echo_diagram 3 bytes) ident (with_nth echo_diagram 3 ident bytes) }
     ensures valid { (src dst : IpAddress) → length (address_bytes src) % 2 ≡ 0 → length (address_bytes dst) % 2 ≡ 0
@@ -238,7 +238,7 @@ pub fn errors_are_no_queries_icmp(
     version: IpVersion,
     packet: &mut IcmpPacketMut<'_>,
 ) -> bool
-    requires { HasHeader (packet_bytes_mut packet.old) }
+    requires { 1 ≤ length (packet_bytes_mut packet.old) }
     ensures { IsTrue result }
 {
     packet.set_msg_type(value.header(version).msg_type);

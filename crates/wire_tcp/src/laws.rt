@@ -4,10 +4,11 @@ ghost use Rattle.std.specs.Prelude.{◌≡◌, ◌≢◌, ◌⊎◌, ◌↔◌, 
 ghost use Rattle.std.specs.Option.{option_map};
 ghost use Rattle.wire_ends.specs.IpAddress.{address_bytes, version_of};
 ghost use Rattle.wire_ends.specs.declared.ip_address.IpAddress.{IpAddress};
+ghost use Rattle.wire_field.specs.Diagram.{end_of};
 ghost use Rattle.wire_field.specs.Field.{field, with_field};
 ghost use Rattle.wire_tcp.specs.Tcp.{HasLengths, Verifies, header_len, packet_bytes, packet_bytes_mut, payload_of, with_checksum, with_flag};
 ghost use Rattle.wire_tcp.specs.TcpRepr.{HasIdleRanges, IsQuiet, Reads, TcpHeader, bytes_of, header_len_of, header_of, no_ranges, normal, seq_of, tcp_of};
-ghost use Rattle.wire_tcp.specs.TcpFields.{address_after, address_before, after, after_fill, after_update, got, quiet_of, with_no_flags, with_sums};
+ghost use Rattle.wire_tcp.specs.TcpFields.{address_after, address_before, after, after_fill, after_update, diagram, got, quiet_of, read_of, with_no_flags, with_sums, write_of};
 
 use crate::tcp::{TCP_HEADER_LEN, TcpPacket, TcpPacketMut, TcpRepr};
 use net_base::ChecksumCapabilities;
@@ -227,7 +228,7 @@ pub enum TcpSetting {
 
 /// A setter writes its field of the header's diagram, and nothing else.
 pub fn setter_writes_one_field_tcp(packet: &mut TcpPacketMut<'_>, setting: TcpSetting)
-    requires { 20 ≤ length (packet_bytes_mut packet.old) }
+    requires { end_of diagram (write_of setting).0 ≤ length (packet_bytes_mut packet.old) }
     ensures { packet_bytes_mut packet.new ≡ after setting (packet_bytes_mut packet.old) }
 {
     match setting {
@@ -253,7 +254,7 @@ pub fn setter_writes_one_field_tcp(packet: &mut TcpPacketMut<'_>, setting: TcpSe
 
 /// Clearing the flags writes all nine, and the reserved bits, and nothing else.
 pub fn clear_flags_writes_the_flags_tcp(packet: &mut TcpPacketMut<'_>)
-    requires { 20 ≤ length (packet_bytes_mut packet.old) }
+    requires { 14 ≤ length (packet_bytes_mut packet.old) }
     ensures { packet_bytes_mut packet.new ≡ with_no_flags (packet_bytes_mut packet.old) }
 {
     packet.clear_flags();
@@ -283,7 +284,7 @@ pub enum TcpGetting {
 
 /// A getter returns the number in its field of the header's diagram, in its unit.
 pub fn getters_read_fields_tcp(packet: &TcpPacket<'_>, getting: TcpGetting) -> u32
-    requires { 20 ≤ length (packet_bytes packet.now) }
+    requires { end_of diagram (read_of getting).0 ≤ length (packet_bytes packet.now) }
     ensures { result ≡ got getting (packet_bytes packet.now) }
 {
     match getting {
@@ -319,7 +320,7 @@ pub enum TcpUpdate {
 /// An update writes its field of the header's diagram and the checksum, and nothing else. A valid
 /// checksum stays valid.
 pub fn update_writes_two_fields_tcp(packet: &mut TcpPacketMut<'_>, update: TcpUpdate)
-    requires { 20 ≤ length (packet_bytes_mut packet.old) }
+    requires { 18 ≤ length (packet_bytes_mut packet.old) }
     ensures fields { packet_bytes_mut packet.new ≡ after_update update (packet_bytes_mut packet.old) }
     ensures valid_src { (src dst : IpAddress) → length (address_bytes src) % 2 ≡ 0 → length (address_bytes dst) % 2 ≡ 0
         → Verifies (address_before update src) dst (packet_bytes_mut packet.old) → Verifies (address_after update src) dst (packet_bytes_mut packet.new) }
@@ -336,7 +337,7 @@ pub fn update_writes_two_fields_tcp(packet: &mut TcpPacketMut<'_>, update: TcpUp
 
 /// Updating the checksum for changed words writes the checksum, and nothing else.
 pub fn update_checksum_writes_one_field_tcp(packet: &mut TcpPacketMut<'_>, old: u16, new: u16)
-    requires { 20 ≤ length (packet_bytes_mut packet.old) }
+    requires { 18 ≤ length (packet_bytes_mut packet.old) }
     ensures { let bytes = packet_bytes_mut packet.old in packet_bytes_mut packet.new ≡ with_sums old new bytes bytes }
 {
     packet.update_checksum(old, new);
@@ -348,7 +349,7 @@ pub fn fill_checksum_writes_one_field_tcp(
     src_addr: IpAddress,
     dst_addr: IpAddress,
 )
-    requires header { 20 ≤ length (packet_bytes_mut packet.old) }
+    requires header { 18 ≤ length (packet_bytes_mut packet.old) }
     requires family { version_of src_addr ≡ version_of dst_addr }
     ensures fields { packet_bytes_mut packet.new ≡ after_fill src_addr dst_addr (packet_bytes_mut packet.old) }
     ensures valid { Verifies src_addr dst_addr (packet_bytes_mut packet.new) }

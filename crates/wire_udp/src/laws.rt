@@ -3,10 +3,10 @@
 ghost use Rattle.std.specs.Prelude.{◌≡◌, ◌≢◌, ◌↔◌, ◌++◌, ◌%◌, ◌≤◌, IsTrue, List, Some, false, length, true, ℕ};
 ghost use Rattle.wire_ends.specs.IpAddress.{address_bytes, version_of};
 ghost use Rattle.wire_ends.specs.declared.ip_address.IpAddress.{IpAddress};
-ghost use Rattle.wire_field.specs.Diagram.{nth_field};
+ghost use Rattle.wire_field.specs.Diagram.{end_of, nth_field};
 ghost use Rattle.wire_field.specs.Field.{field, with_field};
-ghost use Rattle.wire_udp.specs.Udp.{HasChecksum, HasLengths, Reads, Verifies, bytes_of, max_payload_len, packet_bytes, packet_bytes_mut, payload_of, udp_of, with_checksum};
-ghost use Rattle.wire_udp.specs.UdpFields.{address_after, address_before, after, after_fill, after_update, diagram, got, with_sums};
+ghost use Rattle.wire_udp.specs.Udp.{HasChecksum, HasLengths, Reads, Verifies, bytes_of, max_payload_len, packet_bytes, packet_bytes_mut, packet_len, payload_of, udp_of, with_checksum};
+ghost use Rattle.wire_udp.specs.UdpFields.{address_after, address_before, after, after_fill, after_update, diagram, got, read_of, with_sums, write_of};
 ghost use Rattle.wire_udp.specs.declared.udp.repr.UdpRepr.{UdpRepr};
 
 use crate::udp::{UDP_HEADER_LEN, UdpPacket, UdpPacketMut, UdpRepr};
@@ -137,7 +137,7 @@ pub enum UdpSetting {
 
 /// A setter writes its field of the header's diagram, and nothing else.
 pub fn setter_writes_one_field_udp(packet: &mut UdpPacketMut<'_>, setting: UdpSetting)
-    requires { 8 ≤ length (packet_bytes_mut packet.old) }
+    requires { end_of diagram (write_of setting).0 ≤ length (packet_bytes_mut packet.old) }
     ensures { packet_bytes_mut packet.new ≡ after setting (packet_bytes_mut packet.old) }
 {
     match setting {
@@ -159,7 +159,7 @@ pub enum UdpGetting {
 
 /// A getter returns the number in its field of the header's diagram.
 pub fn getters_read_fields_udp(packet: &UdpPacket<'_>, getting: UdpGetting) -> u16
-    requires { 8 ≤ length (packet_bytes packet.now) }
+    requires { end_of diagram (read_of getting) ≤ length (packet_bytes packet.now) }
     ensures { result ≡ got getting (packet_bytes packet.now) }
 {
     match getting {
@@ -247,7 +247,8 @@ pub fn checksum_verdicts_agree_udp(
     src_addr: &IpAddress,
     dst_addr: &IpAddress,
 ) -> bool
-    requires lengths { HasLengths (packet_bytes packet.now) }
+    requires header { 8 ≤ length (packet_bytes packet.now) }
+    requires whole { packet_len (packet_bytes packet.now) ≤ length (packet_bytes packet.now) }
     requires family { version_of src_addr.now ≡ version_of dst_addr.now }
     ensures { IsTrue result }
 {

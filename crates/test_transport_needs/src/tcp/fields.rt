@@ -81,8 +81,8 @@ fn setter_writes_one_flag(packet: &mut TcpPacketMut<'_>, rest: &[u8])
 
 /// The nine flags and the three reserved bits of a header of ones are cleared.
 fn clear_flags_writes_the_flags(packet: &mut TcpPacketMut<'_>, rest: &[u8])
-    requires { packet_bytes_mut packet.old ≡ 255 ∷ 255 ∷ 255 ∷ 255 ∷ 255 ∷ 255 ∷ 255 ∷ 255 ∷ 255 ∷ 255 ∷ 255 ∷ 255 ∷ 255 ∷ 255 ∷ 255 ∷ 255 ∷ 255 ∷ 255 ∷ 255 ∷ 255 ∷ rest.now }
-    ensures { packet_bytes_mut packet.new ≡ 255 ∷ 255 ∷ 255 ∷ 255 ∷ 255 ∷ 255 ∷ 255 ∷ 255 ∷ 255 ∷ 255 ∷ 255 ∷ 255 ∷ 240 ∷ 0 ∷ 255 ∷ 255 ∷ 255 ∷ 255 ∷ 255 ∷ 255 ∷ rest.now }
+    requires { packet_bytes_mut packet.old ≡ 255 ∷ 255 ∷ 255 ∷ 255 ∷ 255 ∷ 255 ∷ 255 ∷ 255 ∷ 255 ∷ 255 ∷ 255 ∷ 255 ∷ 255 ∷ 255 ∷ rest.now }
+    ensures { packet_bytes_mut packet.new ≡ 255 ∷ 255 ∷ 255 ∷ 255 ∷ 255 ∷ 255 ∷ 255 ∷ 255 ∷ 255 ∷ 255 ∷ 255 ∷ 255 ∷ 240 ∷ 0 ∷ rest.now }
 {
     laws::clear_flags_writes_the_flags_tcp(packet);
 }
@@ -125,8 +125,8 @@ fn update_writes_two_fields_address(
 /// The example of RFC 1624, section 4.
 #[tactic(auto, unfolding(wire_checksum::specs::WordSum::residue))]
 fn update_checksum_writes_one_field(packet: &mut TcpPacketMut<'_>, rest: &[u8])
-    requires { packet_bytes_mut packet.old ≡ 85 ∷ 85 ∷ 85 ∷ 85 ∷ 0 ∷ 0 ∷ 0 ∷ 0 ∷ 0 ∷ 0 ∷ 0 ∷ 0 ∷ 80 ∷ 16 ∷ 85 ∷ 85 ∷ 221 ∷ 47 ∷ 0 ∷ 0 ∷ rest.now }
-    ensures { packet_bytes_mut packet.new ≡ 85 ∷ 85 ∷ 85 ∷ 85 ∷ 0 ∷ 0 ∷ 0 ∷ 0 ∷ 0 ∷ 0 ∷ 0 ∷ 0 ∷ 80 ∷ 16 ∷ 85 ∷ 85 ∷ 0 ∷ 0 ∷ 0 ∷ 0 ∷ rest.now }
+    requires { packet_bytes_mut packet.old ≡ 85 ∷ 85 ∷ 85 ∷ 85 ∷ 0 ∷ 0 ∷ 0 ∷ 0 ∷ 0 ∷ 0 ∷ 0 ∷ 0 ∷ 80 ∷ 16 ∷ 85 ∷ 85 ∷ 221 ∷ 47 ∷ rest.now }
+    ensures { packet_bytes_mut packet.new ≡ 85 ∷ 85 ∷ 85 ∷ 85 ∷ 0 ∷ 0 ∷ 0 ∷ 0 ∷ 0 ∷ 0 ∷ 0 ∷ 0 ∷ 80 ∷ 16 ∷ 85 ∷ 85 ∷ 0 ∷ 0 ∷ rest.now }
 {
     laws::update_checksum_writes_one_field_tcp(packet, 0x5555, 0x3285);
 }
@@ -138,7 +138,7 @@ fn update_keeps_a_valid_checksum_src(
     new_addr: &IpAddress,
     dst_addr: &IpAddress,
 )
-    requires header { 20 ≤ length (packet_bytes_mut packet.old) }
+    requires header { 18 ≤ length (packet_bytes_mut packet.old) }
     requires src { length (address_bytes src_addr.now) % 2 ≡ 0 }
     requires dst { length (address_bytes dst_addr.now) % 2 ≡ 0 }
     requires valid { segment_sum src_addr.now dst_addr.now (packet_bytes_mut packet.old) ≡ 65535 }
@@ -154,7 +154,7 @@ fn update_keeps_a_valid_checksum_dst(
     dst_addr: &IpAddress,
     new_addr: &IpAddress,
 )
-    requires header { 20 ≤ length (packet_bytes_mut packet.old) }
+    requires header { 18 ≤ length (packet_bytes_mut packet.old) }
     requires src { length (address_bytes src_addr.now) % 2 ≡ 0 }
     requires dst { length (address_bytes dst_addr.now) % 2 ≡ 0 }
     requires valid { segment_sum src_addr.now dst_addr.now (packet_bytes_mut packet.old) ≡ 65535 }
@@ -170,7 +170,7 @@ fn update_keeps_a_valid_checksum(
     dst_addr: &IpAddress,
     update: TcpUpdate,
 )
-    requires header { 20 ≤ length (packet_bytes_mut packet.old) }
+    requires header { 18 ≤ length (packet_bytes_mut packet.old) }
     requires src { length (address_bytes src_addr.now) % 2 ≡ 0 }
     requires dst { length (address_bytes dst_addr.now) % 2 ≡ 0 }
     requires valid { segment_sum (address_before update src_addr.now) dst_addr.now (packet_bytes_mut packet.old) ≡ 65535 }
@@ -185,7 +185,7 @@ fn fill_checksum_writes_one_field(
     src_addr: IpAddress,
     dst_addr: IpAddress,
 )
-    requires header { 20 ≤ length (packet_bytes_mut packet.old) }
+    requires header { 18 ≤ length (packet_bytes_mut packet.old) }
     requires family { version_of src_addr ≡ version_of dst_addr }
     requires sum { segment_sum src_addr dst_addr (with_field (packet_bytes_mut packet.old) 128 16 0) ≡ 0xd423 }
     ensures { packet_bytes_mut packet.new ≡ with_field (packet_bytes_mut packet.old) 128 16 0x2bdc }
@@ -195,7 +195,7 @@ fn fill_checksum_writes_one_field(
 
 /// The checksum that is filled in is valid, for addresses of both versions.
 fn fill_checksum_is_valid(packet: &mut TcpPacketMut<'_>, src_addr: IpAddress, dst_addr: IpAddress)
-    requires header { 20 ≤ length (packet_bytes_mut packet.old) }
+    requires header { 18 ≤ length (packet_bytes_mut packet.old) }
     requires family { version_of src_addr ≡ version_of dst_addr }
     ensures { segment_sum src_addr dst_addr (packet_bytes_mut packet.new) ≡ 65535 }
 {

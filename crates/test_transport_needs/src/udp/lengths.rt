@@ -8,35 +8,12 @@ use net_base::ChecksumCapabilities;
 use wire_ends::IpAddress;
 use wire_udp::{UdpPacket, UdpPacketMut, UdpRepr};
 
-/// The first 2 bytes are the source port.
-fn view_of_two_bytes(packet: &UdpPacket<'_>)
-    requires { length (packet_bytes packet.now) ≡ 2 }
-{
-    let _ = packet.src_port();
-}
-
-/// The next 2 bytes are the destination port.
-fn view_of_four_bytes(packet: &UdpPacket<'_>)
-    requires { length (packet_bytes packet.now) ≡ 4 }
-{
-    let _ = packet.dst_port();
-}
-
-/// The next 2 bytes are the length.
-fn view_of_six_bytes(packet: &UdpPacket<'_>)
-    requires { length (packet_bytes packet.now) ≡ 6 }
-{
-    let _ = packet.len();
-}
-
-/// The last 2 bytes of the header are the checksum. A packet without a payload is verified.
+/// A packet without a payload is verified.
 fn view_of_eight_bytes(packet: &UdpPacket<'_>, src_addr: &IpAddress, dst_addr: &IpAddress)
     requires least { length (packet_bytes packet.now) ≡ 8 }
     requires whole { packet_len (packet_bytes packet.now) ≡ 8 }
     requires family { version_of src_addr.now ≡ version_of dst_addr.now }
 {
-    let _ = packet.checksum();
-    let _ = packet.verify_partial_checksum(src_addr, dst_addr);
     let _ = packet.verify_checksum(src_addr, dst_addr);
     let _ = packet.has_valid_checksum(src_addr, dst_addr);
 }
@@ -47,49 +24,6 @@ fn header_of_eight_bytes(packet: &UdpPacket<'_>, src_addr: &IpAddress, dst_addr:
     requires family { version_of src_addr.now ≡ version_of dst_addr.now }
 {
     let _ = packet.verify_partial_checksum(src_addr, dst_addr);
-}
-
-/// A length field that says less than 8 is no reason not to verify a checksum.
-fn view_of_a_short_packet(packet: &UdpPacket<'_>, src_addr: &IpAddress, dst_addr: &IpAddress)
-    requires least { length (packet_bytes packet.now) ≡ 8 }
-    requires whole { packet_len (packet_bytes packet.now) ≡ 0 }
-    requires family { version_of src_addr.now ≡ version_of dst_addr.now }
-{
-    let _ = packet.verify_checksum(src_addr, dst_addr);
-    let _ = packet.has_valid_checksum(src_addr, dst_addr);
-}
-
-/// The source port is written to 2 bytes.
-fn mutable_view_of_two_bytes(packet: &mut UdpPacketMut<'_>)
-    requires { length (packet_bytes_mut packet.old) ≡ 2 }
-{
-    packet.set_src_port(1);
-}
-
-/// The destination port to the next 2 bytes.
-fn mutable_view_of_four_bytes(packet: &mut UdpPacketMut<'_>)
-    requires { length (packet_bytes_mut packet.old) ≡ 4 }
-{
-    packet.set_dst_port(1);
-}
-
-/// The length to the next 2 bytes.
-fn mutable_view_of_six_bytes(packet: &mut UdpPacketMut<'_>)
-    requires { length (packet_bytes_mut packet.old) ≡ 6 }
-{
-    packet.set_len(1);
-}
-
-/// The checksum to the last 2 bytes of the header. Its updates need no payload.
-fn mutable_view_of_eight_bytes(packet: &mut UdpPacketMut<'_>, old: &IpAddress, new: &IpAddress)
-    requires header { length (packet_bytes_mut packet.old) ≡ 8 }
-    requires family { version_of old.now ≡ version_of new.now }
-{
-    packet.set_checksum(1);
-    packet.update_checksum(1, 2);
-    packet.update_src_port(1);
-    packet.update_dst_port(1);
-    packet.update_address(old, new);
 }
 
 /// The checksum of a packet without a payload.

@@ -12,10 +12,10 @@ use Rattle.std.proofs.lemmas.Bool.Decides.{nat_tests}
 abbrev Same : TcpUpdate → List ℕ → Type 0
 Same call bytes = with_updated_checksum (with_update call bytes) (sums_of call bytes).0 (sums_of call bytes).1 ≡ after_update call bytes
 
-same : (call : TcpUpdate) (bytes : List ℕ) → 20 ≤ length bytes → Same call bytes
-same (update.SrcPort x) bytes room = subst (Same (update.SrcPort x)) (sym (cells-drop 20 bytes room)) refl
-same (update.DstPort x) bytes room = subst (Same (update.DstPort x)) (sym (cells-drop 20 bytes room)) refl
-same (update.WindowLen x) bytes room = subst (Same (update.WindowLen x)) (sym (cells-drop 20 bytes room)) refl
+same : (call : TcpUpdate) (bytes : List ℕ) → 18 ≤ length bytes → Same call bytes
+same (update.SrcPort x) bytes room = subst (Same (update.SrcPort x)) (sym (cells-drop 18 bytes room)) refl
+same (update.DstPort x) bytes room = subst (Same (update.DstPort x)) (sym (cells-drop 18 bytes room)) refl
+same (update.WindowLen x) bytes room = subst (Same (update.WindowLen x)) (sym (cells-drop 18 bytes room)) refl
 same (update.Address old new) bytes room = refl
 
 pub returns-in-SrcPort-clause-fields : goal.returns-in-SrcPort-clause-fields
