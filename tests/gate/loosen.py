@@ -100,7 +100,7 @@ def is_met_exactly(statement, clause):
     laws = [item for path, module in modules.items() if "laws" in path for item in module.items if item.kind == "fn"]
     calls = [law for law in laws if re.search(rf"\.{statement.item.name}\(", law.body)]
     conditions = [it.text for law in calls for it in law.clauses if it.kind == "requires"]
-    return any(text.startswith((f"{least} ≤ length ", "end_of ")) for text in conditions)
+    return any(text.startswith(f"{least} ≤ length ") or "end_of " in text for text in conditions)
 
 
 def weakened(statement):
