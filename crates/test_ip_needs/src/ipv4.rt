@@ -336,6 +336,14 @@ fn update_keeps_the_checksum(packet: &mut Ipv4PacketMut<'_>, update: laws::Ipv4U
     laws::update_writes_two_fields_ipv4(packet, update);
 }
 
+/// A header of 3 words ends with the checksum.
+fn filled_header_of_three_words(packet: &mut Ipv4PacketMut<'_>)
+    requires len { length (packet_bytes_mut packet.old) ≡ 12 }
+    requires header { header_len (packet_bytes_mut packet.old) ≡ 12 }
+{
+    packet.fill_checksum();
+}
+
 /// A header of 3 words gets the checksum 3c7b, and verifies.
 #[tactic(auto, unfolding(wire_checksum::specs::WordSum::residue, wire_checksum::specs::WordSum::words))]
 fn fill_checksum_writes_one_field(packet: &mut Ipv4PacketMut<'_>) -> bool
