@@ -248,21 +248,23 @@ class Trial:
         """Adds the proof of a weaker law, or of a call with one result more: each clause is one of the stronger function's."""
         item = weaker.statement.item
         kept = [it for it in weaker.clauses if it.kind == "ensures"]
-        is_wider = weaker.how.startswith("one result more") and "-> i32" in item.text
+        is_wider = weaker.how.startswith("one result more")
+        is_narrow = "-> i32" in item.text
         if not kept or not (is_law(weaker.statement) or is_wider):
             return
-        text = "".join(f"use Rattle.std.proofs.{it}\n" for it in IN_32_BITS) if is_wider else ""
+        imports = (IN_32_BITS if is_narrow else ["Common.{inl}"]) if is_wider else []
+        text = "".join(f"use Rattle.std.proofs.{it}\n" for it in imports)
         text += f"use Rattle.{self.crate}.proofs.{module}.{name}.Goals as goal\n"
         # `g` is what a generic function assumes of its types.
         given = "g c" if re.match(r"[^(]*<(?!')", item.text) else "c"
         for clause in kept:
             goal = f"returns-clause-{clause.name}" if len(kept) > 1 else "returns"
             term = f"c.{item.name}.ensures" + (f".{clause.name}" if clause.name else "")
-            if is_wider:
+            if is_wider and is_narrow:
                 term = self.over_numbers(item, clause, term)
             term = term if clause in item.clauses else f"inl ({term})"
             term = f"record {{ {clause.name} = {term} }}" if clause.name and len(kept) == 1 else term
-            if is_wider and "result" in words_of(clause.text):
+            if is_wider and is_narrow and "result" in words_of(clause.text):
                 result = f"c.{item.name}.result"
                 term = f"let fits : SFits w32 {result} = search rules in rw (to_z-of_z w32 {result} fits) ({term})"
             text += f"\npub {goal} : goal.{goal}\n{goal} {given} = {term}\n"
