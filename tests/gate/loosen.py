@@ -51,8 +51,9 @@ NO_PREMISE = Clause("requires", "never", "⊥")
 CALLS = {"c_exports"}
 # One more result, by the type of the result.
 ONE_MORE = {"isize": "result ≡ negsuc 0", "i32": "result ≡ negsuc 0"}
-# What the proof of such a result cites: it was a number of 32 bits in between.
-IN_32_BITS = ["Common.{SFits, inl, rules, w32}", "lemmas.Int.{to_z-of_z}"]
+# What the proof of such a result cites: it was a number of so many bits in between.
+IN_A_WIDTH = ["Common.{SFits, inl, rules, w32, w64}", "lemmas.Int.{to_z-of_z}"]
+WIDTHS = {"i32": "w32", "isize": "w64"}
 VERDICT = re.compile(r"^fn \w+::(\S+): (.*)$", re.M)
 NOTICED = re.compile(r"no proof: expected answers|not proved(?!.*; it calls)")
 
@@ -249,24 +250,23 @@ class Trial:
         item = weaker.statement.item
         kept = [it for it in weaker.clauses if it.kind == "ensures"]
         is_wider = weaker.how.startswith("one result more")
-        is_narrow = "-> i32" in item.text
+        width = WIDTHS[item.text.rpartition(" -> ")[2]] if is_wider else ""
         if not kept or not (is_law(weaker.statement) or is_wider):
             return
-        imports = (IN_32_BITS if is_narrow else ["Common.{inl}"]) if is_wider else []
-        text = "".join(f"use Rattle.std.proofs.{it}\n" for it in imports)
+        text = "".join(f"use Rattle.std.proofs.{it}\n" for it in IN_A_WIDTH) if is_wider else ""
         text += f"use Rattle.{self.crate}.proofs.{module}.{name}.Goals as goal\n"
         # `g` is what a generic function assumes of its types.
         given = "g c" if re.match(r"[^(]*<(?!')", item.text) else "c"
         for clause in kept:
             goal = f"returns-clause-{clause.name}" if len(kept) > 1 else "returns"
             term = f"c.{item.name}.ensures" + (f".{clause.name}" if clause.name else "")
-            if is_wider and is_narrow:
+            if is_wider:
                 term = self.over_numbers(item, clause, term)
             term = term if clause in item.clauses else f"inl ({term})"
             term = f"record {{ {clause.name} = {term} }}" if clause.name and len(kept) == 1 else term
-            if is_wider and is_narrow and "result" in words_of(clause.text):
+            if is_wider and "result" in words_of(clause.text):
                 result = f"c.{item.name}.result"
-                term = f"let fits : SFits w32 {result} = search rules in rw (to_z-of_z w32 {result} fits) ({term})"
+                term = f"let fits : SFits {width} {result} = search rules in rw (to_z-of_z {width} {result} fits) ({term})"
             text += f"\npub {goal} : goal.{goal}\n{goal} {given} = {term}\n"
         self.answers[f"proofs/{module}/{name}"] = text
 
