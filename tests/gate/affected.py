@@ -1,10 +1,10 @@
 #!/usr/bin/env python3
 """Proves what a change reaches, and nothing else: tests/gate/affected.py COMMIT
 
-The change is what differs from the commit. It reaches the crates whose sources differ, the crates with their needs and
-tests, and, where statements, definitions or lemmas differ, all crates above. rt ci proves these in a copy without the other
-crates. Then all wrong bodies and weaker statements of the changed crates are tried. What rt ci prints is in
-out/affected/test.log.
+The change is what differs from the commit. It reaches the crates whose sources differ, the crates with their tests, and, where
+statements, definitions or lemmas differ, all crates above and the needs. rt ci proves these in a copy without the other crates.
+Then all wrong bodies of the changed crates are tried, and all weaker statements of those that state something else. What rt ci
+prints is in out/affected/test.log.
 """
 import os
 import pathlib
@@ -65,11 +65,14 @@ def differing(old, sources):
 
 def reached(changed, restated):
     """The crates that a change reaches."""
-    tests = {re.compile(rf"test_{crate.partition('_')[0]}s?(_needs)?") for crate in changed}
+    tests = {re.compile(rf"test_{crate.partition('_')[0]}s?") for crate in changed}
+    def runs_it(name, named):
+        is_test = name.startswith("test_") and not name.endswith("_needs")
+        return is_test and (set(named) & set(changed) or any(kind.fullmatch(name) for kind in tests))
+
     return [
         name for name, (_, named) in proved.crates().items()
-        if name in changed or proved.below(name) & set(restated)
-        or name.startswith("test_") and (set(named) & set(changed) or any(kind.fullmatch(name) for kind in tests))
+        if name in changed or proved.below(name) & set(restated) or runs_it(name, named)
     ]
 
 
@@ -91,7 +94,7 @@ def main():
         proved.leave_out(copy, [name for name in proved.crates() if name not in {*names, *below}])
         status = subprocess.run([copy / "tests/gate/progress.py", OUT / "test.log", "rt", "ci"], cwd=copy, check=False).returncode
     kept = {**os.environ, "PROVED": str(OUT / "proved")}
-    trials = [TOP / "tests/gate/wrong.py", *changed], [TOP / "tests/gate/loosen.py", *changed]
+    trials = [[TOP / "tests/gate/wrong.py", *changed]] + ([[TOP / "tests/gate/loosen.py", *restated]] if restated else [])
     return status or max(subprocess.run(trial, env=kept, check=False).returncode for trial in trials)
 
 
