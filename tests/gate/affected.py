@@ -66,6 +66,7 @@ def differing(old, sources):
 def reached(changed, restated):
     """The crates that a change reaches."""
     tests = {re.compile(rf"test_{crate.partition('_')[0]}s?") for crate in changed}
+
     def runs_it(name, named):
         is_test = name.startswith("test_") and not name.endswith("_needs")
         return is_test and (set(named) & set(changed) or any(kind.fullmatch(name) for kind in tests))
