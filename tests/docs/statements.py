@@ -192,8 +192,8 @@ def narrowed(old, new):
 
 
 def is_told(fact, told):
-    """Whether a fact's name, or that of its type, is one of these."""
-    return not told.isdisjoint({fact.owner, f"{fact.owner}::{fact.name}", "" if fact.owner else fact.name})
+    """Whether a fact's name is one of these."""
+    return (f"{fact.owner}::{fact.name}" if fact.owner else fact.name) in told
 
 
 def sources_of(commit):
@@ -221,6 +221,8 @@ def main(words):
         sys.exit(__doc__)
     since, told = (words[0], None) if words else told_since()
     old = sources_of(since)
+    if not old and words:
+        sys.exit(f"tests/docs/statements.py: {since} is no commit of this repository")
     if not old:
         print(f"tests/docs/statements.py: skipped: there is no commit {since} here")
         return 77
