@@ -3,8 +3,8 @@
 use Rattle.std.specs.Prelude.{ℕ, ◌+◌, ◌-◌, ◌*◌, ◌%◌, ◌==◌, ◌&&◌, ◌||◌, not, nat_le, nat_lt, max, min, if◌then◌else◌, Bool, true, false, List, [], ◌∷◌, Option, None, Some, drop, length, slice_range}
 use Rattle.std.specs.Option.{option_and_then, option_map}
 use Rattle.byteorder.specs.Endian.{big_bytes, big_number}
-use Rattle.app_nat.specs.declared.translation.Side.{Side}
-use Rattle.app_nat.specs.declared.translation.Side.TheVariants.{Source, Destination}
+use Rattle.app_edit.specs.declared.side.Side.{Side}
+use Rattle.app_edit.specs.declared.side.Side.TheVariants.{Source, Destination}
 use Rattle.app_edit.specs.Checksums.{sum_at, updated_udp}
 use Rattle.ip_wire.specs.Field.{field, with_field, with_range}
 use Rattle.ip_wire.specs.IpAddress.{address_bytes}

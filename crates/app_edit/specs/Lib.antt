@@ -2,3 +2,4 @@ pub mod Checksums
 pub mod Edited
 pub mod Filled
 pub mod Places
+pub mod Sides

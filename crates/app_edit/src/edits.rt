@@ -8,7 +8,7 @@ ghost use Rattle.ip_wire.specs.IpAddress.{address_bytes};
 
 use crate::places::{Carried, Places};
 use crate::replace::{Offload, can_be_left};
-use app_nat::Side;
+use crate::side::Side;
 use ip_wire::{IpAddress, IpProtocol, IpVersion, Ipv4PacketMut, Ipv6PacketMut};
 
 /// Writes the TTL of IPv4 (RFC 791, section 3.1) or the hop limit of IPv6.

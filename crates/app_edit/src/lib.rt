@@ -8,9 +8,11 @@ mod fill;
 pub mod laws;
 mod places;
 mod replace;
+mod side;
 
 pub use checksums::{update_bytes, update_udp, update_udp_bytes};
 pub use edits::{set_addr, set_bytes, set_dscp, set_hop_limit, set_port};
 pub use fill::fill_checksum;
 pub use places::{Carried, Places, Segment};
 pub use replace::Offload;
+pub use side::Side;

@@ -22,7 +22,7 @@ use Rattle.app_nat.specs.Flows.{AnswerReaches, ComesIn, GoesOut, PacketGoesOut, 
 use Rattle.app_nat.specs.Nat.{IsPacket, IsTranslated, Transport, datagram, kind_of, port_of, reply, request, segment, with_addr, with_port}
 use Rattle.app_nat.specs.declared.translation.Rejection.{Rejection}
 use Rattle.app_nat.specs.declared.translation.Rejection.TheVariants.{OtherProtocol}
-use Rattle.app_nat.specs.declared.translation.Side.TheVariants.{Source, Destination}
+use Rattle.app_edit.specs.declared.side.Side.TheVariants.{Source, Destination}
 use Rattle.app_nat.specs.declared.packet.Kind.{Kind}
 use Rattle.app_nat.specs.declared.packet.Kind.TheVariants as kind
 use Rattle.app_nat.specs.declared.packet.Packet.{Packet}

@@ -16,8 +16,8 @@ use Rattle.app_nat.specs.Nat.{Describes, ReadsMessage, ReadsPorts, Rewrites, Tra
 use Rattle.app_nat.specs.declared.packet.Kind.{Kind}
 use Rattle.app_nat.specs.declared.packet.Kind.TheVariants as kind
 use Rattle.app_nat.specs.declared.packet.Packet.{Packet}
-use Rattle.app_nat.specs.declared.translation.Side.{Side}
-use Rattle.app_nat.specs.declared.translation.Side.TheVariants.{Source, Destination}
+use Rattle.app_edit.specs.declared.side.Side.{Side}
+use Rattle.app_edit.specs.declared.side.Side.TheVariants.{Source, Destination}
 use Rattle.ip_wire.specs.declared.IpVersion.TheVariants as version
 use Rattle.wire_icmp.specs.Icmp as icmp
 use Rattle.wire_icmp.specs.Icmp.{exceeded_by, message_of, payload_of, unreachable_by}

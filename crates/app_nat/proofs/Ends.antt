@@ -7,8 +7,8 @@ use Rattle.ip_wire.specs.Field.{field, with_field, word_at}
 use Rattle.ip_wire.specs.WordSum.{sum_of_bytes}
 use Rattle.app_nat.proofs.Words.{high-spelled, low-spelled, spelled, spelled-fits, spelled-word, word}
 use Rattle.app_nat.specs.Nat.{port_bit, with_end_by}
-use Rattle.app_nat.specs.declared.translation.Side.{Side}
-use Rattle.app_nat.specs.declared.translation.Side.TheVariants.{Source, Destination}
+use Rattle.app_edit.specs.declared.side.Side.{Side}
+use Rattle.app_edit.specs.declared.side.Side.TheVariants.{Source, Destination}
 
 -- ---- the bytes
 

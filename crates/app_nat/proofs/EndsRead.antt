@@ -14,9 +14,10 @@ use Rattle.wire_field.proofs.Written.{AreBytes-with_field, length_with_field}
 use Rattle.wire_tcp.proofs.Sums.{valid-dst_addr, valid-src_addr, valid_word}
 use Rattle.wire_udp.proofs.UdpUpdated.{reads-updated, valid-addresses, valid-port}
 use Rattle.app_nat.proofs.Translates.{moved-end}
-use Rattle.app_nat.specs.Nat.{Rewrites, addr_of, datagram, opposite, segment, with_tcp_end, with_tcp_port, with_udp_end, with_udp_port}
-use Rattle.app_nat.specs.declared.translation.Side.{Side}
-use Rattle.app_nat.specs.declared.translation.Side.TheVariants.{Source, Destination}
+use Rattle.app_edit.specs.Sides.{opposite}
+use Rattle.app_nat.specs.Nat.{Rewrites, addr_of, datagram, segment, with_tcp_end, with_tcp_port, with_udp_end, with_udp_port}
+use Rattle.app_edit.specs.declared.side.Side.{Side}
+use Rattle.app_edit.specs.declared.side.Side.TheVariants.{Source, Destination}
 
 -- ---- TCP
 

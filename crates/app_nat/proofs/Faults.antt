@@ -36,7 +36,7 @@ use Rattle.app_nat.specs.Nat.{Carries, CarriesWhole, IsIpv4Frame, ReadsMessage, 
 use Rattle.app_nat.specs.declared.translation.Rejection.{Rejection}
 use Rattle.app_nat.specs.declared.translation.Rejection.TheVariants.{NotIpv4, Fragment, OtherProtocol, BadTransport, ZeroPort, NoMapping}
 use Rattle.app_nat.specs.declared.packet.Kind.{Kind}
-use Rattle.app_nat.specs.declared.translation.Side.{Side}
+use Rattle.app_edit.specs.declared.side.Side.{Side}
 
 -- ---- frames without a whole IPv4 packet
 

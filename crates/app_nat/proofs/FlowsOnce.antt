@@ -21,8 +21,8 @@ use Rattle.app_nat.specs.declared.state.Protocol.{Protocol}
 use Rattle.app_nat.specs.declared.state.Protocol.TheVariants.{Icmp}
 use Rattle.app_nat.specs.declared.translation.Rejection.{Rejection}
 use Rattle.app_nat.specs.declared.translation.Rejection.TheVariants.{NoMapping, OtherProtocol, ZeroPort}
-use Rattle.app_nat.specs.declared.translation.Side.{Side}
-use Rattle.app_nat.specs.declared.translation.Side.TheVariants.{Source, Destination}
+use Rattle.app_edit.specs.declared.side.Side.{Side}
+use Rattle.app_edit.specs.declared.side.Side.TheVariants.{Source, Destination}
 use Rattle.ip_wire.proofs.Ipv4Computed.{ipv4_of-Reads}
 use Rattle.ip_wire.proofs.ReadsOnce.{computed-one}
 use Rattle.ip_wire.specs.Field.{field}

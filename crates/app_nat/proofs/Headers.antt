@@ -15,8 +15,8 @@ use Rattle.ip_wire.proofs.Spelled.{AreBytes}
 use Rattle.wire_icmp.proofs.Parts.{sum-take-positive, sum-take-with_field, sum-take-with_range}
 use Rattle.app_nat.proofs.Payloads.{range-front, range-len, range-past}
 use Rattle.app_nat.specs.Nat.{addr_at, with_addr, with_address}
-use Rattle.app_nat.specs.declared.translation.Side.{Side}
-use Rattle.app_nat.specs.declared.translation.Side.TheVariants.{Source, Destination}
+use Rattle.app_edit.specs.declared.side.Side.{Side}
+use Rattle.app_edit.specs.declared.side.Side.TheVariants.{Source, Destination}
 
 -- the fields that locate the payload and name its protocol
 pub record SameShape (old new : List ℕ) : Type 0 where

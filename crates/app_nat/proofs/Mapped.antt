@@ -14,8 +14,8 @@ use Rattle.app_nat.specs.Nat.{AllowsPort, IsPacket, IsRejected, RejectsPort, Tra
 use Rattle.app_nat.specs.declared.packet.Packet.{Packet}
 use Rattle.app_nat.specs.declared.translation.Rejection.{Rejection}
 use Rattle.app_nat.specs.declared.translation.Rejection.TheVariants.{OtherProtocol, ZeroPort, NoMapping, NoFreePort}
-use Rattle.app_nat.specs.declared.translation.Side.{Side}
-use Rattle.app_nat.specs.declared.translation.Side.TheVariants.{Source, Destination}
+use Rattle.app_edit.specs.declared.side.Side.{Side}
+use Rattle.app_edit.specs.declared.side.Side.TheVariants.{Source, Destination}
 
 -- ---- frames that do not parse
 

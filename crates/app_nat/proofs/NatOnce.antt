@@ -4,8 +4,8 @@ use Rattle.app_nat.proofs.Faults.{carries-unrejected}
 use Rattle.app_nat.proofs.Translates.{carried}
 use Rattle.app_nat.specs.Nat.{AllowsPort, Carries, IsTranslated, IsUntranslated, ReadsPorts, Transport, datagram, reply, request, segment, with_addr, with_port}
 use Rattle.app_nat.specs.declared.translation.Rejection.{Rejection}
-use Rattle.app_nat.specs.declared.translation.Side.{Side}
-use Rattle.app_nat.specs.declared.translation.Side.TheVariants.{Source, Destination}
+use Rattle.app_edit.specs.declared.side.Side.{Side}
+use Rattle.app_edit.specs.declared.side.Side.TheVariants.{Source, Destination}
 use Rattle.ip_wire.proofs.Ipv4Computed.{ipv4_of-Reads}
 use Rattle.ip_wire.proofs.ReadsOnce.{computed-one}
 use Rattle.app_nat.proofs.Echoes.{ports-once}

@@ -27,10 +27,11 @@ use Rattle.app_nat.proofs.TcpEnds.{tcp-ported, tcp-whole}
 use Rattle.app_nat.proofs.UdpEnds.{udp-ported, udp_next, whole}
 use Rattle.app_nat.proofs.Words.{spelled, spelled-fits, spelled-word, word}
 use Rattle.app_nat.specs.Errors.{CarriesError, IsErrorTranslated, Quotes, Reports, error_packet, is_error, with_message_checksum, after_header, echo_type, end_bit, flow_by, quoted_of, quoting}
-use Rattle.app_nat.specs.Nat.{addr_at, opposite, port_bit, with_addr, with_address, with_tcp_end, with_udp_end}
+use Rattle.app_edit.specs.Sides.{opposite}
+use Rattle.app_nat.specs.Nat.{addr_at, port_bit, with_addr, with_address, with_tcp_end, with_udp_end}
 use Rattle.app_nat.specs.declared.errors.Quoted.{Quoted}
-use Rattle.app_nat.specs.declared.translation.Side.{Side}
-use Rattle.app_nat.specs.declared.translation.Side.TheVariants.{Source, Destination}
+use Rattle.app_edit.specs.declared.side.Side.{Side}
+use Rattle.app_edit.specs.declared.side.Side.TheVariants.{Source, Destination}
 
 -- ---- after the header
 

@@ -9,8 +9,8 @@ use Rattle.app_nat.proofs.Ends.{IsPorted, back, ended, has-both, header, indexed
 use Rattle.app_nat.proofs.Residues.{sum-fits, updated-back_twice}
 use Rattle.app_nat.proofs.Words.{spelled-fits, spelled-word, word}
 use Rattle.app_nat.specs.Nat.{port_bit, with_tcp_end}
-use Rattle.app_nat.specs.declared.translation.Side.{Side}
-use Rattle.app_nat.specs.declared.translation.Side.TheVariants.{Source, Destination}
+use Rattle.app_edit.specs.declared.side.Side.{Side}
+use Rattle.app_edit.specs.declared.side.Side.TheVariants.{Source, Destination}
 
 put-checksum : (p q s x : ℕ) (middle rest : List ℕ) → with_field (header 12 p q middle s rest) 128 16 x ≡ header 12 p q middle x rest
 put-checksum p q s x middle rest =

@@ -11,8 +11,8 @@ use Rattle.app_nat.proofs.Ends.{IsPorted, back, checksum, ended, has-both, heade
 use Rattle.app_nat.proofs.Residues.{sum-fits, udp-back_twice, udp-step, udp_twice, udp_updated}
 use Rattle.app_nat.proofs.Words.{spelled-fits, spelled-word, word}
 use Rattle.app_nat.specs.Nat.{port_bit, with_udp_end}
-use Rattle.app_nat.specs.declared.translation.Side.{Side}
-use Rattle.app_nat.specs.declared.translation.Side.TheVariants.{Source, Destination}
+use Rattle.app_edit.specs.declared.side.Side.{Side}
+use Rattle.app_edit.specs.declared.side.Side.TheVariants.{Source, Destination}
 
 -- ---- one update
 

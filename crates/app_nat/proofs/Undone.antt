@@ -22,8 +22,8 @@ use Rattle.app_nat.proofs.Translates.{addr-read, carried, ended-len, inner-paylo
 use Rattle.app_nat.proofs.UdpEnds.{udp-back}
 use Rattle.app_nat.proofs.Words.{high-spelled, low-spelled, spelled-fits, spelled-word, word}
 use Rattle.app_nat.specs.Nat.{CarriesPorts, HasUsualChecksums, HasUsualSum, IsTranslated, ReadsPorts, Transport, addr_at, addr_of, datagram, port_bit, port_of, reply, request, segment, translated_packet, with_address, with_end}
-use Rattle.app_nat.specs.declared.translation.Side.{Side}
-use Rattle.app_nat.specs.declared.translation.Side.TheVariants.{Source, Destination}
+use Rattle.app_edit.specs.declared.side.Side.{Side}
+use Rattle.app_edit.specs.declared.side.Side.TheVariants.{Source, Destination}
 
 -- ---- the address
 

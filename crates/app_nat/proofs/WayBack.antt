@@ -6,8 +6,8 @@ use Rattle.app_nat.proofs.Translates.{carried}
 use Rattle.app_nat.proofs.Undone.{undone}
 use Rattle.app_nat.specs.Nat.{AllowsPort, Describes, HasUsualChecksums, IsPacket, IsTranslated, IsUntranslated, ReadsPorts, Transport, addr_of, datagram, on_side, port_of, reply, request, segment, with_addr, with_port}
 use Rattle.app_nat.specs.declared.translation.Rejection.{Rejection}
-use Rattle.app_nat.specs.declared.translation.Side.{Side}
-use Rattle.app_nat.specs.declared.translation.Side.TheVariants.{Source, Destination}
+use Rattle.app_edit.specs.declared.side.Side.{Side}
+use Rattle.app_edit.specs.declared.side.Side.TheVariants.{Source, Destination}
 use Rattle.app_nat.specs.declared.packet.Packet.{Packet}
 use Rattle.ip_wire.proofs.Spelled.{AreBytes}
 use Rattle.ip_wire.specs.Frame.{ipv4_payload}

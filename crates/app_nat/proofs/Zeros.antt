@@ -19,7 +19,7 @@ use Rattle.app_nat.specs.Nat.{transport_fault}
 use Rattle.app_nat.specs.Flows.{ComesIn, GoesOut, IsKeptOutside, LeadsToPorts, destination_of, event_of, source_of}
 use Rattle.app_nat.specs.declared.translation.Rejection.{Rejection}
 use Rattle.app_nat.specs.declared.translation.Rejection.TheVariants.{ZeroPort, NoMapping}
-use Rattle.app_nat.specs.declared.translation.Side.TheVariants.{Source}
+use Rattle.app_edit.specs.declared.side.Side.TheVariants.{Source}
 
 -- a written mapping that leads to a port
 written : (nat : Nat) (old new : List Mapping) (now : ℕ) (a : Protocol) (p : ℕ) (m : Mapping) (inside : Ipv4Endpoint) → HasPort nat (length old) p

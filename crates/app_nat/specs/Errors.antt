@@ -16,12 +16,13 @@ use Rattle.ip_wire.specs.WordSum.{sum_of_bytes}
 use Rattle.ip_wire.specs.Types.{EthernetRepr, IpProtocol, Ipv4, Ipv4Repr}
 use Rattle.ip_wire.specs.declared.IpProtocol.TheVariants as protocol
 use Rattle.wire_icmp.specs.Icmp as icmp
-use Rattle.app_nat.specs.Nat.{IsIpv4Frame, addr_at, frame_fault, is_message, opposite, port_bit, with_addr, with_address, with_tcp_end, with_udp_end}
+use Rattle.app_edit.specs.Sides.{opposite}
+use Rattle.app_nat.specs.Nat.{IsIpv4Frame, addr_at, frame_fault, is_message, port_bit, with_addr, with_address, with_tcp_end, with_udp_end}
 use Rattle.app_nat.specs.declared.errors.Quoted.{Quoted}
 use Rattle.app_nat.specs.declared.translation.Rejection.{Rejection}
 use Rattle.app_nat.specs.declared.translation.Rejection.TheVariants.{OtherProtocol, BadTransport, NoMapping}
-use Rattle.app_nat.specs.declared.translation.Side.{Side}
-use Rattle.app_nat.specs.declared.translation.Side.TheVariants.{Source, Destination}
+use Rattle.app_edit.specs.declared.side.Side.{Side}
+use Rattle.app_edit.specs.declared.side.Side.TheVariants.{Source, Destination}
 
 -- ---- the quoted packet
 

@@ -14,7 +14,7 @@ use Rattle.app_nat.specs.Errors.{ErrorComesIn, ErrorGoesOut, IsErrorKeptInside, 
 use Rattle.app_nat.specs.Nat.{IsPacket, IsRejected, IsTranslated}
 use Rattle.app_nat.specs.declared.translation.Rejection.{Rejection}
 use Rattle.app_nat.specs.declared.translation.Rejection.TheVariants.{OtherProtocol, ZeroPort, NoMapping, NoFreePort}
-use Rattle.app_nat.specs.declared.translation.Side.TheVariants.{Source, Destination}
+use Rattle.app_edit.specs.declared.side.Side.TheVariants.{Source, Destination}
 use Rattle.app_nat.specs.declared.packet.Kind.{Kind}
 use Rattle.app_nat.specs.declared.packet.Kind.TheVariants as kind
 use Rattle.app_nat.specs.declared.packet.Packet.{Packet}

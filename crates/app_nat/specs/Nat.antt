@@ -25,18 +25,13 @@ use Rattle.wire_icmp.specs.declared.icmp.repr.IcmpRepr.{IcmpRepr}
 use Rattle.wire_icmp.specs.declared.icmp.repr.IcmpRepr.TheVariants.{EchoRequest, EchoReply}
 use Rattle.app_nat.specs.declared.translation.Rejection.{Rejection}
 use Rattle.app_nat.specs.declared.translation.Rejection.TheVariants.{NotIpv4, BadHeader, WrongChecksum, Fragment, OtherProtocol, BadTransport, ZeroPort}
-use Rattle.app_nat.specs.declared.translation.Side.{Side}
-use Rattle.app_nat.specs.declared.translation.Side.TheVariants.{Source, Destination}
+use Rattle.app_edit.specs.declared.side.Side.{Side}
+use Rattle.app_edit.specs.declared.side.Side.TheVariants.{Source, Destination}
 use Rattle.app_nat.specs.declared.packet.Kind.{Kind}
 use Rattle.app_nat.specs.declared.packet.Kind.TheVariants as kind
 use Rattle.app_nat.specs.declared.packet.Packet.{Packet}
 
 -- ---- values
-
--- the other side: destination for source, source for destination
-abbrev pub opposite : Side → Side
-opposite Source = Destination
-opposite Destination = Source
 
 -- the address of a header on this side
 abbrev pub addr_of : Side → Ipv4Repr → List ℕ

@@ -1,8 +1,9 @@
 //! ICMP errors over IPv4, and the packet that they quote (RFC 5508, section 4; RFC 3022, section 4.3).
 
 ghost use Rattle.std.specs.Prelude.{◌≡◌, ◌↔◌, ◌+◌, ◌≤◌, IfErr, IfOk, OnErr, OnOk, Some, drop, length};
+ghost use Rattle.app_edit.specs.Sides.{opposite};
 ghost use Rattle.app_nat.specs.Errors.{CarriesError, quoting, ErrorComesIn, ErrorGoesOut, IsErrorKeptInside, IsErrorKeptOutside, IsErrorTranslated, IsRejectedError, Quotes, Reports, end_bit, error_packet, error_with, flow_by, is_error, message_fault, quoted_fault, quoted_of, quoted_with, with_quoted_end};
-ghost use Rattle.app_nat.specs.Nat.{addr_at, opposite, port_bit, with_addr};
+ghost use Rattle.app_nat.specs.Nat.{addr_at, port_bit, with_addr};
 ghost use Rattle.app_nat.specs.declared.errors.Quoted.{Quoted};
 ghost use Rattle.ip_wire.specs.Field.{field, with_field};
 ghost use Rattle.ip_wire.specs.Frame.{ReadsPacket, all_checked, ipv4_payload};
@@ -10,8 +11,9 @@ ghost use Rattle.ip_wire.specs.Types.{Ipv4, Ipv4Repr};
 ghost use Rattle.ip_wire.specs.Ipv4.{HasChecksum, header_len, total_len};
 
 use crate::packet::parse_whole;
-use crate::translation::{Rejection, Side, rewrite_tcp, rewrite_udp, set_addr};
+use crate::translation::{Rejection, rewrite_tcp, rewrite_udp, set_addr};
 use crate::{Ipv4Endpoint, Mapping, Nat, Protocol, inside_of, port_of};
+use app_edit::Side;
 use ip_wire::laws::field::bytes_fit;
 use ip_wire::{
     ETHERNET_HEADER_LEN, IPV4_HEADER_LEN, IpAddress, IpProtocol, Ipv4Address, Ipv4Packet, Ipv4Repr,

@@ -6,8 +6,9 @@ ghost use Rattle.app_nat.specs.Flows.{ComesIn, GoesOut, IsKeptInside, IsKeptOuts
 
 use crate::errors::{error_in, error_out};
 use crate::packet::Packet;
-use crate::translation::{Rejection, Side};
+use crate::translation::Rejection;
 use crate::{Mapping, Nat, find, open};
+use app_edit::Side;
 use ip_wire::Ipv4Address;
 
 /// Lets a frame go out: the outside address, and the port that the table gives, replace the source of its UDP packet,

@@ -3,15 +3,16 @@
 ghost use Rattle.std.specs.Prelude.{◌≡◌, ◌≢◌, IfErr, List, MatchResult, OnErr, OnOk, ℕ};
 ghost use Rattle.app_nat.specs.Flows.{IsAnswer, LeadsToPorts};
 ghost use Rattle.app_nat.specs.Nat.{HasUsualChecksums, IsPacket, IsTranslated, IsUntranslated, addr_of, port_of};
-ghost use Rattle.app_nat.specs.declared.translation.Side.TheVariants.{Destination};
+ghost use Rattle.app_edit.specs.declared.side.Side.TheVariants.{Destination};
 ghost use Rattle.app_nat.specs.declared.packet.Packet.{Packet};
 
 pub mod table;
 
 use crate::flows::{translate_in, translate_out};
 use crate::packet::Packet;
-use crate::translation::{Rejection, Side, translate};
+use crate::translation::{Rejection, translate};
 use crate::{Mapping, Nat};
+use app_edit::Side;
 use ip_wire::Ipv4Address;
 use ip_wire::laws::field::bytes_fit;
 

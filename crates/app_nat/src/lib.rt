@@ -14,6 +14,7 @@ mod state;
 mod table;
 mod translation;
 
+pub use app_edit::Side;
 pub use flows::{translate_in, translate_out};
 pub use look_up::{inside_of, port_of};
 pub use mapping::{Ipv4Endpoint, Mapping};
@@ -21,4 +22,4 @@ pub use nat::{ICMP_TIMEOUT, Nat, TCP_TIMEOUT, TCP_TRANSITORY_TIMEOUT, UDP_TIMEOU
 pub use packet::{Kind, Packet};
 pub use state::{Event, Protocol, TcpState};
 pub use table::{find, open};
-pub use translation::{Rejection, Side, translate};
+pub use translation::{Rejection, translate};

@@ -8,8 +8,9 @@ ghost use Rattle.ip_wire.specs.Field.{field};
 ghost use Rattle.ip_wire.specs.Frame.{ReadsPacket, all_checked, ipv4_payload};
 ghost use Rattle.ip_wire.specs.Types.{Ipv4};
 
-use crate::translation::{Rejection, Side};
+use crate::translation::Rejection;
 use crate::{Event, Ipv4Endpoint};
+use app_edit::Side;
 use ip_wire::laws::field::bytes_fit;
 use ip_wire::{
     ETHERNET_HEADER_LEN, EthernetFrame, EthernetProtocol, EthernetRepr, IpAddress, IpProtocol,

@@ -1,8 +1,9 @@
 //! Network address translation of one address and port (RFC 3022, sections 2.2 and 4.1).
 
 ghost use Rattle.std.specs.Prelude.{◌≡◌, ◌↔◌, ◌≤◌, ◌-◌, List, ℕ, IfErr, OnErr, OnOk, length, true};
+ghost use Rattle.app_edit.specs.Sides.{opposite};
 ghost use Rattle.app_nat.specs.Nat as nat;
-ghost use Rattle.app_nat.specs.Nat.{AllowsPort, CarriesPorts, IsPacket, IsTranslated, IsUntranslated, ReadsPorts, RejectsPort, Rewrites, Transport, addr_of, of_header, opposite, port_bit, translated_packet, with_addr, with_address, with_echo_ident, with_end, with_port, with_tcp_end, with_udp_end};
+ghost use Rattle.app_nat.specs.Nat.{AllowsPort, CarriesPorts, IsPacket, IsTranslated, IsUntranslated, ReadsPorts, RejectsPort, Rewrites, Transport, addr_of, of_header, port_bit, translated_packet, with_addr, with_address, with_echo_ident, with_end, with_port, with_tcp_end, with_udp_end};
 ghost use Rattle.ip_wire.specs.Ipv4 as ipv4;
 ghost use Rattle.ip_wire.specs.Field.{field, with_field};
 ghost use Rattle.ip_wire.specs.TcpRepr.{TcpHeader};
@@ -11,42 +12,13 @@ ghost use Rattle.ip_wire.specs.Udp.{checksum_for};
 ghost use Rattle.ip_wire.specs.WordSum.{sum_of_bytes, updated};
 
 use crate::packet::Packet;
+use app_edit::Side;
 use ip_wire::laws::field::bytes_fit;
 use ip_wire::{
     ETHERNET_HEADER_LEN, HeaderFault, IpAddress, IpProtocol, IpRepr, Ipv4Address, Ipv4Packet,
     Ipv4PacketMut, Ipv4Repr, TcpPacket, TcpPacketMut, UdpPacket, UdpPacketMut, checksum,
 };
 use wire_icmp::IcmpPacketMut;
-
-/// The end of a packet, source or destination, whose address and port are replaced.
-#[derive(Debug, Clone, Copy, PartialEq, Eq)]
-pub enum Side {
-    Source,
-    Destination,
-}
-
-impl Side {
-    /// The other end.
-    pub fn opposite(self) -> Side
-        ensures { result ≡ opposite self }
-    {
-        match self {
-            Side::Source => Side::Destination,
-            Side::Destination => Side::Source,
-        }
-    }
-
-    // The address of a header on this side. Always inlined, since a call would keep the header in memory.
-    #[inline(always)]
-    fn of(self, header: &Ipv4Repr) -> Ipv4Address
-        ensures { result ≡ addr_of self header.now }
-    {
-        match self {
-            Side::Source => header.src_addr,
-            Side::Destination => header.dst_addr,
-        }
-    }
-}
 
 /// Why a frame is not translated. The checks run in this order: if several reasons apply, the first of
 /// them is returned.
@@ -185,12 +157,23 @@ fn rewrite_transport(header: Ipv4Repr, payload: &mut [u8], side: Side, addr: Ipv
     ensures reads { (transport : Transport) → Rewrites header payload.old payload.new side addr port transport }
     ensures bytes { payload.new ≡ with_end header.next_header side (addr_of side header) addr port payload.old }
 {
-    let old = side.of(&header);
+    let old = addr_of(side, &header);
     match header.next_header {
         IpProtocol::Udp => rewrite_udp(payload, side, old, addr, port),
         IpProtocol::Tcp => rewrite_tcp(payload, side, old, addr, port),
         IpProtocol::Icmp => rewrite_echo(header, payload, side, addr, port),
         _ => {}
+    }
+}
+
+// The address of a header on this side. Always inlined, since a call would keep the header in memory.
+#[inline(always)]
+fn addr_of(side: Side, header: &Ipv4Repr) -> Ipv4Address
+    ensures { result ≡ addr_of side header.now }
+{
+    match side {
+        Side::Source => header.src_addr,
+        Side::Destination => header.dst_addr,
     }
 }
 

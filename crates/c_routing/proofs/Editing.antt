@@ -8,7 +8,7 @@ use Rattle.app_edit.specs.Edited.{addr_set, bytes_set, dscp_set, hop_limit_set, 
 use Rattle.app_edit.specs.Filled.{checksum_filled}
 use Rattle.app_edit.specs.Places.{places_of}
 use Rattle.app_edit.specs.declared.replace.Offload.{Offload}
-use Rattle.app_nat.specs.declared.translation.Side.{Side}
+use Rattle.app_edit.specs.declared.side.Side.{Side}
 use Rattle.ip_wire.specs.Types.{IpAddress}
 use Rattle.c_structs.specs.Written.{flag, max_len, within}
 use Rattle.c_routing.proofs.Within.{within-itself, within-nothing}

@@ -4,7 +4,7 @@ use Rattle.std.proofs.lemmas.Int.{to_z-of_z}
 use Rattle.app_nat.specs.Nat.{IsRejected, IsUntranslated}
 use Rattle.app_nat.specs.declared.translation.Rejection.{Rejection}
 use Rattle.app_nat.specs.declared.translation.Rejection.TheVariants.{NotIpv4}
-use Rattle.app_nat.specs.declared.translation.Side.{Side}
+use Rattle.app_edit.specs.declared.side.Side.{Side}
 use Rattle.ip_wire.specs.Ethernet.{ethernet_of}
 use Rattle.c_structs.specs.Written.{max_len}
 use Rattle.c_structs.specs.declared.types.Endpoint.{Endpoint}

@@ -4,8 +4,8 @@ use Rattle.std.specs.Prelude.{ℕ, ℤ, pos, ◌≡◌, ◌≢◌, ◌≤◌, �
 use Rattle.std.specs.Ordering.{int_eq}
 use Rattle.app_nat.specs.Nat.{IsTranslated, IsUntranslated}
 use Rattle.app_nat.specs.declared.translation.Rejection.{Rejection}
-use Rattle.app_nat.specs.declared.translation.Side.{Side}
-use Rattle.app_nat.specs.declared.translation.Side.TheVariants.{Source, Destination}
+use Rattle.app_edit.specs.declared.side.Side.{Side}
+use Rattle.app_edit.specs.declared.side.Side.TheVariants.{Source, Destination}
 use Rattle.c_structs.specs.Written.{max_len, within}
 use Rattle.c_structs.specs.declared.types.Endpoint.{Endpoint}
 use Rattle.c_routing.specs.Rejections.{of_nat, rejection_code}

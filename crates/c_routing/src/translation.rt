@@ -4,7 +4,8 @@ ghost use Rattle.std.specs.Prelude.{◌≡◌};
 ghost use Rattle.c_routing.specs.Translated.{Translates, side_of};
 
 use crate::rejections::Rejection;
-use app_nat::{Side, translate};
+use app_edit::Side;
+use app_nat::translate;
 use c_structs::{Endpoint, MAX_LEN};
 
 /// Writes another address and port into the packet of a frame over IPv4, in place. Returns 0, or the number of the

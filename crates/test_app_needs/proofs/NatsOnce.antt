@@ -16,7 +16,7 @@ use Rattle.app_nat.specs.declared.Packet.{Packet}
 use Rattle.app_nat.specs.declared.Protocol.{Protocol}
 use Rattle.app_nat.specs.declared.Rejection.{Rejection}
 use Rattle.app_nat.specs.declared.Rejection.TheVariants.{ZeroPort}
-use Rattle.app_nat.specs.declared.Side.{Side}
+use Rattle.app_edit.specs.declared.Side.{Side}
 
 -- ---- what two calls return
 

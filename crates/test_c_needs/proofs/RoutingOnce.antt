@@ -6,7 +6,7 @@ use Rattle.app_edit.specs.declared.replace.Offload.{Offload}
 use Rattle.app_nat.proofs.NatOnce.{translated-unrejected, untranslated-once}
 use Rattle.app_nat.specs.Nat.{IsTranslated, IsUntranslated}
 use Rattle.app_nat.specs.declared.Rejection.{Rejection as NatRejection}
-use Rattle.app_nat.specs.declared.Side.{Side}
+use Rattle.app_edit.specs.declared.Side.{Side}
 use Rattle.app_router.proofs.ForwardOnce.{forwarded-no_fault, forwarded-once}
 use Rattle.app_router.specs.Forward.{IsForwarded, fault_of}
 use Rattle.ip_wire.proofs.ReadsOnce.{frame-once}

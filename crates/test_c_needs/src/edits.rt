@@ -14,9 +14,8 @@ ghost use Rattle.ip_wire.specs.declared.IpProtocol.TheVariants.{Tcp, Udp};
 ghost use Rattle.ip_wire.specs.declared.IpVersion.TheVariants.{Ipv4};
 
 use app_edit::{
-    Offload, fill_checksum, laws, set_addr, set_bytes, set_dscp, set_hop_limit, set_port,
+    Offload, Side, fill_checksum, laws, set_addr, set_bytes, set_dscp, set_hop_limit, set_port,
 };
-use app_nat::Side;
 use ip_wire::IpAddress;
 
 /// Each edit is made in one way, or not at all.

@@ -2,7 +2,8 @@ use Rattle.std.proofs.Common.{List, ℕ, ◌≡◌, ◌↔◌, ◌-◌, ◌++◌
 use Rattle.app_nat.proofs.Payloads.{range-split}
 use Rattle.app_nat.proofs.Quotes.{packet-with}
 use Rattle.app_nat.specs.Errors.{Reports, error_with, quoted_of, quoting}
-use Rattle.app_nat.specs.Nat.{opposite, with_addr, with_address}
+use Rattle.app_edit.specs.Sides.{opposite}
+use Rattle.app_nat.specs.Nat.{with_addr, with_address}
 use Rattle.ip_wire.specs.Field.{with_range}
 use Rattle.ip_wire.specs.Frame.{ipv4_payload}
 use Rattle.ip_wire.specs.Ipv4.{HasChecksum, Reads, header_len, total_len}

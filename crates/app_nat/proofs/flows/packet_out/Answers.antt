@@ -1,7 +1,7 @@
 use Rattle.std.proofs.Common.{◌≡◌, inr, refl, rules}
 use Rattle.std.proofs.lemmas.Result.{IfErr-weaker, on_err_weaker, on_ok_weaker}
 use Rattle.app_nat.proofs.Mapped.{kept-inside, disallowed-zero}
-use Rattle.app_nat.specs.declared.translation.Side.TheVariants.{Source}
+use Rattle.app_edit.specs.declared.side.Side.TheVariants.{Source}
 use Rattle.app_nat.proofs.flows.packet_out.Goals as goal
 
 pub returns-in_err-packet-clause-rejected : goal.returns-in_err-packet-clause-rejected

@@ -1,7 +1,7 @@
 use Rattle.std.proofs.Common.{rules, Result, Ok, Err, IsOk, MatchResult}
 use Rattle.std.proofs.lemmas.Result.{on_ok_weaker}
 use Rattle.app_nat.specs.Nat.{IsTranslated}
-use Rattle.app_nat.specs.declared.translation.Side.TheVariants.{Destination}
+use Rattle.app_edit.specs.declared.side.Side.TheVariants.{Destination}
 use Rattle.test_app_needs.proofs.nat.answer_comes_back.Goals as goal
 
 came : {T E : Type 0} (A : Type 0) (r : Result T E) → MatchResult r (λ _. A) (λ _. ⊥) → IsOk r
