@@ -1,6 +1,8 @@
 mod Covers
 mod Kept
+pub mod Layouts
 mod Left
+pub mod Payloads
 mod PlacedSums
 mod Sent
 mod Stays

@@ -1,5 +1,6 @@
 pub mod Checksums
 pub mod Edited
 pub mod Filled
+pub mod Layout
 pub mod Places
 pub mod Sides

@@ -11,6 +11,7 @@ use Rattle.ip_wire.specs.Types.{EthernetProtocol, IpProtocol, IpVersion}
 use Rattle.ip_wire.specs.declared.EthernetProtocol.TheVariants as ethertype
 use Rattle.ip_wire.specs.declared.IpProtocol.TheVariants as protocol
 use Rattle.ip_wire.specs.declared.IpVersion.TheVariants as version
+use Rattle.app_edit.specs.Layout.{payload_end, payload_start}
 use Rattle.app_edit.specs.declared.places.Carried.{Carried}
 use Rattle.app_edit.specs.declared.places.Carried.TheVariants as carried
 use Rattle.app_edit.specs.declared.places.Places.{Places}
@@ -103,8 +104,8 @@ ipv4_carried frame start end =
 -- the places in a frame with the EtherType of IPv4, if its header parses; its checksum is not verified
 abbrev pub ipv4_places : List ℕ → Option Places
 ipv4_places frame =
-    let start = 14 + ipv4.header_len (drop 14 frame) in
-    let end = 14 + ipv4.total_len (drop 14 frame) in
+    let start = 14 + payload_start version.Ipv4 (drop 14 frame) in
+    let end = 14 + payload_end version.Ipv4 (drop 14 frame) in
     if ipv4.is_read false (drop 14 frame) then Some (record { version = version.Ipv4; start = start; end = end; carried = ipv4_carried frame start end })
     else None
 
@@ -125,7 +126,7 @@ places_after frame p len = record { version = version.Ipv6; start = 54; end = 14
 abbrev pub ipv6_places : List ℕ → Option Places
 ipv6_places frame =
     let bytes = drop 14 frame in
-    if ipv6.is_read bytes then Some (places_after frame (protocol_of (field bytes 48 8)) (ipv6.total_len bytes)) else None
+    if ipv6.is_read bytes then Some (places_after frame (protocol_of (field bytes 48 8)) (payload_end version.Ipv6 bytes)) else None
 
 -- the places in a frame with this EtherType
 abbrev pub places_by : EthernetProtocol → List ℕ → Option Places

@@ -1,8 +1,9 @@
 //! Laws of the edits, over the definitions of what they write. Sums are one's complement sums (RFC 1071).
 
-ghost use Rattle.std.specs.Prelude.{◌≡◌, ◌≢◌, ◌≤◌, ◌+◌, ◌%◌, ◌⊎◌, Some, false, length, slice_range, true};
-ghost use Rattle.app_edit.specs.Edited.{edited, is_left, pseudo_header_sum, segment_sum, word_at};
+ghost use Rattle.std.specs.Prelude.{◌≡◌, ◌≢◌, ◌≤◌, ◌+◌, ◌%◌, ◌⊎◌, Some, drop, false, length, slice_range, true};
+ghost use Rattle.app_edit.specs.Edited.{allows, edited, is_left, pseudo_header_sum, segment_sum, word_at};
 ghost use Rattle.app_edit.specs.Filled.{filled};
+ghost use Rattle.app_edit.specs.Layout.{layout_of};
 ghost use Rattle.app_edit.specs.Places.{checksum_place, places_of};
 ghost use Rattle.app_edit.specs.declared.places.Carried.TheVariants.{Segment as OfSegment};
 ghost use Rattle.app_edit.specs.declared.places.Places.{Places as PlacesOf};
@@ -60,5 +61,14 @@ pub fn pseudo_header_sum_stays(frame: &[u8], at: usize, bytes: &[u8])
         → word_at (edited o p frame.now at bytes.now) (checksum_place s) ≡ pseudo_header_sum p.version s (edited o p frame.now at bytes.now) }
 {
     bytes_fit(frame);
+    let _ = Places::of(frame);
+}
+
+/// An edit of bytes that `set_bytes` may replace keeps the layout of the packet.
+pub fn layout_stays(frame: &[u8], at: usize, bytes: &[u8])
+    requires { at + length bytes.now ≤ length frame.now }
+    ensures { (o : OffloadOf) (p : PlacesOf) → places_of frame.now ≡ Some p → allows p at (at + length bytes.now) ≡ true
+        → layout_of p.version (drop 14 (edited o p frame.now at bytes.now)) ≡ layout_of p.version (drop 14 frame.now) }
+{
     let _ = Places::of(frame);
 }

@@ -5,6 +5,7 @@ ghost use Rattle.app_edit.specs.Places as place;
 ghost use Rattle.app_edit.specs.Places.{Holds, HoldsCarried, addresses_end, checksum_offset, checksum_place, covers_addresses, has_checksum, hides_next, is_ipv4, places_of};
 ghost use Rattle.ip_wire.specs.declared.IpVersion.TheVariants as version;
 
+use crate::layout::Layout;
 use byteorder::{ByteOrder, NetworkEndian};
 use ip_wire::{
     ETHERNET_HEADER_LEN, EthernetFrame, EthernetProtocol, IPV6_HEADER_LEN, IpProtocol, IpVersion,
@@ -108,8 +109,9 @@ fn ipv4_places(frame: &[u8]) -> Option<Places>
     if packet.version() != 4 {
         return None;
     }
-    let start = ETHERNET_HEADER_LEN + usize::from(packet.header_len());
-    let end = ETHERNET_HEADER_LEN + usize::from(packet.total_len());
+    let layout = Layout::of(IpVersion::Ipv4, bytes);
+    let start = ETHERNET_HEADER_LEN + layout.start;
+    let end = ETHERNET_HEADER_LEN + layout.end;
     Some(Places {
         version: IpVersion::Ipv4,
         start,
@@ -156,7 +158,8 @@ fn ipv6_places(frame: &[u8]) -> Option<Places>
     if packet.version() != 6 {
         return None;
     }
-    Some(places_after(frame, packet.next_header(), packet.total_len()))
+    let layout = Layout::of(IpVersion::Ipv6, bytes);
+    Some(places_after(frame, packet.next_header(), layout.end))
 }
 
 // The places of an IPv6 packet with this next header and length.

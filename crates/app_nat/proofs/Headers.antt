@@ -13,7 +13,7 @@ use Rattle.ip_wire.proofs.Ipv4Changed.{reads-dst_addr, reads-src_addr, reads-sum
 use Rattle.ip_wire.proofs.Residues.{residue-bound, residue-quotient, residue-same}
 use Rattle.ip_wire.proofs.Spelled.{AreBytes}
 use Rattle.wire_icmp.proofs.Parts.{sum-take-positive, sum-take-with_field, sum-take-with_range}
-use Rattle.app_nat.proofs.Payloads.{range-front, range-len, range-past}
+use Rattle.app_edit.proofs.Payloads.{range-front, range-len, range-past}
 use Rattle.app_nat.specs.Nat.{addr_at, with_addr, with_address}
 use Rattle.app_edit.specs.declared.side.Side.{Side}
 use Rattle.app_edit.specs.declared.side.Side.TheVariants.{Source, Destination}

@@ -10,7 +10,6 @@ pub mod Headers
 pub mod Mapped
 pub mod Meaning
 pub mod NatOnce
-pub mod Payloads
 pub mod Places
 pub mod Quotes
 pub mod Residues

@@ -22,7 +22,7 @@ use Rattle.app_nat.specs.declared.state.Protocol.{Protocol}
 use Rattle.app_nat.specs.declared.state.Protocol.TheVariants as flow
 use Rattle.app_nat.proofs.Ends.{ended, has-both, port-fits, with_both}
 use Rattle.app_nat.proofs.Headers.{addressed, front-len, keeps, reads-inner, same-inner}
-use Rattle.app_nat.proofs.Payloads.{drop-front, range-len}
+use Rattle.app_edit.proofs.Payloads.{drop-front, range-len}
 use Rattle.app_nat.proofs.TcpEnds.{tcp-ported, tcp-whole}
 use Rattle.app_nat.proofs.UdpEnds.{udp-ported, udp_next, whole}
 use Rattle.app_nat.proofs.Words.{spelled, spelled-fits, spelled-word, word}

@@ -18,7 +18,7 @@ use Rattle.ip_wire.proofs.Cells.{cells-all}
 use Rattle.app_nat.proofs.EchoEnds.{echo-len}
 use Rattle.app_nat.proofs.Echoes.{plain-other}
 use Rattle.app_nat.proofs.Headers.{keeps, reads-inner, same-inner}
-use Rattle.app_nat.proofs.Payloads.{drop-front, range-len, range-part}
+use Rattle.app_edit.proofs.Payloads.{drop-front, range-len, range-part}
 use Rattle.app_nat.proofs.TcpEnds.{tcp-len}
 use Rattle.app_nat.proofs.UdpEnds.{udp-ended}
 use Rattle.app_nat.specs.Nat.{AllowsPort, Carries, CarriesPorts, IsRejected, IsTranslated, IsUntranslated, LacksChecksum, ReadsPorts, RejectsPort, Rewrites, Transport, addr_at, addr_of, translated_packet, with_addr, with_address, with_end, with_port, datagram, segment, request, reply, plain}

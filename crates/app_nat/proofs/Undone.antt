@@ -15,7 +15,7 @@ use Rattle.ip_wire.proofs.Cells.{cells, cells-all, cells-drop, word_high, word_l
 use Rattle.app_nat.proofs.EchoEnds.{echo-back}
 use Rattle.app_nat.proofs.Echoes.{reply-ident, request-ident}
 use Rattle.app_nat.proofs.Headers.{addressed, front-len, keeps, past-front, same-inner}
-use Rattle.app_nat.proofs.Payloads.{drop-front, range-len, range-past, range-same, range-twice}
+use Rattle.app_edit.proofs.Payloads.{drop-front, range-len, range-past, range-same, range-twice}
 use Rattle.app_nat.proofs.Residues.{sum-fits, updated-back}
 use Rattle.app_nat.proofs.TcpEnds.{tcp-back}
 use Rattle.app_nat.proofs.Translates.{addr-read, carried, ended-len, inner-payload, payload-len}

@@ -7,15 +7,17 @@ use Rattle.app_nat.specs.declared.mapping.Mapping.{Mapping}
 use Rattle.app_nat.specs.declared.nat.Nat.{Nat}
 use Rattle.app_nat.specs.declared.state.Protocol.{Protocol}
 use Rattle.app_nat.specs.declared.state.Protocol.TheVariants as flow
-use Rattle.ip_wire.specs.Field.{field, with_field, with_range}
+use Rattle.ip_wire.specs.Field.{field, with_field}
 use Rattle.ip_wire.specs.Frame.{ReadsPacket, all_checked, ipv4_payload}
 use Rattle.ip_wire.specs.Ipv4 as ipv4
-use Rattle.ip_wire.specs.Ipv4.{fragment_offset, header_len, total_len}
+use Rattle.ip_wire.specs.Ipv4.{fragment_offset, header_len}
 use Rattle.ip_wire.specs.Protocol.{protocol_of}
 use Rattle.ip_wire.specs.WordSum.{sum_of_bytes}
 use Rattle.ip_wire.specs.Types.{EthernetRepr, IpProtocol, Ipv4, Ipv4Repr}
 use Rattle.ip_wire.specs.declared.IpProtocol.TheVariants as protocol
+use Rattle.ip_wire.specs.declared.IpVersion.TheVariants as version
 use Rattle.wire_icmp.specs.Icmp as icmp
+use Rattle.app_edit.specs.Layout.{with_payload}
 use Rattle.app_edit.specs.Sides.{opposite}
 use Rattle.app_nat.specs.Nat.{IsIpv4Frame, addr_at, frame_fault, is_message, port_bit, with_addr, with_address, with_tcp_end, with_udp_end}
 use Rattle.app_nat.specs.declared.errors.Quoted.{Quoted}
@@ -151,7 +153,7 @@ error_with p side addr port bytes = with_message_checksum (take 8 bytes ++ quote
 -- opposite side of its own header
 abbrev pub error_packet : Protocol → Side → List ℕ → ℕ → List ℕ → List ℕ
 error_packet p side addr port bytes =
-    with_address (opposite side) addr (with_range bytes (header_len bytes) (total_len bytes) (error_with p side addr port (ipv4_payload bytes)))
+    with_address (opposite side) addr (with_payload version.Ipv4 bytes (error_with p side addr port (ipv4_payload bytes)))
 
 -- the frame with the translated ICMP error
 abbrev pub translated_error : Protocol → Side → List ℕ → ℕ → List ℕ → List ℕ

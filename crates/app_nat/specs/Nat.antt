@@ -20,11 +20,13 @@ use Rattle.ip_wire.specs.declared.HeaderFault.TheVariants as header
 use Rattle.ip_wire.specs.Types.{EthernetProtocol, EthernetRepr, IpProtocol, Ipv4, Ipv4Repr, UdpRepr}
 use Rattle.ip_wire.specs.declared.IpAddress.TheVariants as address
 use Rattle.ip_wire.specs.declared.IpProtocol.TheVariants as protocol
+use Rattle.ip_wire.specs.declared.IpVersion.TheVariants as version
 use Rattle.wire_icmp.specs.Icmp as icmp
 use Rattle.wire_icmp.specs.declared.icmp.repr.IcmpRepr.{IcmpRepr}
 use Rattle.wire_icmp.specs.declared.icmp.repr.IcmpRepr.TheVariants.{EchoRequest, EchoReply}
 use Rattle.app_nat.specs.declared.translation.Rejection.{Rejection}
 use Rattle.app_nat.specs.declared.translation.Rejection.TheVariants.{NotIpv4, BadHeader, WrongChecksum, Fragment, OtherProtocol, BadTransport, ZeroPort}
+use Rattle.app_edit.specs.Layout.{with_payload}
 use Rattle.app_edit.specs.declared.side.Side.{Side}
 use Rattle.app_edit.specs.declared.side.Side.TheVariants.{Source, Destination}
 use Rattle.app_nat.specs.declared.packet.Kind.{Kind}
@@ -151,7 +153,7 @@ with_address Destination addr bytes =
 abbrev pub translated_packet : Side → List ℕ → ℕ → List ℕ → List ℕ
 translated_packet side addr port bytes =
     let payload = with_end (protocol_of (field bytes 72 8)) side (addr_at side bytes) addr port (ipv4_payload bytes) in
-    with_address side addr (with_range bytes (ipv4.header_len bytes) (ipv4.total_len bytes) payload)
+    with_address side addr (with_payload version.Ipv4 bytes payload)
 
 -- the bytes of a frame with the translated packet
 abbrev pub translated : Side → List ℕ → ℕ → List ℕ → List ℕ

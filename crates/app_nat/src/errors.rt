@@ -13,11 +13,11 @@ ghost use Rattle.ip_wire.specs.Ipv4.{HasChecksum, header_len, total_len};
 use crate::packet::parse_whole;
 use crate::translation::{Rejection, rewrite_tcp, rewrite_udp, set_addr};
 use crate::{Ipv4Endpoint, Mapping, Nat, Protocol, inside_of, port_of};
-use app_edit::Side;
+use app_edit::{Layout, Side};
 use ip_wire::laws::field::bytes_fit;
 use ip_wire::{
-    ETHERNET_HEADER_LEN, IPV4_HEADER_LEN, IpAddress, IpProtocol, Ipv4Address, Ipv4Packet, Ipv4Repr,
-    TcpPacketMut, UdpPacket,
+    ETHERNET_HEADER_LEN, IPV4_HEADER_LEN, IpAddress, IpProtocol, IpVersion, Ipv4Address,
+    Ipv4Packet, Ipv4Repr, TcpPacketMut, UdpPacket,
 };
 use wire_icmp::{ICMP_HEADER_LEN, IcmpPacket, IcmpPacketMut};
 
@@ -231,11 +231,8 @@ fn rewrite_packet(protocol: Protocol, bytes: &mut [u8], side: Side, addr: Ipv4Ad
         → ReadsPacket all_checked bytes.new (Ipv4 (with_addr (opposite side) addr v)) × Reports side (ipv4_payload bytes.new) (quoting q addr port)
         × (HasChecksum (quoted_of bytes.old) ↔ HasChecksum (quoted_of bytes.new)) }
 {
-    let view = Ipv4Packet::new_unchecked(bytes);
-    let start = usize::from(view.header_len());
-    let end = usize::from(view.total_len());
-    let (_, rest) = bytes.split_at_mut(start);
-    let (message, _) = rest.split_at_mut(end - start);
+    let layout = Layout::of(IpVersion::Ipv4, bytes);
+    let message = &mut bytes[layout.start..layout.end];
     rewrite_message(protocol, message, side, addr, port);
     set_addr(bytes, side.opposite(), addr);
 }

@@ -12,11 +12,11 @@ ghost use Rattle.ip_wire.specs.Udp.{checksum_for};
 ghost use Rattle.ip_wire.specs.WordSum.{sum_of_bytes, updated};
 
 use crate::packet::Packet;
-use app_edit::Side;
+use app_edit::{Layout, Side};
 use ip_wire::laws::field::bytes_fit;
 use ip_wire::{
-    ETHERNET_HEADER_LEN, HeaderFault, IpAddress, IpProtocol, IpRepr, Ipv4Address, Ipv4Packet,
-    Ipv4PacketMut, Ipv4Repr, TcpPacket, TcpPacketMut, UdpPacket, UdpPacketMut, checksum,
+    ETHERNET_HEADER_LEN, HeaderFault, IpAddress, IpProtocol, IpVersion, Ipv4Address, Ipv4PacketMut,
+    Ipv4Repr, TcpPacket, TcpPacketMut, UdpPacket, UdpPacketMut, checksum,
 };
 use wire_icmp::IcmpPacketMut;
 
@@ -115,11 +115,8 @@ fn rewrite_packet(header: Ipv4Repr, packet: &mut [u8], side: Side, addr: Ipv4Add
         → CarriesPorts packet.old header transport → CarriesPorts packet.new (with_addr side addr header) (with_port side port transport) }
     ensures bytes { packet.new ≡ translated_packet side addr port packet.old }
 {
-    let view = Ipv4Packet::new_unchecked(packet);
-    let start = usize::from(view.header_len());
-    let end = usize::from(view.total_len());
-    let (_, rest) = packet.split_at_mut(start);
-    let (payload, _) = rest.split_at_mut(end - start);
+    let layout = Layout::of(IpVersion::Ipv4, packet);
+    let payload = &mut packet[layout.start..layout.end];
     rewrite_transport(header, payload, side, addr, port);
     set_addr(packet, side, addr);
 }

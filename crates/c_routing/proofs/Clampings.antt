@@ -4,8 +4,9 @@ use Rattle.std.proofs.lemmas.Bool.Decides.{nat_tests}
 use Rattle.std.proofs.lemmas.List.{length-take-le, take-append-drop}
 use Rattle.c_structs.specs.Written.{max_len}
 use Rattle.app_nat.proofs.Headers.{reads-inner, same-inner}
-use Rattle.app_nat.proofs.Payloads.{drop-front, range-len, range-part, range-same}
+use Rattle.app_edit.proofs.Payloads.{drop-front, range-len, range-part, range-same}
 use Rattle.app_nat.proofs.Translates.{inner-payload, link-stays}
+use Rattle.app_edit.specs.Layout.{payload_end, payload_start, with_payload}
 use Rattle.app_edit.specs.declared.replace.Offload.{Offload}
 use Rattle.app_edit.specs.declared.replace.Offload.TheVariants as offload
 use Rattle.app_short.specs.Clamp.{IsAbove}
@@ -16,7 +17,7 @@ use Rattle.ip_wire.proofs.TcpChanged.{reads-summed}
 use Rattle.ip_wire.specs.Field.{field, with_field, with_range}
 use Rattle.ip_wire.specs.Frame.{ReadsFrame, ReadsPacket, Transport, packet, packet_payload, segment, type_of}
 use Rattle.ip_wire.specs.FrameValue.{transport_of}
-use Rattle.ip_wire.specs.Ip.{ReadsHeader, dst_addr_of, src_addr_of}
+use Rattle.ip_wire.specs.Ip.{ReadsHeader, dst_addr_of, src_addr_of, version_of}
 use Rattle.ip_wire.specs.IpAddress.{address_bytes}
 use Rattle.ip_wire.specs.Ipv4 as ipv4
 use Rattle.ip_wire.specs.Ipv6 as ipv6
@@ -36,7 +37,7 @@ use Rattle.net_base.specs.declared.Checksum.{Checksum}
 use Rattle.net_base.specs.declared.Checksum.TheVariants as checksum
 use Rattle.net_base.specs.declared.ChecksumCapabilities.{ChecksumCapabilities}
 use Rattle.c_routing.proofs.Within.{within-itself, within-nothing}
-use Rattle.c_routing.specs.Clamped.{CarriesSegment, Clamps, IsClamped, IsTooLarge, ReadsSegment, clamped, is_left_to_device, resized, segment_end, segment_start, tcp_as, with_segment, with_size}
+use Rattle.c_routing.specs.Clamped.{CarriesSegment, Clamps, IsClamped, IsTooLarge, ReadsSegment, clamped, is_left_to_device, resized, tcp_as, with_size}
 
 -- ---- where the segment is
 
@@ -44,24 +45,24 @@ pub header-read : (choice : Checksum) (bytes : List ℕ) (header : IpRepr) → R
 header-read choice bytes (Ipv4 v) r = r.0
 header-read choice bytes (Ipv6 v) r = r
 
-pub range-order : (bytes : List ℕ) (header : IpRepr) → ReadsHeader bytes true header → segment_start header bytes ≤ segment_end header bytes
+pub range-order : (bytes : List ℕ) (header : IpRepr) → ReadsHeader bytes true header → payload_start (version_of header) bytes ≤ payload_end (version_of header) bytes
 range-order bytes (Ipv4 v) r = r.lengths.within
 range-order bytes (Ipv6 v) r = omega arith
 
-pub range-within : (bytes : List ℕ) (header : IpRepr) → ReadsHeader bytes true header → segment_end header bytes ≤ length bytes
+pub range-within : (bytes : List ℕ) (header : IpRepr) → ReadsHeader bytes true header → payload_end (version_of header) bytes ≤ length bytes
 range-within bytes (Ipv4 v) r = r.lengths.whole
 range-within bytes (Ipv6 v) r = r.lengths
 
-pub payload-range : (bytes : List ℕ) (header : IpRepr) → packet_payload header bytes ≡ slice_range bytes (segment_start header bytes) (segment_end header bytes)
+pub payload-range : (bytes : List ℕ) (header : IpRepr) → packet_payload header bytes ≡ slice_range bytes (payload_start (version_of header) bytes) (payload_end (version_of header) bytes)
 payload-range bytes (Ipv4 v) = refl
 payload-range bytes (Ipv6 v) = refl
 
 payload-len : (bytes : List ℕ) (header : IpRepr) → ReadsHeader bytes true header
-    → length (packet_payload header bytes) ≡ segment_end header bytes - segment_start header bytes
+    → length (packet_payload header bytes) ≡ payload_end (version_of header) bytes - payload_start (version_of header) bytes
 payload-len bytes header r =
-    let start = segment_start header bytes in
+    let start = payload_start (version_of header) bytes in
     ap length (payload-range bytes header)
-    ∙ length-take-le (segment_end header bytes - start) (drop start bytes) (omega (arith, length-drop start bytes, range-order bytes header r, range-within bytes header r))
+    ∙ length-take-le (payload_end (version_of header) bytes - start) (drop start bytes) (omega (arith, length-drop start bytes, range-order bytes header r, range-within bytes header r))
 
 -- ---- an IPv6 header before another payload
 
@@ -102,7 +103,7 @@ reads-ipv6 bytes part v r e =
 -- ---- a packet with another segment of the same length
 
 reads-with : (choice : Checksum) (bytes part : List ℕ) (header : IpRepr) → ReadsPacket (tcp_as choice) bytes header
-    → length part ≡ segment_end header bytes - segment_start header bytes → ReadsPacket (tcp_as choice) (with_segment header bytes part) header
+    → length part ≡ payload_end (version_of header) bytes - payload_start (version_of header) bytes → ReadsPacket (tcp_as choice) (with_payload (version_of header) bytes part) header
 reads-with choice bytes part (Ipv4 v) r e =
     let lengths = r.0.lengths in
     let same = same-inner bytes part (ipv4.header_len bytes) (ipv4.total_len bytes) lengths.least lengths.header (omega (arith, lengths.header, lengths.within)) in
@@ -111,7 +112,7 @@ reads-with choice bytes part (Ipv6 v) r e = reads-ipv6 bytes part v r e
 
 -- the other segment is the payload
 payload-with : (choice : Checksum) (bytes part : List ℕ) (header : IpRepr) → ReadsPacket (tcp_as choice) bytes header
-    → length part ≡ length (packet_payload header bytes) → packet_payload header (with_segment header bytes part) ≡ part
+    → length part ≡ length (packet_payload header bytes) → packet_payload header (with_payload (version_of header) bytes part) ≡ part
 payload-with choice bytes part (Ipv4 v) r e = inner-payload bytes part v r.0 e
 payload-with choice bytes part (Ipv6 v) r e =
     let n = ipv6.total_len bytes in
@@ -141,7 +142,7 @@ even-ends choice bytes (Ipv6 v) r =
 
 -- the segment that was clamped is read in its packet
 pub packet-clamped : (o : Offload) (choice : Checksum) (bytes part new : List ℕ) (header : IpRepr) (v : TcpHeader) (payload : List ℕ) (limit : ℕ)
-    → new ≡ with_segment header bytes part → length part ≡ length (packet_payload header bytes)
+    → new ≡ with_payload (version_of header) bytes part → length part ≡ length (packet_payload header bytes)
     → ((verified : Bool) → (o ≡ offload.Offloaded → verified ≡ false) → IsEven (src_addr_of header) → IsEven (dst_addr_of header) → Reads (packet_payload header bytes) (src_addr_of header) (dst_addr_of header) verified v payload
     → Reads part (src_addr_of header) (dst_addr_of header) verified (with_size limit v) payload)
     → (o ≡ offload.Offloaded → verifies choice ≡ false) → ReadsSegment choice bytes header v payload → ReadsSegment choice new header (with_size limit v) payload
@@ -161,11 +162,11 @@ packet-clamped o choice bytes part new header v payload limit is e lowered said 
 
 pub packet-bytes : (o : Offload) (header : IpRepr) (bytes part : List ℕ) (limit : ℕ) (done : Bool) → ReadsHeader bytes true header
     → part ≡ (if done then resized o (src_addr_of header) (dst_addr_of header) (packet_payload header bytes) limit else packet_payload header bytes)
-    → with_segment header bytes part ≡ (if done then clamped o header bytes limit else bytes)
-packet-bytes o header bytes part limit true r is = ap (with_segment header bytes) is
+    → with_payload (version_of header) bytes part ≡ (if done then clamped o header bytes limit else bytes)
+packet-bytes o header bytes part limit true r is = ap (with_payload (version_of header) bytes) is
 packet-bytes o header bytes part limit false r is =
-    ap (with_segment header bytes) (is ∙ payload-range bytes header)
-    ∙ range-same bytes (segment_start header bytes) (segment_end header bytes) (range-order bytes header r)
+    ap (with_payload (version_of header) bytes) (is ∙ payload-range bytes header)
+    ∙ range-same bytes (payload_start (version_of header) bytes) (payload_end (version_of header) bytes) (range-order bytes header r)
 
 -- ---- a checksum that is left to the device
 

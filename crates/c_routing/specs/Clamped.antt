@@ -1,17 +1,16 @@
 -- What the call that clamps the maximum segment size of a frame returns and writes.
 -- Pinned by: `worked/route`
 use Rattle.std.specs.Prelude.{ℕ, ℤ, pos, ◌≡◌, ◌≤◌, ◌==◌, ◌++◌, ◌⊎◌, if◌then◌else◌, Bool, true, false, List, Some, drop, length, take}
+use Rattle.app_edit.specs.Layout.{with_payload}
 use Rattle.app_edit.specs.declared.replace.Offload.{Offload}
 use Rattle.app_edit.specs.declared.replace.Offload.TheVariants as offload
 use Rattle.app_short.specs.Clamp.{IsAbove}
-use Rattle.ip_wire.specs.Field.{field, with_field, with_range}
+use Rattle.ip_wire.specs.Field.{field, with_field}
 use Rattle.ip_wire.specs.Frame.{ReadsFrame, ReadsPacket, ReadsTransport, all_checked, packet, packet_payload, segment}
-use Rattle.ip_wire.specs.Ip.{dst_addr_of, src_addr_of}
-use Rattle.ip_wire.specs.Ipv4 as ipv4
-use Rattle.ip_wire.specs.Ipv6 as ipv6
+use Rattle.ip_wire.specs.Ip.{dst_addr_of, src_addr_of, version_of}
 use Rattle.ip_wire.specs.TcpRepr.{TcpHeader}
 use Rattle.ip_wire.specs.TcpSegmentSize.{with_max_seg_size}
-use Rattle.ip_wire.specs.Types.{EthernetRepr, IpAddress, IpRepr, Ipv4, Ipv6}
+use Rattle.ip_wire.specs.Types.{EthernetRepr, IpAddress, IpRepr}
 use Rattle.net_base.specs.Checksum.{verifies}
 use Rattle.net_base.specs.declared.Checksum.{Checksum}
 use Rattle.net_base.specs.declared.Checksum.TheVariants as checksum
@@ -38,20 +37,6 @@ CarriesSegment choice frame link header v payload = ReadsFrame (tcp_as choice) f
 abbrev pub with_size : ℕ → TcpHeader → TcpHeader
 with_size size v = record v { max_seg_size = Some size }
 
--- the index where the segment of a packet with this header begins
-abbrev pub segment_start : IpRepr → List ℕ → ℕ
-segment_start (Ipv4 v) bytes = ipv4.header_len bytes
-segment_start (Ipv6 v) bytes = 40
-
--- the index where the segment of a packet with this header ends
-abbrev pub segment_end : IpRepr → List ℕ → ℕ
-segment_end (Ipv4 v) bytes = ipv4.total_len bytes
-segment_end (Ipv6 v) bytes = ipv6.total_len bytes
-
--- the bytes of a packet with this header and another segment
-abbrev pub with_segment : IpRepr → List ℕ → List ℕ → List ℕ
-with_segment header bytes part = with_range bytes (segment_start header bytes) (segment_end header bytes) part
-
 -- the TCP checksum of a segment between two addresses counts as left to the device: as the caller says, or as
 -- `lk_read_frame` says
 abbrev pub is_left_to_device : Offload → IpAddress → IpAddress → List ℕ → Bool
@@ -69,7 +54,7 @@ resized o src dst bytes size =
 -- the bytes of a packet with this header, whose segment has this maximum segment size
 abbrev pub clamped : Offload → IpRepr → List ℕ → ℕ → List ℕ
 clamped o header bytes size =
-    with_segment header bytes (resized o (src_addr_of header) (dst_addr_of header) (packet_payload header bytes) size)
+    with_payload (version_of header) bytes (resized o (src_addr_of header) (dst_addr_of header) (packet_payload header bytes) size)
 
 -- the frame carries a SYN with a larger maximum segment size, whether or not its TCP checksum is valid
 pub record IsTooLarge (frame : List ℕ) (limit : ℕ) : Type 0 where

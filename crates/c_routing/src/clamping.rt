@@ -1,24 +1,21 @@
 //! The MSS clamp: it lowers the maximum segment size of connections over a link with a small MTU.
 
 ghost use Rattle.std.specs.Prelude.{◌≡◌, ◌≤◌, ◌%◌, ◌↔◌, Bool, IfNone, IfSome, IsTrue, List, None, ℕ, if◌then◌else◌, length, false, true};
-ghost use Rattle.c_routing.specs.Clamped.{CarriesSegment, Clamps, ReadsSegment, clamped, is_left_to_device, resized, segment_end, segment_start, with_size};
+ghost use Rattle.c_routing.specs.Clamped.{CarriesSegment, Clamps, ReadsSegment, clamped, is_left_to_device, resized, with_size};
 ghost use Rattle.app_edit.specs.declared.replace.Offload.TheVariants.{Offloaded};
 ghost use Rattle.app_short.specs.Clamp.{IsAbove};
 ghost use Rattle.ip_wire.specs.Field.{field};
-ghost use Rattle.ip_wire.specs.Ip.{ReadsHeader, dst_addr_of, src_addr_of};
+ghost use Rattle.ip_wire.specs.Ip.{dst_addr_of, src_addr_of};
 ghost use Rattle.ip_wire.specs.IpAddress.{address_bytes};
 ghost use Rattle.ip_wire.specs.TcpRepr.{Reads, TcpHeader};
 ghost use Rattle.ip_wire.specs.Types.{EthernetRepr, IpRepr};
 ghost use Rattle.net_base.specs.Checksum.{verifies};
 ghost use Rattle.net_base.specs.declared.Checksum.{Checksum};
 
-use app_edit::Offload;
+use app_edit::{Layout, Offload};
 use app_short::mss_clamp::clamp;
 use c_structs::MAX_LEN;
-use ip_wire::{
-    ETHERNET_HEADER_LEN, Frame, IPV6_HEADER_LEN, IpRepr, Ipv4Packet, Ipv6Packet, TcpPacket,
-    TcpPacketMut, Transport,
-};
+use ip_wire::{ETHERNET_HEADER_LEN, Frame, IpRepr, TcpPacket, TcpPacketMut, Transport};
 use net_base::{Checksum, ChecksumCapabilities};
 
 /// Lowers the maximum segment size of a SYN in a frame to `limit`, and updates the TCP checksum, in place. A checksum that
@@ -68,9 +65,8 @@ fn clamp_packet(header: &IpRepr, packet: &mut [u8], limit: u16, offload: Offload
         → ReadsSegment choice packet.old header.now v payload → ReadsSegment choice packet.new header.now (with_size limit v) payload }
     ensures bytes { packet.new ≡ (if result then clamped offload header.now packet.old limit else packet.old) }
 {
-    let (start, end) = segment_range(header, packet);
-    let (_, rest) = packet.split_at_mut(start);
-    let (segment, _) = rest.split_at_mut(end - start);
+    let layout = Layout::of(header.version(), packet);
+    let segment = &mut packet[layout.start..layout.end];
     clamp_segment(header, segment, limit, offload)
 }
 
@@ -125,26 +121,5 @@ fn is_left_to_device(header: &IpRepr, segment: &[u8], offload: Offload) -> bool
         }
         Offload::Offloaded => true,
         Offload::Complete => false,
-    }
-}
-
-// Where the segment of a packet with this header begins and ends.
-fn segment_range(header: &IpRepr, packet: &[u8]) -> (usize, usize)
-    requires { ReadsHeader packet.now true header.now }
-    ensures start { result.0 ≡ segment_start header.now packet.now }
-    ensures end { result.1 ≡ segment_end header.now packet.now }
-{
-    match header {
-        IpRepr::Ipv4(_) => {
-            let packet = Ipv4Packet::new_unchecked(packet);
-            (
-                usize::from(packet.header_len()),
-                usize::from(packet.total_len()),
-            )
-        }
-        IpRepr::Ipv6(_) => (
-            IPV6_HEADER_LEN,
-            Ipv6Packet::new_unchecked(packet).total_len(),
-        ),
     }
 }

@@ -3,6 +3,7 @@
 #![tactic(auto)]
 
 mod host;
+mod layouts;
 mod nat;
 mod nat_calls;
 mod router;

@@ -1,47 +1,41 @@
-use Rattle.std.proofs.Common.{◌≡◌, ◌-◌, ◌++◌, ◌∙◌, ap, drop, length, rules, slice_range, sym, take}
+use Rattle.std.proofs.Common.{◌≡◌, ◌-◌, ◌∙◌, ap, length, sym}
+use borrow.Rule.Slice.PartMut.{mid_of, put_mid}
 use Rattle.c_routing.proofs.Clampings.{header-read, packet-bytes, packet-clamped, payload-range, range-order}
-use Rattle.c_routing.specs.Clamped.{segment_end, segment_start, with_segment}
-use Rattle.app_nat.proofs.Payloads.{range-split}
+use Rattle.app_edit.proofs.Layouts.{placed}
+use Rattle.app_edit.specs.Layout.{layout_of, with_payload}
+use Rattle.app_edit.specs.declared.layout.Layout.{Layout}
 use Rattle.ip_wire.specs.Frame.{packet_payload}
+use Rattle.ip_wire.specs.Ip.{version_of}
 use Rattle.net_base.specs.declared.Checksum.TheVariants as checksum
 use Rattle.c_routing.proofs.clamping.clamp_packet.Goals as goal
 
+laid : (c : goal.After-slice_known-2-1) → c.of-layout.result ≡ layout_of (version_of c.args.header.now) c.args.packet.now
+laid c = c.of-layout.ensures ∙ ap (λ v. layout_of v c.args.packet.now) c.version.ensures
+
 -- the slice that is clamped is the payload of the packet
-placed : (c : goal.After-slice_known-4-1) → c.split_at_mut-segment.result.0.now ≡ packet_payload c.args.header.now c.args.packet.now
-placed c =
-    let bytes = c.args.packet.now in
-    let header = c.args.header.now in
-    let start : c.segment_range-start.result.0 ≡ segment_start header bytes = c.segment_range-start.ensures.start in
-    let end : c.segment_range-start.result.1 ≡ segment_end header bytes = c.segment_range-start.ensures.end in
-    let range : c.split_at_mut-segment.result.0.now ≡ slice_range bytes (segment_start header bytes) (segment_end header bytes) = search rules in
-    range ∙ sym (payload-range bytes header)
+segment : (c : goal.After-slice_known-2-1) → mid_of c.of-layout.result.start (c.of-layout.result.end - c.of-layout.result.start) c.args.packet.now ≡ packet_payload c.args.header.now c.args.packet.now
+segment c = ap (λ (l : Layout). mid_of l.start (l.end - l.start) c.args.packet.now) (laid c) ∙ sym (payload-range c.args.packet.now c.args.header.now)
 
 -- the packet has it in the place of its payload
-joined : (c : goal.After-slice_known-4-1)
-    → c.split_at_mut-rest.result.0.now ++ (c.clamp_segment.new.segment ++ c.split_at_mut-segment.result.1.now) ≡ with_segment c.args.header.now c.args.packet.now c.clamp_segment.new.segment
+joined : (c : goal.After-slice_known-2-1)
+    → put_mid c.of-layout.result.start (c.of-layout.result.end - c.of-layout.result.start) c.args.packet.now c.clamp_segment.new.segment
+    ≡ with_payload (version_of c.args.header.now) c.args.packet.now c.clamp_segment.new.segment
 joined c =
     let bytes = c.args.packet.now in
     let header = c.args.header.now in
-    let first = segment_start header bytes in
-    let last = segment_end header bytes in
-    let start : c.segment_range-start.result.0 ≡ first = c.segment_range-start.ensures.start in
-    let end : c.segment_range-start.result.1 ≡ last = c.segment_range-start.ensures.end in
-    let front : c.split_at_mut-rest.result.0.now ≡ take first bytes = search rules in
-    let back : c.split_at_mut-segment.result.1.now ≡ drop (last - first) (drop first bytes) = search rules in
-    (λ i. front i ++ (c.clamp_segment.new.segment ++ back i))
-    ∙ range-split bytes c.clamp_segment.new.segment first last (range-order bytes header (header-read checksum.None bytes header c.requires.2.0))
+    placed c.of-layout.result (version_of header) bytes c.clamp_segment.new.segment (laid c) (range-order bytes header (header-read checksum.None bytes header c.requires.2.0))
 
 pub returns-clause-when : goal.returns-clause-when
 returns-clause-when c v payload r =
-    (rw (placed c) at c.clamp_segment.ensures.when) v payload r.1.1
+    (rw (segment c) at c.clamp_segment.ensures.when) v payload r.1.1
 
 pub returns-clause-after : goal.returns-clause-after
 returns-clause-after c choice v payload said above r =
     packet-clamped c.args.offload choice c.args.packet.now c.clamp_segment.new.segment _ c.args.header.now v payload c.args.limit (joined c)
-    (c.clamp_segment.auto.segment ∙ ap length (placed c)) (λ verified told s d q. (rw (placed c) at c.clamp_segment.ensures.lowered) verified v payload told s d q above) said r
+    (c.clamp_segment.auto.segment ∙ ap length (segment c)) (λ verified told s d q. (rw (segment c) at c.clamp_segment.ensures.lowered) verified v payload told s d q above) said r
 
 pub returns-clause-bytes : goal.returns-clause-bytes
 returns-clause-bytes c =
     joined c
     ∙ packet-bytes c.args.offload c.args.header.now c.args.packet.now c.clamp_segment.new.segment c.args.limit c.clamp_segment.result
-    (header-read checksum.None c.args.packet.now c.args.header.now c.requires.2.0) (rw (placed c) at c.clamp_segment.ensures.bytes)
+    (header-read checksum.None c.args.packet.now c.args.header.now c.requires.2.0) (rw (segment c) at c.clamp_segment.ensures.bytes)
