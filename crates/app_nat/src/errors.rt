@@ -3,21 +3,21 @@
 ghost use Rattle.std.specs.Prelude.{◌≡◌, ◌↔◌, ◌+◌, ◌≤◌, IfErr, IfOk, OnErr, OnOk, Some, drop, length};
 ghost use Rattle.app_edit.specs.Sides.{opposite};
 ghost use Rattle.app_nat.specs.Errors.{CarriesError, quoting, ErrorComesIn, ErrorGoesOut, IsErrorKeptInside, IsErrorKeptOutside, IsErrorTranslated, IsRejectedError, Quotes, Reports, end_bit, error_packet, error_with, flow_by, is_error, message_fault, quoted_fault, quoted_of, quoted_with, with_quoted_end};
-ghost use Rattle.app_nat.specs.Nat.{addr_at, port_bit, with_addr};
+ghost use Rattle.app_nat.specs.Nat.{addr_at, with_addr};
 ghost use Rattle.app_nat.specs.declared.errors.Quoted.{Quoted};
-ghost use Rattle.ip_wire.specs.Field.{field, with_field};
+ghost use Rattle.ip_wire.specs.Field.{field};
 ghost use Rattle.ip_wire.specs.Frame.{ReadsPacket, all_checked, ipv4_payload};
 ghost use Rattle.ip_wire.specs.Types.{Ipv4, Ipv4Repr};
 ghost use Rattle.ip_wire.specs.Ipv4.{HasChecksum, header_len, total_len};
 
 use crate::packet::parse_whole;
-use crate::translation::{Rejection, rewrite_tcp, rewrite_udp, set_addr};
+use crate::translation::{Rejection, replace_port, rewrite_tcp, rewrite_udp, set_addr};
 use crate::{Ipv4Endpoint, Mapping, Nat, Protocol, inside_of, port_of};
 use app_edit::{Layout, Side};
 use ip_wire::laws::field::bytes_fit;
 use ip_wire::{
     ETHERNET_HEADER_LEN, IPV4_HEADER_LEN, IpAddress, IpProtocol, IpVersion, Ipv4Address,
-    Ipv4Packet, Ipv4Repr, TcpPacketMut, UdpPacket,
+    Ipv4Packet, Ipv4Repr, UdpPacket,
 };
 use wire_icmp::{ICMP_HEADER_LEN, IcmpPacket, IcmpPacketMut};
 
@@ -284,20 +284,10 @@ fn rewrite_end(
     bytes_fit(bytes);
     match protocol {
         Protocol::Udp => rewrite_udp(bytes, side, old, new, port),
-        Protocol::Tcp if bytes.len() < TCP_CHECKSUM_END => set_port(bytes, side, port),
+        Protocol::Tcp if bytes.len() < TCP_CHECKSUM_END => {
+            replace_port(bytes, side, port);
+        }
         Protocol::Tcp => rewrite_tcp(bytes, side, old, new, port),
         Protocol::Icmp => IcmpPacketMut::new_unchecked(bytes).update_echo_ident(port),
-    }
-}
-
-// Writes the port into a quoted TCP segment without its checksum.
-fn set_port(bytes: &mut [u8], side: Side, port: u16)
-    requires { 8 ≤ length bytes.old }
-    ensures { bytes.new ≡ with_field bytes.old (port_bit side) 16 port }
-{
-    let mut segment = TcpPacketMut::new_unchecked(bytes);
-    match side {
-        Side::Source => segment.set_src_port(port),
-        Side::Destination => segment.set_dst_port(port),
     }
 }

@@ -221,7 +221,7 @@ pub(crate) fn rewrite_tcp(
 
 // Writes a port of UDP or TCP, whose headers begin with the same ports. Returns the port before.
 #[inline(always)]
-fn replace_port(bytes: &mut [u8], side: Side, port: u16) -> u16
+pub(crate) fn replace_port(bytes: &mut [u8], side: Side, port: u16) -> u16
     requires { 4 ≤ length bytes.old }
     ensures before { result ≡ field bytes.old (port_bit side) 16 }
     ensures written { bytes.new ≡ with_field bytes.old (port_bit side) 16 port }
