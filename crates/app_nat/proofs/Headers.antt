@@ -1,10 +1,9 @@
--- An IPv4 header with another payload, and with another address.
+-- An IPv4 header with another address.
 use Rattle.std.proofs.Common.{ℕ, ◌≡◌, ◌↔◌, ◌≤◌, ◌<◌, ◌+◌, ◌-◌, ◌%◌, false, true, List, ◌++◌, length, drop, take, slice_index, slice_range, sum, refl, sym, ap, subst, ◌∙◌, arith, length-append, length-drop}
-use Rattle.std.proofs.lemmas.List.{drop-drop, length-take-le, take-append-drop}
+use Rattle.std.proofs.lemmas.List.{drop-drop, take-append-drop}
 use Rattle.ip_wire.specs.Field.{field, with_range}
 use Rattle.ip_wire.specs.Frame.{ipv4_payload}
-use Rattle.ip_wire.specs.Ipv4.{HasChecksum, Reads, header_len, is_fragment, total_len, with_updated_checksum}
-use Rattle.ip_wire.specs.Protocol.{protocol_of}
+use Rattle.ip_wire.specs.Ipv4.{HasChecksum, Reads, header_len, total_len, with_updated_checksum}
 use Rattle.ip_wire.specs.WordSum.{residue, sum_of_bytes, words}
 use Rattle.ip_wire.specs.declared.Ipv4Repr.{Ipv4Repr}
 use Rattle.ip_wire.proofs.ByteLists.{AreBytes-append, AreBytes-drop, AreBytes-take}
@@ -13,76 +12,11 @@ use Rattle.ip_wire.proofs.Ipv4Changed.{reads-dst_addr, reads-src_addr, reads-sum
 use Rattle.ip_wire.proofs.Residues.{residue-bound, residue-quotient, residue-same}
 use Rattle.ip_wire.proofs.Spelled.{AreBytes}
 use Rattle.wire_icmp.proofs.Parts.{sum-take-positive, sum-take-with_field, sum-take-with_range}
-use Rattle.app_edit.proofs.Payloads.{range-front, range-len, range-past}
+use Rattle.app_edit.proofs.OtherPayloads.{SameShape, front-len}
+use Rattle.app_edit.proofs.Payloads.{range-len}
 use Rattle.app_nat.specs.Nat.{addr_at, with_addr, with_address}
 use Rattle.app_edit.specs.declared.side.Side.{Side}
 use Rattle.app_edit.specs.declared.side.Side.TheVariants.{Source, Destination}
-
--- the fields that locate the payload and name its protocol
-pub record SameShape (old new : List ℕ) : Type 0 where
-  pub version : field new 0 4 ≡ field old 0 4
-  pub header : header_len new ≡ header_len old
-  pub total : total_len new ≡ total_len old
-  pub fragment : is_fragment new ≡ is_fragment old
-  pub protocol : field new 72 8 ≡ field old 72 8
-
--- all fields but the checksum
-pub record SameHeader (old new : List ℕ) : Type 0 where
-  pub shape : SameShape old new
-  pub hop_limit : field new 64 8 ≡ field old 64 8
-  pub src_addr : slice_range new 12 16 ≡ slice_range old 12 16
-  pub dst_addr : slice_range new 16 20 ≡ slice_range old 16 20
-
--- bytes are their first twenty, followed by the others
-pub front-len : (bytes : List ℕ) → 20 ≤ length bytes → length (take 20 bytes) ≡ 20
-front-len bytes room = length-take-le 20 bytes room
-
--- ---- another payload
-
-same_front : (front rest rest' : List ℕ) → length front ≡ 20 → SameHeader (front ++ rest) (front ++ rest')
-same_front front rest rest' e =
-    subst (λ (l : List ℕ). SameHeader (l ++ rest) (l ++ rest')) (sym (cells-all 20 front e))
-    (record { shape = record { version = refl; header = refl; total = refl; fragment = refl; protocol = refl }; hop_limit = refl; src_addr = refl; dst_addr = refl })
-
--- the front and the rest, with a part of the rest replaced
-pub past-front : (bytes part : List ℕ) (h n : ℕ) → 20 ≤ length bytes → 20 ≤ h → 20 ≤ n
-    → with_range bytes h n part ≡ take 20 bytes ++ with_range (drop 20 bytes) (h - 20) (n - 20) part
-past-front bytes part h n room least most =
-    ap (λ (l : List ℕ). with_range l h n part) (sym (take-append-drop 20 bytes)) ∙ range-past (take 20 bytes) (drop 20 bytes) part h n (front-len bytes room) least most
-
--- replacing bytes after the first twenty leaves the header unchanged
-pub same-inner : (bytes part : List ℕ) (h n : ℕ) → 20 ≤ length bytes → 20 ≤ h → 20 ≤ n → SameHeader bytes (with_range bytes h n part)
-same-inner bytes part h n room least most =
-    subst (λ (l : List ℕ). SameHeader bytes l) (sym (past-front bytes part h n room least most))
-    (subst (λ (l : List ℕ). SameHeader l (take 20 bytes ++ with_range (drop 20 bytes) (h - 20) (n - 20) part)) (take-append-drop 20 bytes)
-    (same_front (take 20 bytes) (drop 20 bytes) (with_range (drop 20 bytes) (h - 20) (n - 20) part) (front-len bytes room)))
-
--- a packet with another payload of the same length has the same header
-pub reads-inner : (bytes part : List ℕ) (v : Ipv4Repr) → Reads bytes true v → length part ≡ total_len bytes - header_len bytes
-    → Reads (with_range bytes (header_len bytes) (total_len bytes) part) true v
-reads-inner bytes part v r e =
-    let h = header_len bytes in
-    let n = total_len bytes in
-    let new = with_range bytes h n part in
-    let same = same-inner bytes part h n r.lengths.least r.lengths.header (omega (arith, r.lengths.header, r.lengths.within)) in
-    let long = range-len bytes part h n r.lengths.within r.lengths.whole e in
-    record {
-      lengths = record {
-        least = omega (arith, long, r.lengths.least);
-        header = omega (arith, same.shape.header, r.lengths.header);
-        within = omega (arith, same.shape.header, same.shape.total, r.lengths.within);
-        whole = omega (arith, same.shape.total, long, r.lengths.whole);
-      };
-      version = same.shape.version ∙ r.version;
-      checksum = λ on.
-          ap (λ (k : ℕ). sum_of_bytes (take k new)) same.shape.header
-          ∙ ap sum_of_bytes (range-front bytes part h n (omega (arith, r.lengths.within, r.lengths.whole))) ∙ r.checksum on;
-      payload_len = omega (arith, r.payload_len, same.shape.header, same.shape.total);
-      hop_limit = r.hop_limit ∙ sym same.hop_limit;
-      next_header = r.next_header ∙ ap protocol_of (sym same.shape.protocol);
-      src_addr = r.src_addr ∙ sym same.src_addr;
-      dst_addr = r.dst_addr ∙ sym same.dst_addr;
-    }
 
 -- ---- another address
 

@@ -13,7 +13,7 @@ use Rattle.ip_wire.specs.Ethernet as ethernet
 use Rattle.ip_wire.specs.Frame.{ReadsPacket, all_checked, ipv4_payload}
 use Rattle.ip_wire.proofs.Residues.{residue-complement}
 use Rattle.wire_icmp.proofs.WordLists.{sum-words-cons}
-use Rattle.app_nat.proofs.Translates.{inner-payload, link-stays, payload-len}
+use Rattle.app_edit.proofs.OtherPayloads.{front-len, inner-payload, link-stays, payload-len, reads-inner, same-inner}
 use Rattle.ip_wire.specs.Udp as udp
 use Rattle.ip_wire.specs.Tcp as tcp
 use Rattle.ip_wire.specs.WordSum.{residue, sum_of_bytes, updated, words}
@@ -21,7 +21,7 @@ use Rattle.ip_wire.specs.declared.IpProtocol.TheVariants as protocol
 use Rattle.app_nat.specs.declared.state.Protocol.{Protocol}
 use Rattle.app_nat.specs.declared.state.Protocol.TheVariants as flow
 use Rattle.app_nat.proofs.Ends.{ended, has-both, port-fits, with_both}
-use Rattle.app_nat.proofs.Headers.{addressed, front-len, keeps, reads-inner, same-inner}
+use Rattle.app_nat.proofs.Headers.{addressed, keeps}
 use Rattle.app_edit.proofs.Payloads.{drop-front, range-len}
 use Rattle.app_nat.proofs.TcpEnds.{tcp-ported, tcp-whole}
 use Rattle.app_nat.proofs.UdpEnds.{udp-ported, udp_next, whole}

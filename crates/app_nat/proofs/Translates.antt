@@ -1,6 +1,6 @@
 -- A frame is translated exactly as its packet, and rejected for the same reason.
-use Rattle.std.proofs.Common.{IfErr, ℕ, ◌≡◌, ◌≤◌, ◌-◌, ◌%◌, ◌++◌, ◌↔◌, Bool, true, false, List, inl, inr, Result, Ok, Err, length, drop, take, slice_range, refl, sym, ap, subst, ◌∙◌, arith, length-append, length-drop}
-use Rattle.std.proofs.lemmas.List.{length-take-le, take-append-drop}
+use Rattle.std.proofs.Common.{IfErr, ℕ, ◌≡◌, ◌≤◌, ◌%◌, ◌++◌, ◌↔◌, Bool, true, false, List, inl, inr, Result, Ok, Err, length, drop, take, sym, ap, subst, ◌∙◌, arith}
+use Rattle.std.proofs.lemmas.List.{length-take-le}
 use Rattle.ip_wire.proofs.ByteLists.{AreBytes-drop, AreBytes-slice_range}
 use Rattle.ip_wire.proofs.Spelled.{AreBytes}
 use Rattle.ip_wire.specs.Ethernet as ethernet
@@ -14,11 +14,11 @@ use Rattle.ip_wire.specs.Types.{EthernetRepr, IpAddress, IpProtocol, Ipv4, Ipv4R
 use Rattle.ip_wire.specs.declared.EthernetProtocol.TheVariants as ethertype
 use Rattle.ip_wire.specs.declared.IpAddress.TheVariants as address
 use Rattle.ip_wire.specs.declared.IpProtocol.TheVariants as protocol
-use Rattle.ip_wire.proofs.Cells.{cells-all}
 use Rattle.app_nat.proofs.EchoEnds.{echo-len}
 use Rattle.app_nat.proofs.Echoes.{plain-other}
-use Rattle.app_nat.proofs.Headers.{keeps, reads-inner, same-inner}
-use Rattle.app_edit.proofs.Payloads.{drop-front, range-len, range-part}
+use Rattle.app_edit.proofs.OtherPayloads.{inner-payload, link-stays, payload-len, reads-inner, same-inner}
+use Rattle.app_nat.proofs.Headers.{keeps}
+use Rattle.app_edit.proofs.Payloads.{drop-front, range-len}
 use Rattle.app_nat.proofs.TcpEnds.{tcp-len}
 use Rattle.app_nat.proofs.UdpEnds.{udp-ended}
 use Rattle.app_nat.specs.Nat.{AllowsPort, Carries, CarriesPorts, IsRejected, IsTranslated, IsUntranslated, LacksChecksum, ReadsPorts, RejectsPort, Rewrites, Transport, addr_at, addr_of, translated_packet, with_addr, with_address, with_end, with_port, datagram, segment, request, reply, plain}
@@ -93,22 +93,6 @@ rewrites-tcp v old new side addr port is step (reply ident seq_no payload) a r =
 
 -- ---- the packet
 
--- the length of an IPv4 payload is the total length without the header length
-pub payload-len : (bytes : List ℕ) (v : Ipv4Repr) → ipv4.Reads bytes true v → length (ipv4_payload bytes) ≡ ipv4.total_len bytes - ipv4.header_len bytes
-payload-len bytes v r =
-    length-take-le (ipv4.total_len bytes - ipv4.header_len bytes) (drop (ipv4.header_len bytes) bytes)
-    (omega (arith, length-drop (ipv4.header_len bytes) bytes, r.lengths.within, r.lengths.whole))
-
--- the payload that is written is the new payload
-pub inner-payload : (bytes part : List ℕ) (v : Ipv4Repr) → ipv4.Reads bytes true v → length part ≡ length (ipv4_payload bytes)
-    → ipv4_payload (with_range bytes (ipv4.header_len bytes) (ipv4.total_len bytes) part) ≡ part
-inner-payload bytes part v r e =
-    let h = ipv4.header_len bytes in
-    let n = ipv4.total_len bytes in
-    let same = (same-inner bytes part h n r.lengths.least r.lengths.header (omega (arith, r.lengths.header, r.lengths.within))).shape in
-    (λ i. slice_range (with_range bytes h n part) (same.header i) (same.total i))
-    ∙ range-part bytes part h n (omega (arith, r.lengths.within, r.lengths.whole)) (e ∙ payload-len bytes v r)
-
 -- a packet with a new payload, then with a new address
 pub packet-carries : (bytes part new : List ℕ) (v : Ipv4Repr) (side : Side) (addr : List ℕ) (port : ℕ) (t : Transport) → length addr ≡ 4
     → AllowsPort side t port → CarriesPorts bytes v t → length part ≡ length (ipv4_payload bytes) → Rewrites v (ipv4_payload bytes) part side addr port t
@@ -162,26 +146,6 @@ written side v bytes part new addr port four r e rewrites is at step = record {
 }
 
 -- ---- the frame
-
--- the Ethernet header, followed by the packet
-record SameLink (old new : List ℕ) : Type 0 where
-  dst_addr : slice_range new 0 6 ≡ slice_range old 0 6
-  src_addr : slice_range new 6 12 ≡ slice_range old 6 12
-  ethertype : field new 96 16 ≡ field old 96 16
-
-same_link : (front rest rest' : List ℕ) → length front ≡ 14 → SameLink (front ++ rest) (front ++ rest')
-same_link front rest rest' e = subst (λ (l : List ℕ). SameLink (l ++ rest) (l ++ rest')) (sym (cells-all 14 front e)) (record { dst_addr = refl; src_addr = refl; ethertype = refl })
-
-pub link-stays : (frame rest : List ℕ) (link : EthernetRepr) → ethernet.Reads frame link → ethernet.Reads (take 14 frame ++ rest) link
-link-stays frame rest link r =
-    let front : length (take 14 frame) ≡ 14 = length-take-le 14 frame r.whole in
-    let s = subst (λ (l : List ℕ). SameLink l (take 14 frame ++ rest)) (take-append-drop 14 frame) (same_link (take 14 frame) (drop 14 frame) rest front) in
-    record {
-      whole = omega (arith, length-append (take 14 frame) rest, front);
-      dst_addr = r.dst_addr ∙ sym s.dst_addr;
-      src_addr = r.src_addr ∙ sym s.src_addr;
-      ethertype = r.ethertype ∙ ap ethernet.protocol_of (sym s.ethertype);
-    }
 
 -- what parses as a transport parses without ICMP too
 reads-plain : (v : Ipv4Repr) (bytes : List ℕ) (t : Transport) → ReadsPorts v bytes t → ReadsTransport all_checked (Ipv4 v) bytes (plain t bytes)

@@ -14,11 +14,12 @@ use Rattle.ip_wire.specs.declared.IpProtocol.TheVariants as protocol
 use Rattle.ip_wire.proofs.Cells.{cells, cells-all, cells-drop, word_high, word_low}
 use Rattle.app_nat.proofs.EchoEnds.{echo-back}
 use Rattle.app_nat.proofs.Echoes.{reply-ident, request-ident}
-use Rattle.app_nat.proofs.Headers.{addressed, front-len, keeps, past-front, same-inner}
+use Rattle.app_nat.proofs.Headers.{addressed, keeps}
 use Rattle.app_edit.proofs.Payloads.{drop-front, range-len, range-past, range-same, range-twice}
 use Rattle.app_nat.proofs.Residues.{sum-fits, updated-back}
 use Rattle.app_nat.proofs.TcpEnds.{tcp-back}
-use Rattle.app_nat.proofs.Translates.{addr-read, carried, ended-len, inner-payload, payload-len}
+use Rattle.app_nat.proofs.Translates.{addr-read, carried, ended-len}
+use Rattle.app_edit.proofs.OtherPayloads.{front-len, inner-payload, past-front, payload-len, same-inner}
 use Rattle.app_nat.proofs.UdpEnds.{udp-back}
 use Rattle.app_nat.proofs.Words.{high-spelled, low-spelled, spelled-fits, spelled-word, word}
 use Rattle.app_nat.specs.Nat.{CarriesPorts, HasUsualChecksums, HasUsualSum, IsTranslated, ReadsPorts, Transport, addr_at, addr_of, datagram, port_bit, port_of, reply, request, segment, translated_packet, with_address, with_end}

@@ -3,9 +3,8 @@ use Rattle.std.proofs.Common.{ℕ, ℤ, pos, ◌≡◌, ◌≢◌, ◌≤◌, �
 use Rattle.std.proofs.lemmas.Bool.Decides.{nat_tests}
 use Rattle.std.proofs.lemmas.List.{length-take-le, take-append-drop}
 use Rattle.c_structs.specs.Written.{max_len}
-use Rattle.app_nat.proofs.Headers.{reads-inner, same-inner}
+use Rattle.app_edit.proofs.OtherPayloads.{inner-payload, link-stays, reads-inner, same-inner}
 use Rattle.app_edit.proofs.Payloads.{drop-front, range-len, range-part, range-same}
-use Rattle.app_nat.proofs.Translates.{inner-payload, link-stays}
 use Rattle.app_edit.specs.Layout.{payload_end, payload_start, with_payload}
 use Rattle.app_edit.specs.declared.replace.Offload.{Offload}
 use Rattle.app_edit.specs.declared.replace.Offload.TheVariants as offload
