@@ -32,8 +32,7 @@ read_in _ = diagram
 
 -- the number that a getter returns
 abbrev pub got : IcmpGetting → List ℕ → ℕ
-got get.EchoIdent = nth_field echo_diagram (read_of get.EchoIdent)
-got getting = nth_field diagram (read_of getting)
+got getting = nth_field (read_in getting) (read_of getting)
 
 -- the index of the field that a setter writes, and its argument
 abbrev pub write_of : IcmpSetting → ℕ × ℕ
@@ -50,8 +49,7 @@ write_in _ = diagram
 
 -- the bytes after a call of a setter
 abbrev pub after : IcmpSetting → List ℕ → List ℕ
-after (set.EchoIdent x) = with_nth echo_diagram 3 x
-after setting = let write = write_of setting in with_nth diagram write.0 write.1
+after setting = let write = write_of setting in with_nth (write_in setting) write.0 write.1
 
 -- the bytes after the checksum was computed, over all bytes, with 0 in the checksum field
 abbrev pub after_fill : IpAddress → IpAddress → List ℕ → List ℕ
