@@ -57,6 +57,26 @@ HasHeader bytes = 8 ≤ length bytes
 abbrev pub has_header : List ℕ → Bool
 has_header bytes = nat_le 8 (length bytes)
 
+-- the type field of a message
+abbrev pub msg_type_of : List ℕ → ℕ
+msg_type_of bytes = field bytes 0 8
+
+-- the code field of a message
+abbrev pub msg_code_of : List ℕ → ℕ
+msg_code_of bytes = field bytes 8 8
+
+-- the checksum field of a message
+abbrev pub checksum_of : List ℕ → ℕ
+checksum_of bytes = field bytes 16 16
+
+-- the second word of the header of a message
+abbrev pub second_word_of : List ℕ → ℕ
+second_word_of bytes = field bytes 32 32
+
+-- the identifier of an echo, the first 16 bits of the second word
+abbrev pub echo_ident_of : List ℕ → ℕ
+echo_ident_of bytes = field bytes 32 16
+
 -- the payload, all bytes after the header: the data of an echo, or the packet that an error quotes
 abbrev pub payload_of : List ℕ → List ℕ
 payload_of bytes = drop 8 bytes
@@ -98,7 +118,7 @@ not_zero checksum = if checksum == 0 then 65535 else checksum
 
 -- the bytes with the checksum updated, after words that it covers changed from the sum old to the sum new
 abbrev pub with_updated_checksum : List ℕ → ℕ → ℕ → List ℕ
-with_updated_checksum bytes old new = with_field bytes 16 16 (not_zero (updated (field bytes 16 16) old new))
+with_updated_checksum bytes old new = with_field bytes 16 16 (not_zero (updated (checksum_of bytes) old new))
 
 -- ---- types, codes, and the second word of a header
 
@@ -216,7 +236,7 @@ is_query version.Ipv6 type = nat_le 128 type && not (type == 137)
 pub record Reads (bytes : List ℕ) (src dst : IpAddress) (verified : Bool) (v : IcmpRepr) (payload : List ℕ) : Type 0 where
   pub least : HasHeader bytes
   pub checksum : IsTrue verified → Verifies src dst bytes
-  pub message : message_of (version_of src) (field bytes 0 8) (field bytes 8 8) (field bytes 32 32) ≡ Some v
+  pub message : message_of (version_of src) (msg_type_of bytes) (msg_code_of bytes) (second_word_of bytes) ≡ Some v
   pub body : payload ≡ payload_of bytes
 
 -- whether the checksum is correct
@@ -227,7 +247,7 @@ verifies src dst bytes = message_sum src dst bytes == 65535
 unfoldable pub icmp_of : IpAddress → IpAddress → Bool → List ℕ → Option IcmpRepr
 icmp_of src dst verified bytes =
     if has_header bytes && (not verified || verifies src dst bytes)
-    then message_of (version_of src) (field bytes 0 8) (field bytes 8 8) (field bytes 32 32) else None
+    then message_of (version_of src) (msg_type_of bytes) (msg_code_of bytes) (second_word_of bytes) else None
 
 -- the header of a message with this checksum
 abbrev pub header_bytes : IcmpHeader → ℕ → List ℕ

@@ -1,8 +1,7 @@
 -- The printed texts of ICMP messages.
 -- Pinned by: `wire/icmp`
 use Rattle.std.specs.Prelude.{ℕ, ◌++◌, if◌then◌else◌, List, codes, decimal, length}
-use Rattle.wire_field.specs.Field.{field}
-use Rattle.wire_icmp.specs.Icmp.{has_header, payload_of}
+use Rattle.wire_icmp.specs.Icmp.{has_header, msg_code_of, msg_type_of, payload_of}
 use Rattle.wire_icmp.specs.declared.icmp.repr.IcmpRepr.{IcmpRepr}
 use Rattle.wire_icmp.specs.declared.icmp.repr.IcmpRepr.TheVariants.{EchoRequest, EchoReply, DstUnreachable, PktTooBig, TimeExceeded, ParamProblem}
 use Rattle.wire_icmp.specs.declared.icmp.reason.Unreachable.{Unreachable}
@@ -14,7 +13,7 @@ use Rattle.wire_icmp.specs.declared.icmp.reason.Exceeded.TheVariants as exceeded
 abbrev pub packet_text : List ℕ → List ℕ
 packet_text bytes =
     if has_header bytes
-    then codes "ICMP type=" ++ decimal (field bytes 0 8) ++ codes " code=" ++ decimal (field bytes 8 8) ++ codes " len=" ++ decimal (length (payload_of bytes))
+    then codes "ICMP type=" ++ decimal (msg_type_of bytes) ++ codes " code=" ++ decimal (msg_code_of bytes) ++ codes " len=" ++ decimal (length (payload_of bytes))
     else codes "ICMP (wire::Error)"
 
 -- the printed text of the reason of "destination unreachable"

@@ -9,7 +9,7 @@ use Rattle.wire_addr.specs.declared.ethernet_address.EthernetAddress.{EthernetAd
 use Rattle.wire_ends.specs.declared.ip_address.IpAddress.{IpAddress}
 use Rattle.wire_ends.specs.declared.ip_address.IpAddress.TheVariants as address
 use Rattle.wire_field.specs.Field.{field}
-use Rattle.wire_icmp.specs.Icmp.{Verifies, emitted, verifies}
+use Rattle.wire_icmp.specs.Icmp.{Verifies, emitted, msg_code_of, msg_type_of, verifies}
 use Rattle.wire_icmp.specs.declared.icmp.header.IcmpHeader.{IcmpHeader}
 use Rattle.wire_icmp.specs.NdOption.{HasLladdr, lladdr_of}
 use Rattle.wire_icmp.specs.declared.ndisc.repr.NdiscNeighborFlags.{NdiscNeighborFlags}
@@ -65,8 +65,8 @@ pub record Reads (bytes src dst : List ℕ) (hop_limit : ℕ) (verified : Bool) 
   pub least : 24 ≤ length bytes
   pub hops : hop_limit ≡ 255
   pub checksum : IsTrue verified → Verifies (address.Ipv6 src) (address.Ipv6 dst) bytes
-  pub type : field bytes 0 8 ≡ type_of v
-  pub code : field bytes 8 8 ≡ 0
+  pub type : msg_type_of bytes ≡ type_of v
+  pub code : msg_code_of bytes ≡ 0
   pub flags : HasFlags bytes v
   pub target : target_of v ≡ slice_range bytes 8 24
   pub lladdr : HasLladdr (drop 24 bytes) (option_type v) (address_in v)
@@ -93,14 +93,14 @@ is_allowed (NeighborAdvert flags target lladdr) src dst =
 -- whether length, hop limit, code and checksum are valid
 abbrev pub is_sound : IpAddress → IpAddress → ℕ → Bool → List ℕ → Bool
 is_sound src dst hop_limit verified bytes =
-    nat_le 24 (length bytes) && hop_limit == 255 && field bytes 8 8 == 0 && (not verified || verifies src dst bytes)
+    nat_le 24 (length bytes) && hop_limit == 255 && msg_code_of bytes == 0 && (not verified || verifies src dst bytes)
 
 -- the value of a solicitation or an advertisement, by its type, if its options are valid
 abbrev pub value_of : List ℕ → Option NdiscRepr
 value_of bytes =
     let target = slice_range bytes 8 24 in
-    if field bytes 0 8 == 135 then option_map (λ lladdr. NeighborSolicit target lladdr) (lladdr_of 1 (drop 24 bytes))
-    else (if field bytes 0 8 == 136 then option_map (λ lladdr. NeighborAdvert (flags_of bytes) target lladdr) (lladdr_of 2 (drop 24 bytes)) else None)
+    if msg_type_of bytes == 135 then option_map (λ lladdr. NeighborSolicit target lladdr) (lladdr_of 1 (drop 24 bytes))
+    else (if msg_type_of bytes == 136 then option_map (λ lladdr. NeighborAdvert (flags_of bytes) target lladdr) (lladdr_of 2 (drop 24 bytes)) else None)
 
 -- the value that the bytes parse as, if there is one
 unfoldable pub ndisc_of : List ℕ → List ℕ → ℕ → Bool → List ℕ → Option NdiscRepr

@@ -2,8 +2,7 @@
 
 ghost use Rattle.std.specs.Prelude.{◌≡◌, ◌↔◌, ◌≤◌, IfOk, IsOk, IsTrue, Some, length};
 ghost use Rattle.wire_ends.specs.IpAddress.{version_of};
-ghost use Rattle.wire_field.specs.Field.{field};
-ghost use Rattle.wire_icmp.specs.Icmp.{HasHeader, Verifies, is_query, packet_bytes, packet_slice, payload_of, verifies};
+ghost use Rattle.wire_icmp.specs.Icmp.{HasHeader, Verifies, checksum_of, echo_ident_of, is_query, msg_code_of, msg_type_of, packet_bytes, packet_slice, payload_of, second_word_of, verifies};
 ghost use Rattle.wire_icmp.specs.IcmpText.{packet_text};
 
 use super::{ICMP_HEADER_LEN, message_sum};
@@ -67,7 +66,7 @@ impl<B: Octets> IcmpView<B> {
     /// The type. Its meaning depends on the version.
     pub fn msg_type(&self) -> u8
         requires { 1 ≤ length (B.octets (packet_slice self.now)) }
-        ensures { result ≡ field (B.octets (packet_slice self.now)) 0 8 }
+        ensures { result ≡ msg_type_of (B.octets (packet_slice self.now)) }
     {
         self.as_bytes()[0]
     }
@@ -75,7 +74,7 @@ impl<B: Octets> IcmpView<B> {
     /// The code. Its meaning depends on the type.
     pub fn msg_code(&self) -> u8
         requires { 2 ≤ length (B.octets (packet_slice self.now)) }
-        ensures { result ≡ field (B.octets (packet_slice self.now)) 8 8 }
+        ensures { result ≡ msg_code_of (B.octets (packet_slice self.now)) }
     {
         self.as_bytes()[1]
     }
@@ -83,7 +82,7 @@ impl<B: Octets> IcmpView<B> {
     /// The checksum field.
     pub fn checksum(&self) -> u16
         requires { 4 ≤ length (B.octets (packet_slice self.now)) }
-        ensures { result ≡ field (B.octets (packet_slice self.now)) 16 16 }
+        ensures { result ≡ checksum_of (B.octets (packet_slice self.now)) }
     {
         NetworkEndian::read_u16(&self.as_bytes()[2..4])
     }
@@ -91,7 +90,7 @@ impl<B: Octets> IcmpView<B> {
     /// The second word of the header, such as the identifier and the sequence number of an echo.
     pub fn word(&self) -> u32
         requires { 8 ≤ length (B.octets (packet_slice self.now)) }
-        ensures { result ≡ field (B.octets (packet_slice self.now)) 32 32 }
+        ensures { result ≡ second_word_of (B.octets (packet_slice self.now)) }
     {
         NetworkEndian::read_u32(&self.as_bytes()[4..8])
     }
@@ -99,7 +98,7 @@ impl<B: Octets> IcmpView<B> {
     /// The identifier of an echo: the first 16 bits of the second word.
     pub fn echo_ident(&self) -> u16
         requires { 6 ≤ length (B.octets (packet_slice self.now)) }
-        ensures { result ≡ field (B.octets (packet_slice self.now)) 32 16 }
+        ensures { result ≡ echo_ident_of (B.octets (packet_slice self.now)) }
     {
         NetworkEndian::read_u16(&self.as_bytes()[4..6])
     }
@@ -108,7 +107,7 @@ impl<B: Octets> IcmpView<B> {
     /// the message may be sent (RFC 1122, section 3.2.2; RFC 4443, section 2.4 e).
     pub fn is_query(&self, version: IpVersion) -> bool
         requires { 1 ≤ length (B.octets (packet_slice self.now)) }
-        ensures { result ≡ is_query version (field (B.octets (packet_slice self.now)) 0 8) }
+        ensures { result ≡ is_query version (msg_type_of (B.octets (packet_slice self.now))) }
     {
         let msg_type = self.msg_type();
         match version {

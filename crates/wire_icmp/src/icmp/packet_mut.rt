@@ -3,9 +3,9 @@
 ghost use Rattle.std.specs.Prelude.{◌≡◌, ◌↔◌, ◌≤◌, ◌+◌, IfOk, IsOk, length};
 ghost use Rattle.std.specs.Borrow.{sem};
 ghost use Rattle.wire_ends.specs.IpAddress.{version_of};
-ghost use Rattle.wire_field.specs.Field.{field, with_field, with_range};
+ghost use Rattle.wire_field.specs.Field.{with_field, with_range};
 ghost use Rattle.wire_field.specs.Borrow.{Checks, Holds, Locates, StaysIfErr};
-ghost use Rattle.wire_icmp.specs.Icmp.{Becomes, HasHeader, packet_bytes_mut, packet_slice, payload_of, with_checksum, with_updated_checksum};
+ghost use Rattle.wire_icmp.specs.Icmp.{Becomes, HasHeader, echo_ident_of, packet_bytes_mut, packet_slice, payload_of, with_checksum, with_updated_checksum};
 ghost use Rattle.wire_icmp.specs.IcmpBorrow.{BorrowsPayload};
 
 use super::packet::IcmpView;
@@ -119,7 +119,7 @@ impl<'a> IcmpPacketMut<'a> {
     pub fn update_echo_ident(&mut self, value: u16)
         requires { 6 ≤ length (packet_bytes_mut self.old) }
         ensures { let bytes = packet_bytes_mut self.old in
-            Becomes self.old self.new (with_updated_checksum (with_field bytes 32 16 value) (field bytes 32 16) value) }
+            Becomes self.old self.new (with_updated_checksum (with_field bytes 32 16 value) (echo_ident_of bytes) value) }
     {
         let old = self.echo_ident();
         self.set_echo_ident(value);
