@@ -31,15 +31,6 @@ fn emit_reads_back_name(value: EthernetRepr, rest: &[u8])
     laws::emit_reads_back_ethernet(value, rest);
 }
 
-/// Bytes of any length have one header.
-fn reads_once(bytes: &[u8], value: EthernetRepr, other: EthernetRepr)
-    requires value { Reads bytes.now value }
-    requires other { Reads bytes.now other }
-    ensures { value ≡ other }
-{
-    laws::reads_once_ethernet(bytes, value, other);
-}
-
 /// The header that bytes have is computed.
 fn reading_is_computed(bytes: &[u8], value: EthernetRepr)
     requires { Reads bytes.now value }
@@ -57,13 +48,6 @@ fn reading_is_computed_only(bytes: &[u8], value: EthernetRepr)
     ensures arp { value.ethertype ≡ Arp → field bytes.now 96 16 ≡ 0x0806 }
 {
     laws::reading_is_computed_ethernet(bytes, value);
-}
-
-/// The normal form is reached in one step.
-fn normal_twice(bytes: &[u8], value: EthernetRepr)
-    ensures { normal (normal value) ≡ normal value }
-{
-    laws::normal_twice_ethernet(bytes, value);
 }
 
 /// A parsed header is its normal form wherever it is used, and has no number of ARP without its name.

@@ -70,15 +70,6 @@ fn emit_reads_back_name(
     laws::emit_reads_back_arp(value, rest);
 }
 
-/// Bytes of any length have one packet.
-fn reads_once(bytes: &[u8], value: ArpRepr, other: ArpRepr)
-    requires value { Reads bytes.now value }
-    requires other { Reads bytes.now other }
-    ensures { value ≡ other }
-{
-    laws::reads_once_arp(bytes, value, other);
-}
-
 /// The packet that bytes have is computed.
 fn reading_is_computed(bytes: &[u8], value: ArpRepr)
     requires { Reads bytes.now value }

@@ -71,14 +71,6 @@ fn normal_twice_of_two(bytes: &[u8], verified: bool, a: IpRepr, b: IpRepr)
     laws::normal_twice_ip(bytes, verified, b);
 }
 
-/// The header that is emitted and the payload fit into the parsed bytes.
-fn no_more_bytes(bytes: &[u8], verified: bool, computed: bool, value: IpRepr)
-    requires { (any : Bool) → Reads bytes.now any value }
-    ensures { length (bytes_of value computed) + payload_len_of value ≤ length bytes.now }
-{
-    laws::no_more_bytes_ip(bytes, verified, computed, value);
-}
-
 /// What follows the emitted header begins at the length of the header.
 fn header_length(values: &[IpRepr], computed: bool, rest: &[u8])
     requires { length values.now ≡ 1 }

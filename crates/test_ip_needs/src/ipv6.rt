@@ -33,14 +33,6 @@ fn emit_reads_back_as_tcp(value: Ipv6Repr, payload: &[u8])
     laws::emit_reads_back_ipv6(value, payload);
 }
 
-/// Bytes parse as one value.
-fn reads_once(bytes: &[u8], value: Ipv6Repr, other: Ipv6Repr)
-    requires { (v : Ipv6Repr) → ((whole : List ℕ) → Reads whole value → Reads whole other → Reads whole v) → Reads bytes.now v }
-    ensures { value ≡ other }
-{
-    laws::reads_once_ipv6(bytes, value, other);
-}
-
 /// A header whose bytes are counted, with a payload of one byte and a byte after it.
 fn reading_is_computed(bytes: &[u8])
     requires { bytes.now ≡ 0x6a ∷ 0xbc ∷ 0xde ∷ 0xf0 ∷ 0 ∷ 1 ∷ 17 ∷ 8 ∷ 9 ∷ 10 ∷ 11 ∷ 12 ∷ 13 ∷ 14 ∷ 15 ∷ 16 ∷ 17 ∷ 18 ∷ 19 ∷ 20 ∷ 21 ∷ 22 ∷ 23 ∷ 24 ∷ 25 ∷ 26 ∷ 27 ∷ 28 ∷ 29 ∷ 30 ∷ 31 ∷ 32 ∷ 33 ∷ 34 ∷ 35 ∷ 36 ∷ 37 ∷ 38 ∷ 39 ∷ 40 ∷ 41 ∷ 42 ∷ [] }

@@ -2,7 +2,7 @@
 
 ghost use Rattle.std.specs.Prelude.{◌≡◌, ◌≤◌, ◌∷◌, [], IsTrue, Some, drop, false, length, take, true};
 ghost use Rattle.wire_ends.specs.IpAddress.{version_of};
-ghost use Rattle.wire_icmp.specs.Icmp.{IsExact, IsNormal, Reads, bytes_of, icmp_of, message_sum, packet_bytes, packet_bytes_mut, with_checksum};
+ghost use Rattle.wire_icmp.specs.Icmp.{IsExact, Reads, bytes_of, icmp_of, message_sum, packet_bytes, packet_bytes_mut, with_checksum};
 
 use wire_addr::{Ipv4Address, Ipv6Address};
 use wire_ends::{IpAddress, IpVersion};
@@ -50,14 +50,6 @@ fn normal_is_exact(code: u8) -> [IcmpRepr; 5]
     ]
 }
 
-/// The header can express each normal form, which is its own normal form.
-fn normal_is_exact_in_both_versions(version: IpVersion, value: IcmpRepr) -> IcmpRepr
-    ensures exact { IsExact version result }
-    ensures twice { IsNormal version result result }
-{
-    laws::normal_is_exact_icmp(version, value)
-}
-
 /// A value that the header can express is its own normal form.
 fn normal_is_exact_and_same(version: IpVersion, value: IcmpRepr) -> IcmpRepr
     requires { IsExact version value }
@@ -81,34 +73,6 @@ fn read_is_exact(
 {
     laws::read_is_exact_icmp(bytes, src_addr, dst_addr, verified, value, payload);
     value.normal(src_addr.version())
-}
-
-/// Bytes parse as one message.
-fn reads_once(
-    bytes: &[u8],
-    src_addr: IpAddress,
-    dst_addr: IpAddress,
-    verified: bool,
-    value: IcmpRepr,
-    payload: &[u8],
-    other: IcmpRepr,
-    other_payload: &[u8],
-)
-    requires value { Reads bytes.now src_addr dst_addr verified value payload.now }
-    requires other { Reads bytes.now src_addr dst_addr verified other other_payload.now }
-    ensures value { value ≡ other }
-    ensures payload { payload.now ≡ other_payload.now }
-{
-    laws::reads_once_icmp(
-        bytes,
-        src_addr,
-        dst_addr,
-        verified,
-        value,
-        payload,
-        other,
-        other_payload,
-    );
 }
 
 /// Computed values are those of messages of 8 bytes or more, whose checksum is correct if it is verified.
@@ -140,24 +104,6 @@ fn reading_is_computed_of_messages(
     ensures { icmp_of src_addr dst_addr verified bytes.now ≡ Some value }
 {
     laws::reading_is_computed_icmp(bytes, src_addr, dst_addr, verified, value);
-}
-
-/// A parsed message is emitted again in as many bytes, with or without a checksum.
-fn no_more_bytes(
-    bytes: &[u8],
-    src_addr: IpAddress,
-    dst_addr: IpAddress,
-    verified: bool,
-    computed: bool,
-    value: IcmpRepr,
-    payload: &[u8],
-)
-    requires { Reads bytes.now src_addr dst_addr verified value payload.now }
-    ensures { length (bytes_of value payload.now src_addr dst_addr computed) ≡ length bytes.now }
-{
-    laws::no_more_bytes_icmp(
-        bytes, src_addr, dst_addr, verified, computed, value, payload,
-    );
 }
 
 /// The first 4 bytes of a header have the checksum.

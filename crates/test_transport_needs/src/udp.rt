@@ -47,35 +47,6 @@ fn emit_without_checksum_reads_back(
     laws::emit_reads_back_udp(value, src_addr, dst_addr, payload, rest, false, false);
 }
 
-/// Bytes parse as one value with one payload, whether the checksum is verified or not.
-fn reads_once(
-    bytes: &[u8],
-    src_addr: IpAddress,
-    dst_addr: IpAddress,
-    verified: bool,
-    value: UdpRepr,
-    payload: &[u8],
-    other: UdpRepr,
-    other_payload: &[u8],
-)
-    requires { (v : UdpRepr) (body : List ℕ)
-        → ((whole : List ℕ) → Reads whole src_addr dst_addr verified value payload.now → Reads whole src_addr dst_addr verified other other_payload.now → Reads whole src_addr dst_addr verified v body)
-        → Reads bytes.now src_addr dst_addr verified v body }
-    ensures value { value ≡ other }
-    ensures payload { payload.now ≡ other_payload.now }
-{
-    laws::reads_once_udp(
-        bytes,
-        src_addr,
-        dst_addr,
-        verified,
-        value,
-        payload,
-        other,
-        other_payload,
-    );
-}
-
 /// A packet of 9 bytes from port 53 to port 99, with one byte after it.
 fn reading_is_computed(bytes: &[u8], src_addr: IpAddress, dst_addr: IpAddress)
     requires { bytes.now ≡ 0 ∷ 53 ∷ 0 ∷ 99 ∷ 0 ∷ 9 ∷ 1 ∷ 2 ∷ 7 ∷ 255 ∷ [] }
@@ -100,24 +71,6 @@ fn computed_reading(
     ensures { Reads bytes.now src_addr dst_addr verified value (payload_of bytes.now) }
 {
     laws::reading_is_computed_udp(bytes, src_addr, dst_addr, verified, value);
-}
-
-/// Emitted again, with or without a checksum, a packet is no longer than the bytes that it was parsed from.
-fn no_more_bytes(
-    bytes: &[u8],
-    src_addr: IpAddress,
-    dst_addr: IpAddress,
-    verified: bool,
-    computed: bool,
-    value: UdpRepr,
-    payload: &[u8],
-)
-    requires { (checked : Bool) → (IsTrue checked → IsTrue verified) → Reads bytes.now src_addr dst_addr checked value payload.now }
-    ensures { length (bytes_of value payload.now src_addr dst_addr computed) ≤ length bytes.now }
-{
-    laws::no_more_bytes_udp(
-        bytes, src_addr, dst_addr, verified, computed, value, payload,
-    );
 }
 
 /// A parsed payload has at most 65,527 bytes.

@@ -3,7 +3,7 @@
 
 ghost use Rattle.std.specs.Prelude.{◌≡◌, ◌≢◌, ◌≤◌, ◌+◌, ◌++◌, [], IsTrue, length};
 ghost use Rattle.ip_wire.specs.Frame.{ReadsFrame, all_checked, datagram, message, other, packet, rebuilt, segment};
-ghost use Rattle.ip_wire.specs.FrameValue.{Agrees, AgreesCarried, Composes, Computes, Finds, Fits, FitsCarried, ReadsNormalOf, carried_bytes, frame_bytes, normal_carried_of};
+ghost use Rattle.ip_wire.specs.FrameValue.{Finds, ReadsNormalOf, frame_bytes, normal_carried_of};
 ghost use Rattle.ip_wire.specs.Types.{Ipv4, Ipv6};
 ghost use Rattle.net_base.specs.Checksum.{computes, verifies};
 ghost use Rattle.wire_arp.specs.Arp as arp;
@@ -15,7 +15,7 @@ ghost use Rattle.wire_ipv6.specs.Ipv6 as ipv6;
 ghost use Rattle.wire_tcp.specs.TcpRepr as tcp;
 ghost use Rattle.wire_udp.specs.Udp as udp;
 
-use ip_wire::{Carried, Frame, Transport, laws};
+use ip_wire::{Frame, laws};
 use net_base::ChecksumCapabilities;
 use wire_arp::ArpRepr;
 use wire_ethernet::EthernetRepr;
@@ -199,37 +199,6 @@ fn frame_composes_other_ipv6(
         sent,
         received,
     );
-}
-
-/// The contents of a frame, whatever they are.
-fn frame_composes(
-    header: EthernetRepr,
-    carried: &Carried<'_>,
-    padding: &[u8],
-    sent: ChecksumCapabilities,
-    received: ChecksumCapabilities,
-)
-    requires agrees { AgreesCarried header.ethertype carried.now }
-    requires fits { FitsCarried carried.now }
-    requires checksums { Computes sent received carried.now }
-    ensures { Composes received (ethernet.bytes_of header ++ carried_bytes sent carried.now ++ padding.now) header carried.now }
-{
-    laws::frame_composes(header, carried, padding, sent, received);
-}
-
-/// A frame, whatever it carries.
-fn frame_reads_back(
-    frame: &Frame<'_>,
-    padding: &[u8],
-    sent: ChecksumCapabilities,
-    received: ChecksumCapabilities,
-)
-    requires agrees { Agrees frame.now }
-    requires fits { Fits frame.now }
-    requires checksums { Computes sent received frame.now.carried }
-    ensures { ReadsNormalOf received (frame_bytes sent frame.now ++ padding.now) frame.now }
-{
-    laws::frame_reads_back(frame, padding, sent, received);
 }
 
 /// Two frames that the same bytes parse as.

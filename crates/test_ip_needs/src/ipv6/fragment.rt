@@ -28,14 +28,6 @@ fn emit_cuts_offset(bytes: &[u8], value: &Ipv6FragmentRepr, rest: &[u8])
     laws::reading_is_computed_ipv6_fragment(bytes, cut);
 }
 
-/// Bytes parse as one value.
-fn reads_once(bytes: &[u8], value: Ipv6FragmentRepr, other: Ipv6FragmentRepr)
-    requires { (v : Ipv6FragmentRepr) → ((whole : List ℕ) → Reads whole value → Reads whole other → Reads whole v) → Reads bytes.now v }
-    ensures { value ≡ other }
-{
-    laws::reads_once_ipv6_fragment(bytes, value, other);
-}
-
 /// A header whose bytes are counted, with a byte after it. Its reserved bits are set.
 fn reading_is_computed(bytes: &[u8])
     requires { bytes.now ≡ 0xab ∷ 0xcf ∷ 1 ∷ 2 ∷ 3 ∷ 4 ∷ 5 ∷ [] }
