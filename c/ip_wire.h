@@ -325,7 +325,7 @@ struct lk_frame {
     uint8_t is_fragment;        /* 1: a part of an IP packet, so its payload is not parsed */
     uint8_t ipv4_checksum;      /* an `lk_verdict` */
     uint8_t transport_checksum; /* an `lk_verdict` */
-    uint8_t unused[5];          /* not stored */
+    uint8_t unused[5];          /* 0 */
     struct lk_icmp icmp;
 };
 

@@ -32,8 +32,6 @@ OF_LIBRARY = ("app_link", "app_router", "app_nat", "c_structs", "c_icmp", "c_rou
 STRUCTS = {"Node": "struct lk_route_node", "Mapping": "struct lk_mapping", "Nat": "struct lk_nat"}
 # Enums that are used without C too, and whose doc lines do not name them as C does.
 ENUMS = {"Side": "lk_side", "Offload": "lk_offload"}
-# The fields of this struct are fields of the one around it in C, and then come the bytes that align it.
-INNER = {"FrameFields": 5}
 # The flags of a TCP header, from bit 0 on (RFC 9293, section 3.1).
 TCP_FLAGS = ("FIN", "SYN", "RST", "PSH", "ACK", "URG", "ECE", "CWR")
 
@@ -104,16 +102,8 @@ class Library:
     def structs(self):
         for item in self.items:
             if item.kind == "struct" and "repr(C)" in item.attributes:
-                if item.name not in INNER:
-                    yield re.sub("^struct ", "", self.name(item.name)), self.struct_fields(item)
-
-    def struct_fields(self, item):
-        return [field for member in item.members for field in self.fields(member.text)]
-
-    def inner(self, name):
-        """The fields of a struct within another one, and the bytes after them."""
-        item = next(item for item in self.items if item.kind == "struct" and item.name == name)
-        return [*self.struct_fields(item), ("uint8_t", "unused", str(INNER[name]))]
+                fields = [field for member in item.members for field in self.fields(member.text)]
+                yield re.sub("^struct ", "", self.name(item.name)), fields
 
     def enums(self):
         yield "lk_tcp_flag", {"LK_" + flag: 1 << bit for bit, flag in enumerate(TCP_FLAGS)}
@@ -137,9 +127,7 @@ class Library:
         declared = re.fullmatch(r"(?:pub )?(\w+): (?:\[(\w+); (\w+)\]|&'\w+ \[(\w+)\]|(\w+))", member)
         if declared:
             name, array, length, slice_of, plain = declared.groups("")
-            if plain in INNER:
-                yield from self.inner(plain)
-            elif slice_of:
+            if slice_of:
                 yield "const " + self.name(slice_of) + " *", name, ""
                 yield "size_t", re.sub("s$", "", name) + "_count", ""
             else:

@@ -5,107 +5,106 @@ ghost use Rattle.c_structs.specs.Failures.{arp_failure, tcp_frame_failure, udp_f
 ghost use Rattle.c_structs.specs.Frames.{arp_frame, reply_to, tcp_frame, tcp_frame_around, udp_frame, udp_frame_around};
 ghost use Rattle.c_structs.specs.Written.{Writes};
 
-use c_icmp::FullFrame;
-use c_structs::{MAX_LEN, TcpOptions, arp_failure, failed};
+use c_structs::{FrameFields, MAX_LEN, TcpOptions, arp_failure, failed};
 
 /// Turns a frame that was read into its reply.
 #[unsafe(no_mangle)]
-pub extern "C" fn lk_reply(frame: &mut FullFrame)
-    ensures { frame.new ≡ record frame.old { fields = reply_to frame.old.fields } }
+pub extern "C" fn lk_reply(frame: &mut FrameFields)
+    ensures { frame.new ≡ reply_to frame.old }
 {
-    frame.fields.turn();
+    frame.turn();
 }
 
 /// Writes a whole frame with a UDP packet and this payload.
 #[unsafe(no_mangle)]
-pub extern "C" fn lk_emit_udp_frame(headers: &FullFrame, payload: &[u8], out: &mut [u8]) -> isize
-    ensures { Writes (udp_frame headers.now.fields payload.now) (udp_frame_failure headers.now.fields (length payload.now)) out.old out.new result }
+pub extern "C" fn lk_emit_udp_frame(headers: &FrameFields, payload: &[u8], out: &mut [u8]) -> isize
+    ensures { Writes (udp_frame headers.now payload.now) (udp_frame_failure headers.now (length payload.now)) out.old out.new result }
 {
     let len = if out.len() <= MAX_LEN {
-        headers.fields.emit_udp(payload, out)
+        headers.emit_udp(payload, out)
     } else {
         None
     };
     match len {
         Some(len) => len as isize,
-        None => failed(headers.fields.udp_failure(payload.len())),
+        None => failed(headers.udp_failure(payload.len())),
     }
 }
 
 /// Writes a whole frame with a TCP segment and this payload.
 #[unsafe(no_mangle)]
 pub extern "C" fn lk_emit_tcp_frame(
-    headers: &FullFrame,
+    headers: &FrameFields,
     options: &TcpOptions,
     payload: &[u8],
     out: &mut [u8],
 ) -> isize
-    ensures { Writes (tcp_frame headers.now.fields options.now payload.now) (tcp_frame_failure headers.now.fields options.now (length payload.now)) out.old out.new result }
+    ensures { Writes (tcp_frame headers.now options.now payload.now) (tcp_frame_failure headers.now options.now (length payload.now)) out.old out.new result }
 {
     let len = if out.len() <= MAX_LEN {
-        headers.fields.emit_tcp(options, payload, out)
+        headers.emit_tcp(options, payload, out)
     } else {
         None
     };
     match len {
         Some(len) => len as isize,
-        None => failed(headers.fields.tcp_failure(options, payload.len())),
+        None => failed(headers.tcp_failure(options, payload.len())),
     }
 }
 
 /// Writes a frame with a UDP packet around a payload that is in `out` already.
 #[unsafe(no_mangle)]
 pub extern "C" fn lk_wrap_udp_frame(
-    headers: &FullFrame,
+    headers: &FrameFields,
     payload_len: usize,
     out: &mut [u8],
 ) -> isize
-    ensures { Writes (udp_frame_around headers.now.fields payload_len out.old) (udp_frame_failure headers.now.fields payload_len) out.old out.new result }
+    ensures { Writes (udp_frame_around headers.now payload_len out.old) (udp_frame_failure headers.now payload_len) out.old out.new result }
 {
     let len = if out.len() <= MAX_LEN {
-        headers.fields.emit_udp_around(payload_len, out)
+        headers.emit_udp_around(payload_len, out)
     } else {
         None
     };
     match len {
         Some(len) => len as isize,
-        None => failed(headers.fields.udp_failure(payload_len)),
+        None => failed(headers.udp_failure(payload_len)),
     }
 }
 
 /// Writes a frame with a TCP segment around a payload that is in `out` already.
 #[unsafe(no_mangle)]
 pub extern "C" fn lk_wrap_tcp_frame(
-    headers: &FullFrame,
+    headers: &FrameFields,
     options: &TcpOptions,
     payload_len: usize,
     out: &mut [u8],
 ) -> isize
-    ensures { Writes (tcp_frame_around headers.now.fields options.now payload_len out.old) (tcp_frame_failure headers.now.fields options.now payload_len) out.old out.new result }
+    ensures { Writes (tcp_frame_around headers.now options.now payload_len out.old) (tcp_frame_failure headers.now options.now payload_len) out.old out.new result }
 {
     let len = if out.len() <= MAX_LEN {
-        headers.fields.emit_tcp_around(options, payload_len, out)
+        headers.emit_tcp_around(options, payload_len, out)
     } else {
         None
     };
     match len {
         Some(len) => len as isize,
-        None => failed(headers.fields.tcp_failure(options, payload_len)),
+        None => failed(headers.tcp_failure(options, payload_len)),
     }
 }
 
 /// Writes a whole frame with an ARP packet.
 #[unsafe(no_mangle)]
-pub extern "C" fn lk_emit_arp_frame(headers: &FullFrame, out: &mut [u8]) -> isize
-    ensures { Writes (arp_frame headers.now.fields) (arp_failure headers.now.fields.src.addr headers.now.fields.dst.addr) out.old out.new result }
+pub extern "C" fn lk_emit_arp_frame(headers: &FrameFields, out: &mut [u8]) -> isize
+    ensures { Writes (arp_frame headers.now) (arp_failure headers.now.src.addr headers.now.dst.addr) out.old out.new result }
 {
     let len = if out.len() <= MAX_LEN {
-        headers.fields.emit_arp(out)
+        headers.emit_arp(out)
     } else {
         None
     };
     match len {
         Some(len) => len as isize,
-        None => failed(arp_failure(&headers.fields.src.addr, &headers.fields.dst.addr)),
+        None => failed(arp_failure(&headers.src.addr, &headers.dst.addr)),
     }
 }

@@ -7,8 +7,11 @@ ghost use Rattle.c_icmp.specs.Messages.{icmp_bytes};
 ghost use Rattle.c_icmp.specs.Neighbours.{ReadsNdisc, ndisc_failure, ndisc_frame, ndisc_struct};
 ghost use Rattle.c_structs.specs.Written.{IsRead, Writes, is_set, within};
 
-use c_icmp::{FullFrame, Icmp, InterfaceFields, Ndisc, Problem, icmp_failure};
-use c_structs::{Addr, MAX_LEN, failed, is_set, within};
+use c_icmp::{
+    InterfaceFields, Ndisc, Problem, emit_icmp, emit_icmp_frame, emit_ndisc_frame, icmp_failure,
+    icmp_frame_failure, ndisc_failure,
+};
+use c_structs::{Addr, FrameFields, Icmp, MAX_LEN, failed, is_set, within};
 
 /// Writes the header of an ICMP message and its payload.
 #[unsafe(no_mangle)]
@@ -23,7 +26,7 @@ pub extern "C" fn lk_emit_icmp(
     ensures { Writes (icmp_bytes header.now src.now dst.now payload.now (is_set computed)) (icmp_failure src.now dst.now (length payload.now)) out.old out.new result }
 {
     let len = if out.len() <= MAX_LEN {
-        header.emit_between(src, dst, payload, is_set(computed), out)
+        emit_icmp(header, src, dst, payload, is_set(computed), out)
     } else {
         None
     };
@@ -35,17 +38,17 @@ pub extern "C" fn lk_emit_icmp(
 
 /// Writes a whole frame with an ICMP message and this payload.
 #[unsafe(no_mangle)]
-pub extern "C" fn lk_emit_icmp_frame(headers: &FullFrame, payload: &[u8], out: &mut [u8]) -> isize
+pub extern "C" fn lk_emit_icmp_frame(headers: &FrameFields, payload: &[u8], out: &mut [u8]) -> isize
     ensures { Writes (icmp_frame headers.now payload.now) (icmp_frame_failure headers.now (length payload.now)) out.old out.new result }
 {
     let len = if out.len() <= MAX_LEN {
-        headers.emit_icmp(payload, out)
+        emit_icmp_frame(headers, payload, out)
     } else {
         None
     };
     match len {
         Some(len) => len as isize,
-        None => failed(headers.icmp_failure(payload.len())),
+        None => failed(icmp_frame_failure(headers, payload.len())),
     }
 }
 
@@ -60,17 +63,17 @@ pub extern "C" fn lk_read_ndisc(frame: &[u8], ndisc: &mut Ndisc) -> i32
 
 /// Writes a whole frame with a neighbour solicitation or advertisement.
 #[unsafe(no_mangle)]
-pub extern "C" fn lk_emit_ndisc_frame(headers: &FullFrame, ndisc: &Ndisc, out: &mut [u8]) -> isize
-    ensures { Writes (ndisc_frame headers.now.fields ndisc.now) (ndisc_failure headers.now.fields ndisc.now) out.old out.new result }
+pub extern "C" fn lk_emit_ndisc_frame(headers: &FrameFields, ndisc: &Ndisc, out: &mut [u8]) -> isize
+    ensures { Writes (ndisc_frame headers.now ndisc.now) (ndisc_failure headers.now ndisc.now) out.old out.new result }
 {
     let len = if out.len() <= MAX_LEN {
-        headers.emit_ndisc(ndisc, out)
+        emit_ndisc_frame(headers, ndisc, out)
     } else {
         None
     };
     match len {
         Some(len) => len as isize,
-        None => failed(headers.ndisc_failure(ndisc)),
+        None => failed(ndisc_failure(headers, ndisc)),
     }
 }
 

@@ -1,13 +1,11 @@
 //! Calls that read packets by the link type of a capture.
 
 ghost use Rattle.std.specs.Prelude.{◌≡◌, ◌≤◌, ◌+◌, length, pos, take};
-ghost use Rattle.c_icmp.specs.Messages.{with_icmp};
 ghost use Rattle.c_structs.specs.Links.{link_or, link_reason, linked_of};
 ghost use Rattle.c_structs.specs.Written.{usable, within};
 
 use app_link::Link;
-use c_icmp::FullFrame;
-use c_structs::{read_link, usable, within};
+use c_structs::{FrameFields, read_link, usable, within};
 
 /// Stores the link-layer header that captured bytes begin with, and returns 0. Returns why it is rejected, and stores
 /// nothing then.
@@ -25,16 +23,16 @@ pub extern "C" fn lk_read_linktype(
     link_type: u32,
     captured: &[u8],
     len: usize,
-    frame: &mut FullFrame,
+    frame: &mut FrameFields,
 ) -> i32
     ensures fields { let bytes = take (usable len) (within captured.now) in
-        frame.new ≡ with_icmp bytes (linked_of link_type bytes (usable len)) }
-    ensures within { frame.new.fields.payload_offset + frame.new.fields.payload_len ≤ len }
-    ensures reason { result ≡ pos frame.new.fields.reason }
+        frame.new ≡ linked_of link_type bytes (usable len) }
+    ensures within { frame.new.payload_offset + frame.new.payload_len ≤ len }
+    ensures reason { result ≡ pos frame.new.reason }
 {
     let len = usable(len);
     frame.read_linked(link_type, front(within(captured), len), len);
-    i32::from(frame.fields.reason)
+    i32::from(frame.reason)
 }
 
 // The first bytes, at most so many.

@@ -1,8 +1,7 @@
 //! Calls that read frames.
 
 ghost use Rattle.std.specs.Prelude.{List, ℕ, ◌++◌, ◌≡◌, ◌≤◌, ◌+◌, ◌-◌, length, pos, take};
-ghost use Rattle.c_icmp.specs.Messages.{IsCutFrame, with_icmp};
-ghost use Rattle.c_structs.specs.Captured.{captured_of, captured_packet_of};
+ghost use Rattle.c_structs.specs.Captured.{IsCutOf, captured_of, captured_packet_of};
 ghost use Rattle.c_structs.specs.FrameFields.{fields_of, packet_fields_of};
 ghost use Rattle.c_structs.specs.FrameOptions.{HasOptions};
 ghost use Rattle.c_structs.specs.Ipv6Steps as ipv6_steps;
@@ -10,8 +9,7 @@ ghost use Rattle.c_structs.specs.TcpOptions.{ReadsItems, tcp_options_of};
 ghost use Rattle.c_structs.specs.TcpSteps.{step};
 ghost use Rattle.c_structs.specs.Written.{IsRead, max_len, usable, within};
 
-use c_icmp::FullFrame;
-use c_structs::{Ipv6HeaderPlace, TcpOptionPlace, TcpOptions, usable, within};
+use c_structs::{FrameFields, Ipv6HeaderPlace, TcpOptionPlace, TcpOptions, usable, within};
 
 const VERSION_MAJOR: u32 = 0;
 
@@ -30,87 +28,91 @@ pub extern "C" fn lk_version() -> u32
 /// Parses an Ethernet frame, stores its values, and returns 0 or why a header was rejected. A wrong
 /// checksum is no reason to reject.
 #[unsafe(no_mangle)]
-pub extern "C" fn lk_read_frame(bytes: &[u8], frame: &mut FullFrame) -> i32
-    ensures fields { frame.new ≡ with_icmp (within bytes.now) (fields_of (within bytes.now)) }
-    ensures within { frame.new.fields.payload_offset + frame.new.fields.payload_len ≤ length bytes.now }
+pub extern "C" fn lk_read_frame(bytes: &[u8], frame: &mut FrameFields) -> i32
+    ensures fields { frame.new ≡ fields_of (within bytes.now) }
+    ensures within { frame.new.payload_offset + frame.new.payload_len ≤ length bytes.now }
     ensures reason { result ≡ pos (fields_of (within bytes.now)).reason }
 {
     frame.read(within(bytes));
-    i32::from(frame.fields.reason)
+    i32::from(frame.reason)
 }
 
 /// Parses an IP packet without an Ethernet header, by the version in its first byte, as `lk_read_frame`
 /// does.
 #[unsafe(no_mangle)]
-pub extern "C" fn lk_read_packet(bytes: &[u8], frame: &mut FullFrame) -> i32
-    ensures fields { frame.new ≡ with_icmp (within bytes.now) (packet_fields_of (within bytes.now)) }
-    ensures within { frame.new.fields.payload_offset + frame.new.fields.payload_len ≤ length bytes.now }
+pub extern "C" fn lk_read_packet(bytes: &[u8], frame: &mut FrameFields) -> i32
+    ensures fields { frame.new ≡ packet_fields_of (within bytes.now) }
+    ensures within { frame.new.payload_offset + frame.new.payload_len ≤ length bytes.now }
     ensures reason { result ≡ pos (packet_fields_of (within bytes.now)).reason }
 {
     frame.read_packet(within(bytes));
-    i32::from(frame.fields.reason)
+    i32::from(frame.reason)
 }
 
 /// Parses the first bytes of an Ethernet frame of `len` bytes, as `lk_read_frame` does, and stores all
 /// headers that are there. Lengths in headers are compared with `len`. A header that was not captured as a
 /// whole is rejected. If more bytes than `len` were captured, only the first `len` count.
 #[unsafe(no_mangle)]
-pub extern "C" fn lk_read_captured(captured: &[u8], len: usize, frame: &mut FullFrame) -> i32
-    ensures fields { let bytes = within captured.now in frame.new ≡ with_icmp (take (usable len) bytes) (captured_of (take (usable len) bytes) (usable len - length bytes)) }
-    ensures whole { let bytes = within captured.now in usable len ≤ length bytes → frame.new ≡ with_icmp (take (usable len) bytes) (fields_of (take (usable len) bytes)) }
+pub extern "C" fn lk_read_captured(captured: &[u8], len: usize, frame: &mut FrameFields) -> i32
+    ensures fields { let bytes = within captured.now in frame.new ≡ captured_of (take (usable len) bytes) (usable len - length bytes) }
+    ensures whole { let bytes = within captured.now in usable len ≤ length bytes → frame.new ≡ fields_of (take (usable len) bytes) }
     ensures cut { let bytes = within captured.now in
-        (rest : List ℕ) → length bytes + length rest ≡ usable len → IsCutFrame bytes frame.new (fields_of (bytes ++ rest)) }
-    ensures within { frame.new.fields.payload_offset + frame.new.fields.payload_len ≤ len }
-    ensures reason { result ≡ pos frame.new.fields.reason }
+        (rest : List ℕ) → length bytes + length rest ≡ usable len → IsCutOf frame.new (fields_of (bytes ++ rest)) }
+    ensures within { frame.new.payload_offset + frame.new.payload_len ≤ len }
+    ensures reason { result ≡ pos frame.new.reason }
 {
     read_captured(within(captured), usable(len), frame)
 }
 
 /// The same for an IP packet without an Ethernet header, as `lk_read_packet`.
 #[unsafe(no_mangle)]
-pub extern "C" fn lk_read_captured_packet(captured: &[u8], len: usize, frame: &mut FullFrame) -> i32
-    ensures fields { let bytes = within captured.now in frame.new ≡ with_icmp (take (usable len) bytes) (captured_packet_of (take (usable len) bytes) (usable len - length bytes)) }
-    ensures whole { let bytes = within captured.now in usable len ≤ length bytes → frame.new ≡ with_icmp (take (usable len) bytes) (packet_fields_of (take (usable len) bytes)) }
+pub extern "C" fn lk_read_captured_packet(
+    captured: &[u8],
+    len: usize,
+    frame: &mut FrameFields,
+) -> i32
+    ensures fields { let bytes = within captured.now in frame.new ≡ captured_packet_of (take (usable len) bytes) (usable len - length bytes) }
+    ensures whole { let bytes = within captured.now in usable len ≤ length bytes → frame.new ≡ packet_fields_of (take (usable len) bytes) }
     ensures cut { let bytes = within captured.now in
-        (rest : List ℕ) → length bytes + length rest ≡ usable len → IsCutFrame bytes frame.new (packet_fields_of (bytes ++ rest)) }
-    ensures within { frame.new.fields.payload_offset + frame.new.fields.payload_len ≤ len }
-    ensures reason { result ≡ pos frame.new.fields.reason }
+        (rest : List ℕ) → length bytes + length rest ≡ usable len → IsCutOf frame.new (packet_fields_of (bytes ++ rest)) }
+    ensures within { frame.new.payload_offset + frame.new.payload_len ≤ len }
+    ensures reason { result ≡ pos frame.new.reason }
 {
     read_captured_packet(within(captured), usable(len), frame)
 }
 
 // The same for a length that can be used.
 #[inline(always)]
-fn read_captured(captured: &[u8], len: usize, frame: &mut FullFrame) -> i32
+fn read_captured(captured: &[u8], len: usize, frame: &mut FrameFields) -> i32
     requires { length captured.now ≤ max_len }
-    ensures fields { frame.new ≡ with_icmp (take len captured.now) (captured_of (take len captured.now) (len - length captured.now)) }
-    ensures whole { len ≤ length captured.now → frame.new ≡ with_icmp (take len captured.now) (fields_of (take len captured.now)) }
-    ensures cut { (rest : List ℕ) → length captured.now + length rest ≡ len → IsCutFrame captured.now frame.new (fields_of (captured.now ++ rest)) }
-    ensures within { frame.new.fields.payload_offset + frame.new.fields.payload_len ≤ len }
-    ensures reason { result ≡ pos frame.new.fields.reason }
+    ensures fields { frame.new ≡ captured_of (take len captured.now) (len - length captured.now) }
+    ensures whole { len ≤ length captured.now → frame.new ≡ fields_of (take len captured.now) }
+    ensures cut { (rest : List ℕ) → length captured.now + length rest ≡ len → IsCutOf frame.new (fields_of (captured.now ++ rest)) }
+    ensures within { frame.new.payload_offset + frame.new.payload_len ≤ len }
+    ensures reason { result ≡ pos frame.new.reason }
 {
     if len <= captured.len() {
         return lk_read_frame(&captured[..len], frame);
     }
     frame.read_captured(captured, len);
-    i32::from(frame.fields.reason)
+    i32::from(frame.reason)
 }
 
 // The same for a length that can be used.
 #[inline(always)]
-fn read_captured_packet(captured: &[u8], len: usize, frame: &mut FullFrame) -> i32
+fn read_captured_packet(captured: &[u8], len: usize, frame: &mut FrameFields) -> i32
     requires { length captured.now ≤ max_len }
-    ensures fields { frame.new ≡ with_icmp (take len captured.now) (captured_packet_of (take len captured.now) (len - length captured.now)) }
-    ensures whole { len ≤ length captured.now → frame.new ≡ with_icmp (take len captured.now) (packet_fields_of (take len captured.now)) }
-    ensures cut { (rest : List ℕ) → length captured.now + length rest ≡ len → IsCutFrame captured.now frame.new (packet_fields_of (captured.now ++ rest)) }
-    ensures within { frame.new.fields.payload_offset + frame.new.fields.payload_len ≤ len }
-    ensures reason { result ≡ pos frame.new.fields.reason }
+    ensures fields { frame.new ≡ captured_packet_of (take len captured.now) (len - length captured.now) }
+    ensures whole { len ≤ length captured.now → frame.new ≡ packet_fields_of (take len captured.now) }
+    ensures cut { (rest : List ℕ) → length captured.now + length rest ≡ len → IsCutOf frame.new (packet_fields_of (captured.now ++ rest)) }
+    ensures within { frame.new.payload_offset + frame.new.payload_len ≤ len }
+    ensures reason { result ≡ pos frame.new.reason }
 {
     if len <= captured.len() {
         return lk_read_packet(&captured[..len], frame);
     }
     frame.read_captured_packet(captured, len);
-    i32::from(frame.fields.reason)
+    i32::from(frame.reason)
 }
 
 /// Stores the options of a TCP header and returns 1. Returns 0 and stores nothing if its lengths are
@@ -126,16 +128,16 @@ pub extern "C" fn lk_read_tcp_options(header: &[u8], options: &mut TcpOptions) -
 #[unsafe(no_mangle)]
 pub extern "C" fn lk_read_frame_options(
     bytes: &[u8],
-    frame: &mut FullFrame,
+    frame: &mut FrameFields,
     options: &mut TcpOptions,
 ) -> i32
-    ensures fields { frame.new ≡ with_icmp (within bytes.now) (fields_of (within bytes.now)) }
-    ensures options { HasOptions frame.new.fields (within bytes.now) options.new }
-    ensures within { frame.new.fields.payload_offset + frame.new.fields.payload_len ≤ length bytes.now }
+    ensures fields { frame.new ≡ fields_of (within bytes.now) }
+    ensures options { HasOptions frame.new (within bytes.now) options.new }
+    ensures within { frame.new.payload_offset + frame.new.payload_len ≤ length bytes.now }
     ensures reason { result ≡ pos (fields_of (within bytes.now)).reason }
 {
     let reason = lk_read_frame(bytes, frame);
-    options.read_in(&frame.fields, bytes);
+    options.read_in(frame, bytes);
     reason
 }
 

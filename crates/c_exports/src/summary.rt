@@ -4,13 +4,13 @@ ghost use Rattle.std.specs.Prelude.{◌≡◌, None, Some};
 ghost use Rattle.c_structs.specs.Written.{Prints};
 ghost use Rattle.c_summary.specs.Summary.{frame_line};
 
-use c_icmp::FullFrame;
+use c_structs::FrameFields;
 use c_summary::print_frame;
 
 /// Prints a frame in one line.
 #[unsafe(no_mangle)]
-pub extern "C" fn lk_print_frame(frame: &FullFrame, out: &mut [u8]) -> isize
-    ensures { Prints (Some (frame_line frame.now.fields frame.now.icmp.msg_type frame.now.icmp.code)) None out.old out.new result }
+pub extern "C" fn lk_print_frame(frame: &FrameFields, out: &mut [u8]) -> isize
+    ensures { Prints (Some (frame_line frame.now frame.now.icmp.msg_type frame.now.icmp.code)) None out.old out.new result }
 {
-    print_frame(&frame.fields, frame.icmp.msg_type, frame.icmp.code, out)
+    print_frame(frame, frame.icmp.msg_type, frame.icmp.code, out)
 }

@@ -15,7 +15,7 @@ use Rattle.c_structs.specs.Written.{Fills}
 use Rattle.c_structs.specs.declared.types.Addr.{Addr}
 use Rattle.c_structs.specs.declared.types.FrameFields.{FrameFields}
 use Rattle.c_icmp.specs.Messages.{header_value, icmp_bytes}
-use Rattle.c_icmp.specs.declared.types.Icmp.{Icmp}
+use Rattle.c_structs.specs.declared.types.Icmp.{Icmp}
 
 length-emitted : (h : IcmpHeader) (payload : List ℕ) (src dst : IpAddress) (computed : Bool) → length (emitted h payload src dst computed) ≡ 8 + length payload
 length-emitted h payload src dst computed = simp length-append (omega arith)

@@ -7,18 +7,18 @@ use Rattle.c_structs.specs.Frames.{framed}
 use Rattle.c_structs.specs.declared.failures.Failure.{Failure}
 use Rattle.c_structs.specs.declared.failures.Failure.TheVariants as failure
 use Rattle.c_structs.specs.declared.types.Addr.{Addr}
+use Rattle.c_structs.specs.declared.types.FrameFields.{FrameFields}
 use Rattle.c_icmp.specs.Messages.{icmp_bytes, max_payload_len}
-use Rattle.c_icmp.specs.declared.types.FullFrame.{FullFrame}
 
 -- the protocol of ICMP over this version of IP
 abbrev pub protocol_number : ℕ → ℕ
 protocol_number version = if version == 4 then 1 else 58
 
 -- the bytes of a frame with an ICMP message, if it can be written
-abbrev pub icmp_frame : FullFrame → List ℕ → Option (List ℕ)
+abbrev pub icmp_frame : FrameFields → List ℕ → Option (List ℕ)
 icmp_frame f payload =
-    option_and_then (framed f.fields (protocol_number f.fields.src.addr.version))
-    (icmp_bytes f.icmp f.fields.src.addr f.fields.dst.addr payload true)
+    option_and_then (framed f (protocol_number f.src.addr.version))
+    (icmp_bytes f.icmp f.src.addr f.dst.addr payload true)
 
 -- ---- failures
 
@@ -28,7 +28,7 @@ icmp_failure src dst len =
     option_or (pair_failure src dst) (if nat_lt max_payload_len len then Some failure.PayloadTooLong else None)
 
 -- the failure of a frame with a message with a payload of this length
-abbrev pub icmp_frame_failure : FullFrame → ℕ → Option Failure
+abbrev pub icmp_frame_failure : FrameFields → ℕ → Option Failure
 icmp_frame_failure f len =
-    option_or (frame_failure f.fields true)
-    (if nat_lt (most_payload f.fields.src.addr.version) (8 + len) then Some failure.PayloadTooLong else None)
+    option_or (frame_failure f true)
+    (if nat_lt (most_payload f.src.addr.version) (8 + len) then Some failure.PayloadTooLong else None)

@@ -8,48 +8,48 @@ ghost use Rattle.c_structs.specs.Written.{Fills};
 ghost use Rattle.c_icmp.specs.Frames.{icmp_failure, icmp_frame, icmp_frame_failure, protocol_number};
 ghost use Rattle.c_icmp.specs.Messages.{header_value, icmp_bytes};
 
-use crate::read::{ICMP, ICMPV6};
-use crate::types::{FullFrame, Icmp};
-use c_structs::{Addr, Failure, most_payload, pair_failure};
+use c_structs::{Addr, Failure, FrameFields, Icmp, most_payload, pair_failure};
 use net_base::ChecksumCapabilities;
 use wire_icmp::{ICMP_HEADER_LEN, IcmpHeader};
+
+// The protocols of IPv4 and of IPv6.
+const ICMP: u8 = 1;
+
+pub(crate) const ICMPV6: u8 = 58;
 
 // The longest payload: header and payload fit into an IPv6 packet.
 const MAX_PAYLOAD_LEN: usize = 65527;
 
-impl Icmp {
-    /// Writes a message to the front of `out` and returns its length. `None` if it does not fit, or if there is an
-    /// `icmp_failure`.
-    #[inline(always)]
-    pub fn emit_between(
-        &self,
-        src: &Addr,
-        dst: &Addr,
-        payload: &[u8],
-        computed: bool,
-        out: &mut [u8],
-    ) -> Option<usize>
-        ensures { Fills (icmp_bytes self.now src.now dst.now payload.now computed) out.old out.new result }
-    {
-        if payload.len() > MAX_PAYLOAD_LEN {
-            return None;
-        }
-        let (src_addr, dst_addr) = src.pair(src.version, dst)?;
-        let caps = checksums(computed);
-        self.value()
-            .try_emit(out, &src_addr, &dst_addr, payload, &caps)
+/// Writes a message to the front of `out` and returns its length. `None` if it does not fit, or if there is an
+/// `icmp_failure`.
+#[inline(always)]
+pub fn emit_icmp(
+    header: &Icmp,
+    src: &Addr,
+    dst: &Addr,
+    payload: &[u8],
+    computed: bool,
+    out: &mut [u8],
+) -> Option<usize>
+    ensures { Fills (icmp_bytes header.now src.now dst.now payload.now computed) out.old out.new result }
+{
+    if payload.len() > MAX_PAYLOAD_LEN {
+        return None;
     }
+    let (src_addr, dst_addr) = src.pair(src.version, dst)?;
+    let caps = checksums(computed);
+    header_value(header).try_emit(out, &src_addr, &dst_addr, payload, &caps)
+}
 
-    // The values of the header.
-    #[inline(always)]
-    fn value(&self) -> IcmpHeader
-        ensures { result ≡ header_value self.now }
-    {
-        IcmpHeader {
-            msg_type: self.msg_type,
-            msg_code: self.code,
-            word: self.word,
-        }
+// The values of a header.
+#[inline(always)]
+fn header_value(header: &Icmp) -> IcmpHeader
+    ensures { result ≡ header_value header.now }
+{
+    IcmpHeader {
+        msg_type: header.msg_type,
+        msg_code: header.code,
+        word: header.word,
     }
 }
 
@@ -79,47 +79,43 @@ pub fn icmp_failure(src: &Addr, dst: &Addr, payload_len: usize) -> Option<Failur
     }
 }
 
-impl FullFrame {
-    /// Writes a frame with an ICMP message and this payload, and returns its length.
-    pub fn emit_icmp(&self, payload: &[u8], out: &mut [u8]) -> Option<usize>
-        ensures { Fills (icmp_frame self.now payload.now) out.old out.new result }
-    {
-        if payload.len() > MAX_PAYLOAD_LEN {
-            return None;
-        }
-        let version = self.fields.src.addr.version;
-        let len = ICMP_HEADER_LEN + payload.len();
-        let ip_header = self
-            .fields
-            .ip_header(version, protocol_number(version), len)?;
-        let start = self.fields.headers_len(&ip_header);
-        let end = start + len;
-        if out.len() < end {
-            return None;
-        }
-        let (headers, message) = out.split_at_mut(start);
-        self.fields.emit_headers(&ip_header, headers);
-        let (src, dst) = (&self.fields.src.addr, &self.fields.dst.addr);
-        match self.icmp.emit_between(src, dst, payload, true, message) {
-            Some(_) => Some(end),
-            None => None,
-        }
+/// Writes a frame with an ICMP message and this payload, and returns its length.
+pub fn emit_icmp_frame(headers: &FrameFields, payload: &[u8], out: &mut [u8]) -> Option<usize>
+    ensures { Fills (icmp_frame headers.now payload.now) out.old out.new result }
+{
+    if payload.len() > MAX_PAYLOAD_LEN {
+        return None;
     }
+    let version = headers.src.addr.version;
+    let len = ICMP_HEADER_LEN + payload.len();
+    let ip_header = headers.ip_header(version, protocol_number(version), len)?;
+    let start = headers.headers_len(&ip_header);
+    let end = start + len;
+    if out.len() < end {
+        return None;
+    }
+    let (front, message) = out.split_at_mut(start);
+    headers.emit_headers(&ip_header, front);
+    let (src, dst) = (&headers.src.addr, &headers.dst.addr);
+    match emit_icmp(&headers.icmp, src, dst, payload, true, message) {
+        Some(_) => Some(end),
+        None => None,
+    }
+}
 
-    /// The failure of a frame with an ICMP message with a payload of this length; `None` if it can be emitted.
-    #[cold]
-    pub fn icmp_failure(&self, payload_len: usize) -> Option<Failure>
-        ensures { result ≡ icmp_frame_failure self.now payload_len }
-    {
-        let failure = self.fields.failure(true);
-        let most = most_payload(self.fields.src.addr.version);
-        if failure.is_some() {
-            failure
-        } else if payload_len > most - ICMP_HEADER_LEN {
-            Some(Failure::PayloadTooLong)
-        } else {
-            None
-        }
+/// The failure of a frame with an ICMP message with a payload of this length; `None` if it can be emitted.
+#[cold]
+pub fn icmp_frame_failure(headers: &FrameFields, payload_len: usize) -> Option<Failure>
+    ensures { result ≡ icmp_frame_failure headers.now payload_len }
+{
+    let failure = headers.failure(true);
+    let most = most_payload(headers.src.addr.version);
+    if failure.is_some() {
+        failure
+    } else if payload_len > most - ICMP_HEADER_LEN {
+        Some(Failure::PayloadTooLong)
+    } else {
+        None
     }
 }
 

@@ -1,16 +1,15 @@
-//! ICMP in the structs of `c/ip_wire.h`: messages in frames that are read and written, neighbour discovery, and ICMP
-//! errors. `c_exports` exports it to C.
+//! ICMP in the structs of `c/ip_wire.h`: messages that are written, neighbour discovery, and ICMP errors. `c_exports`
+//! exports it to C.
 #![tactic(auto)]
 
 mod emit;
 mod errors;
 mod host;
 mod interfaces;
-pub mod laws;
 mod neighbours;
-mod read;
 mod types;
 
-pub use emit::icmp_failure;
+pub use emit::{emit_icmp, emit_icmp_frame, icmp_failure, icmp_frame_failure};
 pub use errors::Problem;
-pub use types::{FullFrame, HostFields, Icmp, InterfaceFields, Ndisc};
+pub use neighbours::{emit_ndisc_frame, ndisc_failure};
+pub use types::{HostFields, InterfaceFields, Ndisc};

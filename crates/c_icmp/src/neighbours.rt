@@ -6,8 +6,8 @@ ghost use Rattle.wire_icmp.specs.declared.ndisc.repr.NdiscRepr.{NdiscRepr};
 ghost use Rattle.c_structs.specs.Written.{Fills, IsRead};
 ghost use Rattle.c_icmp.specs.Neighbours.{CarriesNdisc, ReadsNdisc, has_ipv6, hardware_bytes, hardware_of, ndisc_failure, ndisc_frame, ndisc_ip, ndisc_struct, ndisc_value};
 
-use crate::read::ICMPV6;
-use crate::types::{FullFrame, Ndisc};
+use crate::emit::ICMPV6;
+use crate::types::Ndisc;
 use c_structs::{Addr, Failure, FrameFields, Ip};
 use ip_wire::{
     Carried, EthernetAddress, Frame, IpAddress, IpProtocol, IpRepr, Ipv6Repr, Transport,
@@ -145,53 +145,49 @@ fn parse_after(ip: &Ipv6Repr, message: &[u8]) -> Option<NdiscRepr>
     NdiscRepr::parse(&packet, &ip.src_addr, &ip.dst_addr, ip.hop_limit, &caps).ok()
 }
 
-impl FullFrame {
-    /// Writes a frame with a message, and returns its length. `None` if it does not fit, or if there is an
-    /// `ndisc_failure`.
-    pub fn emit_ndisc(&self, ndisc: &Ndisc, out: &mut [u8]) -> Option<usize>
-        ensures { Fills (ndisc_frame self.now.fields ndisc.now) out.old out.new result }
-    {
-        if !self.has_ipv6(ndisc) {
-            return None;
-        }
-        let mut headers = self.fields;
-        headers.ip = ndisc_ip();
-        let value = ndisc.value();
-        let len = value.buffer_len();
-        let ip_header = headers.ip_header(6, ICMPV6, len)?;
-        let start = headers.headers_len(&ip_header);
-        let end = start + len;
-        if out.len() < end {
-            return None;
-        }
-        let (front, message) = out.split_at_mut(start);
-        headers.emit_headers(&ip_header, front);
-        let (src, dst) = (headers.src.addr.ipv6(), headers.dst.addr.ipv6());
-        match value.try_emit(message, &src, &dst, &ChecksumCapabilities::default()) {
-            Some(_) => Some(end),
-            None => None,
-        }
+/// Writes a frame with a message, and returns its length. `None` if it does not fit, or if there is an
+/// `ndisc_failure`.
+pub fn emit_ndisc_frame(frame: &FrameFields, ndisc: &Ndisc, out: &mut [u8]) -> Option<usize>
+    ensures { Fills (ndisc_frame frame.now ndisc.now) out.old out.new result }
+{
+    if !has_ipv6(frame, ndisc) {
+        return None;
     }
+    let mut headers = *frame;
+    headers.ip = ndisc_ip();
+    let value = ndisc.value();
+    let len = value.buffer_len();
+    let ip_header = headers.ip_header(6, ICMPV6, len)?;
+    let start = headers.headers_len(&ip_header);
+    let end = start + len;
+    if out.len() < end {
+        return None;
+    }
+    let (front, message) = out.split_at_mut(start);
+    headers.emit_headers(&ip_header, front);
+    let (src, dst) = (headers.src.addr.ipv6(), headers.dst.addr.ipv6());
+    match value.try_emit(message, &src, &dst, &ChecksumCapabilities::default()) {
+        Some(_) => Some(end),
+        None => None,
+    }
+}
 
-    /// The failure of a frame with a message; `None` if it can be emitted.
-    pub fn ndisc_failure(&self, ndisc: &Ndisc) -> Option<Failure>
-        ensures { result ≡ ndisc_failure self.now.fields ndisc.now }
-    {
-        if self.has_ipv6(ndisc) {
-            None
-        } else {
-            Some(Failure::NoVersion)
-        }
+/// The failure of a frame with a message; `None` if it can be emitted.
+pub fn ndisc_failure(frame: &FrameFields, ndisc: &Ndisc) -> Option<Failure>
+    ensures { result ≡ ndisc_failure frame.now ndisc.now }
+{
+    if has_ipv6(frame, ndisc) {
+        None
+    } else {
+        Some(Failure::NoVersion)
     }
+}
 
-    // Whether all three addresses are IPv6 addresses.
-    fn has_ipv6(&self, ndisc: &Ndisc) -> bool
-        ensures { result ≡ has_ipv6 self.now.fields ndisc.now }
-    {
-        self.fields.src.addr.version == 6
-            && self.fields.dst.addr.version == 6
-            && ndisc.target.version == 6
-    }
+// Whether all three addresses are IPv6 addresses.
+fn has_ipv6(frame: &FrameFields, ndisc: &Ndisc) -> bool
+    ensures { result ≡ has_ipv6 frame.now ndisc.now }
+{
+    frame.src.addr.version == 6 && frame.dst.addr.version == 6 && ndisc.target.version == 6
 }
 
 // The IP header of a message.

@@ -1,24 +1,6 @@
-//! The structs of `c/ip_wire.h` that have to do with ICMP.
+//! The structs of `c/ip_wire.h` for neighbour discovery, ICMP errors and host answers.
 
-use c_structs::{Addr, FrameFields};
-
-/// `struct lk_icmp`: the header of an ICMP message, without its checksum.
-#[repr(C)]
-#[derive(Clone, Copy)]
-pub struct Icmp {
-    /// Bytes 4 to 7.
-    pub word: u32,
-    pub msg_type: u8,
-    pub code: u8,
-}
-
-/// `struct lk_frame`: the values of a frame, those of an ICMP header among them.
-#[repr(C)]
-#[derive(Clone, Copy)]
-pub struct FullFrame {
-    pub fields: FrameFields,
-    pub icmp: Icmp,
-}
+use c_structs::Addr;
 
 /// `struct lk_ndisc`: a neighbour solicitation or advertisement.
 #[repr(C)]

@@ -24,7 +24,7 @@ use Rattle.c_structs.specs.declared.types.FrameFields.{FrameFields}
 unsent : (f : FrameFields) → IsStart f → f ≡ before transport_header f
 unsent f start = start ∙ sym (ap (before transport_header) start)
 
-cut-carried : (f : FrameFields) (t : EthernetProtocol) (bytes rest : List ℕ) → IsStart f → f.payload_len ≡ length (bytes ++ rest)
+pub cut-carried : (f : FrameFields) (t : EthernetProtocol) (bytes rest : List ℕ) → IsStart f → f.payload_len ≡ length (bytes ++ rest)
     → IsCutOf (cut_carried f t bytes) (with_carried f t (bytes ++ rest))
 cut-carried f ethertype.Arp bytes rest start len = cut-arp f bytes rest start len
 cut-carried f ethertype.Ipv4 bytes rest start len = cut-ipv4 f bytes rest start (unsent f start) len
@@ -114,11 +114,11 @@ bare-cut bytes rest missing =
 
 -- ---- with nothing missing too
 
-captured-cut : (bytes rest : List ℕ) → IsCutOf (captured_of bytes (length rest)) (fields_of (bytes ++ rest))
+pub captured-cut : (bytes rest : List ℕ) → IsCutOf (captured_of bytes (length rest)) (fields_of (bytes ++ rest))
 captured-cut bytes [] = same-of _ _ (captured_of-whole bytes ∙ ap fields_of (sym (append-nil bytes)))
 captured-cut bytes (x ∷ rest) = frame-cut bytes (x ∷ rest) (omega arith)
 
-captured-packet-cut : (bytes rest : List ℕ) → IsCutOf (captured_packet_of bytes (length rest)) (packet_fields_of (bytes ++ rest))
+pub captured-packet-cut : (bytes rest : List ℕ) → IsCutOf (captured_packet_of bytes (length rest)) (packet_fields_of (bytes ++ rest))
 captured-packet-cut bytes [] = same-of _ _ (captured_packet_of-whole bytes ∙ ap packet_fields_of (sym (append-nil bytes)))
 captured-packet-cut bytes (x ∷ rest) = bare-cut bytes (x ∷ rest) (omega arith)
 

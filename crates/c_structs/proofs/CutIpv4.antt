@@ -13,6 +13,7 @@ use Rattle.ip_wire.specs.Ipv4.{ipv4_of}
 use Rattle.ip_wire.specs.Types.{IpAddress, IpProtocol, Ipv4, Ipv4Repr}
 use Rattle.ip_wire.specs.declared.IpProtocol.TheVariants as protocol
 use Rattle.c_structs.proofs.CutBytes.{field-front, le-false, le-true, longer, lt-false, lt-true, range-following, range-front}
+use Rattle.c_structs.proofs.CutMessage.{cut-message}
 use Rattle.c_structs.proofs.CutOf.{IsStart, cut-as, cut-network, ipv4-keeps, same-of}
 use Rattle.c_structs.proofs.CutTcp.{cut-tcp}
 use Rattle.c_structs.proofs.CutUdp.{cut-udp}
@@ -27,7 +28,7 @@ pub cut-by : (f : FrameFields) (p : IpProtocol) (src dst : IpAddress) (bytes res
     → IsCutOf (cut_transport_by f p src dst bytes) (with_transport_by f p src dst (bytes ++ rest))
 cut-by f protocol.Udp src dst bytes rest fresh len = cut-udp f src dst bytes rest fresh len
 cut-by f protocol.Tcp src dst bytes rest fresh len = cut-tcp f src dst bytes rest fresh len
-cut-by f p src dst bytes rest fresh len = same-of _ _ refl
+cut-by f p src dst bytes rest fresh len = cut-message f p src dst bytes rest fresh len
 
 pub dropped : (n : ℕ) (xs : List ℕ) → length (drop n xs) ≡ length xs - n
 dropped n xs = grind (arith, common_steps)

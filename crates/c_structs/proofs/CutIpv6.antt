@@ -188,7 +188,7 @@ begun f bytes rest start h cut whole version =
     by protocol.Ipv6Frag next front back v clean unbroken len = cut-fragment next front back unbroken len
     by protocol.Udp next front back v clean unbroken len = cut-by next protocol.Udp (src_addr_of (Ipv6 v)) (dst_addr_of (Ipv6 v)) front back clean len
     by protocol.Tcp next front back v clean unbroken len = cut-by next protocol.Tcp (src_addr_of (Ipv6 v)) (dst_addr_of (Ipv6 v)) front back clean len
-    by p next front back v clean unbroken len = same-of _ _ refl
+    by p next front back v clean unbroken len = cut-by next p (src_addr_of (Ipv6 v)) (dst_addr_of (Ipv6 v)) front back clean len
 
 -- what the cut reader stores, by its tests
 abbrev stored : FrameFields → List ℕ → Bool → Bool → Bool → Bool → FrameFields

@@ -17,14 +17,14 @@ use Rattle.ip_wire.specs.Udp.{udp_of}
 use Rattle.ip_wire.specs.declared.ArpRepr.TheVariants.{EthernetIpv4}
 use Rattle.ip_wire.specs.declared.IpProtocol.TheVariants as protocol
 use Rattle.c_structs.specs.Captured.{IsCutOf, before, network, transport_header}
-use Rattle.c_structs.specs.FrameFields.{arp_fault, after_header, ipv4_fault, ipv6_fault, nothing_of, rejected, rejected_transport, tcp_fault, udp_fault, with_arp, with_fragment_by, with_fragment_header, with_ipv4, with_ipv4_header, with_ipv6, with_ipv6_header, with_message, with_payload, with_tcp_header, with_transport_by, with_udp_header}
+use Rattle.c_structs.specs.FrameFields.{arp_fault, after_header, ipv4_fault, ipv6_fault, nothing_of, rejected, rejected_transport, tcp_fault, udp_fault, with_arp, with_fragment_by, with_fragment_header, with_ipv4, with_ipv4_header, with_ipv6, with_ipv6_header, with_message, with_payload, with_tcp_header, with_transport_by, with_udp_header, has_message, icmp_verdict, with_icmp}
 use Rattle.c_structs.specs.declared.codes.Reason.TheVariants as reason
 use Rattle.c_structs.specs.declared.types.Ethernet.{Ethernet}
 use Rattle.c_structs.specs.declared.types.FrameFields.{FrameFields}
 
 -- equal structs
 pub same-of : (f g : FrameFields) → f ≡ g → IsCutOf f g
-same-of f g is = inl (record { checksum = inl (ap (λ (h : FrameFields). h.transport_checksum) is); fields = is ∙ ap (λ (h : FrameFields). record g { transport_checksum = h.transport_checksum }) (sym is) })
+same-of f g is = inl (inl (record { checksum = inl (ap (λ (h : FrameFields). h.transport_checksum) is); fields = is ∙ ap (λ (h : FrameFields). record g { transport_checksum = h.transport_checksum }) (sym is) }))
 
 -- the same of structs that are equal to these
 pub cut-as : (f g f2 g2 : FrameFields) → f ≡ f2 → g ≡ g2 → IsCutOf f2 g2 → IsCutOf f g
@@ -73,7 +73,7 @@ transport-keeps f protocol.Udp src dst bytes =
 transport-keeps f protocol.Tcp src dst bytes =
     keeps-if (nat_lt (length bytes) 20) (rejected f reason.TooShort) _ f.ethernet refl
     (keeps-choice (tcp_of src dst false bytes) (λ u. after_header (with_tcp_header f src dst bytes) (tcp.header_len bytes) (length (tcp.payload_of bytes))) (rejected_transport (with_tcp_header f src dst bytes) (tcp_fault bytes (length bytes))) f.ethernet (λ u. refl) refl)
-transport-keeps f p src dst bytes = refl
+transport-keeps f p src dst bytes = keeps-if (has_message p src bytes) (with_icmp f bytes (icmp_verdict src dst bytes)) f f.ethernet refl refl
 
 pub ipv4-keeps : (f : FrameFields) (bytes : List ℕ) → (with_ipv4 f bytes).ethernet ≡ f.ethernet
 ipv4-keeps f bytes =

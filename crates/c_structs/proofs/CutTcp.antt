@@ -12,12 +12,13 @@ use Rattle.ip_wire.specs.TcpItems.{Item}
 use Rattle.c_structs.proofs.CutBytes.{field-front, le-false, le-true, longer, lt-false, lt-true, range-front}
 use Rattle.c_structs.proofs.CutOf.{after_header-choice, cut-as, cut-transport, same-of}
 use Rattle.c_structs.specs.Captured.{HasHeaders, IsCutOf, before, cut_header, cut_tcp, options, transport_header}
-use Rattle.c_structs.specs.FrameFields.{after_header, rejected, rejected_transport, tcp_fault, tcp_values, tcp_verdict, with_tcp, with_tcp_fields, with_tcp_header}
+use Rattle.c_structs.specs.FrameFields.{after_header, rejected, rejected_transport, tcp_fault, tcp_values, tcp_verdict, with_tcp, with_tcp_fields, with_tcp_header, no_icmp}
 use Rattle.c_structs.specs.declared.codes.Reason.{Reason}
 use Rattle.c_structs.specs.declared.codes.Reason.TheVariants as reason
 use Rattle.c_structs.specs.declared.codes.Verdict.{Verdict}
 use Rattle.c_structs.specs.declared.codes.Verdict.TheVariants as verdict
 use Rattle.c_structs.specs.declared.types.FrameFields.{FrameFields}
+use Rattle.c_structs.specs.declared.types.Icmp.{Icmp}
 
 -- ---- the header
 
@@ -168,10 +169,14 @@ only-verdict None f bytes header_len n why v = record { checksum = inr refl; fie
 only-verdict (Some x) f bytes header_len n why v = record { checksum = inr refl; fields = refl }
 
 -- the options are cut off
-options-cut : (o : Option TcpHeader) (f : FrameFields) (bytes : List ℕ) (header_len n : ℕ) (why : Reason) (v : Verdict)
+options-fields : (f : FrameFields) (bytes : List ℕ) → f.icmp ≡ no_icmp
+    → let g = rejected_transport (with_tcp_fields f bytes verdict.ChecksumCut) reason.HeaderCut in g ≡ record g { icmp = no_icmp }
+options-fields f bytes clean = ap (λ (i : Icmp). record (rejected_transport (with_tcp_fields f bytes verdict.ChecksumCut) reason.HeaderCut) { icmp = i }) clean
+
+options-cut : (o : Option TcpHeader) (f : FrameFields) (bytes : List ℕ) (header_len n : ℕ) (why : Reason) (v : Verdict) → f.icmp ≡ no_icmp
     → IsCutOf (rejected_transport (with_tcp_fields f bytes verdict.ChecksumCut) reason.HeaderCut) (shape o (with_tcp_fields f bytes v) header_len n why)
-options-cut None f bytes header_len n why v = inr (options, record { reason = refl; fields = refl })
-options-cut (Some x) f bytes header_len n why v = inr (options, record { reason = refl; fields = refl })
+options-cut None f bytes header_len n why v clean = inr (options, record { reason = refl; fields = options-fields f bytes clean })
+options-cut (Some x) f bytes header_len n why v clean = inr (options, record { reason = refl; fields = options-fields f bytes clean })
 
 -- value and fault are those of the whole segment
 both : (f : FrameFields) (src dst : IpAddress) (bytes rest : List ℕ) (o : Option TcpHeader) (why : Reason) → 20 ≤ length bytes → f.payload_len ≡ length (bytes ++ rest)
@@ -179,7 +184,7 @@ both : (f : FrameFields) (src dst : IpAddress) (bytes rest : List ℕ) (o : Opti
     → IsCutOf (cut_tcp f src dst bytes) (with_tcp f src dst (bytes ++ rest))
 both f src dst bytes rest o why h len found found2 fault fault2 =
     cut-as _ _ _ _ (part-shape f src dst bytes o why h found fault) (whole-shape f src dst bytes rest o why h len found2 fault2)
-    (inl (only-verdict o f bytes (tcp.header_len bytes) (f.payload_len - tcp.header_len bytes) why (tcp_verdict src dst (bytes ++ rest))))
+    (inl (inl (only-verdict o f bytes (tcp.header_len bytes) (f.payload_len - tcp.header_len bytes) why (tcp_verdict src dst (bytes ++ rest)))))
 
 -- the header itself was not captured
 tcp-cut : (f : FrameFields) (src dst : IpAddress) (bytes : List ℕ) → f ≡ before transport_header f → f.payload_len ≡ length bytes
@@ -215,10 +220,10 @@ tests bad ports control short =
     else reason.BadOptions
 
 -- the options are cut off, by the tests before
-options-by : (f : FrameFields) (src dst : IpAddress) (bytes rest : List ℕ) (ports : Bool) (control : Option TcpControl) → 20 ≤ length bytes → length bytes < tcp.header_len bytes
+options-by : (f : FrameFields) (src dst : IpAddress) (bytes rest : List ℕ) (ports : Bool) (control : Option TcpControl) → f.icmp ≡ no_icmp → 20 ≤ length bytes → length bytes < tcp.header_len bytes
     → tcp.header_len bytes ≤ length bytes + length rest → f.payload_len ≡ length (bytes ++ rest) → (field bytes 0 16 == 0 || (field bytes 16 16 == 0)) ≡ ports → control_of bytes ≡ control
     → IsCutOf (cut_tcp f src dst bytes) (with_tcp f src dst (bytes ++ rest))
-options-by f src dst bytes rest ports control h cut fits len port flags =
+options-by f src dst bytes rest ports control clean h cut fits len port flags =
     let all = bytes ++ rest in
     let size = longer bytes rest in
     let hl = tcp.header_len bytes in
@@ -255,7 +260,7 @@ options-by f src dst bytes rest ports control h cut fits len port flags =
     by false (Some c) port flags bad here there none =
         cut-as _ _ _ _ (part-shape f src dst bytes None reason.HeaderCut h none (here ∙ decided f.payload_len true false false (Some c) bad port flags))
         (whole-shape f src dst bytes rest _ _ h len refl refl)
-        (options-cut (tcp_of src dst false (bytes ++ rest)) f bytes (tcp.header_len bytes) (f.payload_len - tcp.header_len bytes) (tcp_fault (bytes ++ rest) f.payload_len) (tcp_verdict src dst (bytes ++ rest)))
+        (options-cut (tcp_of src dst false (bytes ++ rest)) f bytes (tcp.header_len bytes) (f.payload_len - tcp.header_len bytes) (tcp_fault (bytes ++ rest) f.payload_len) (tcp_verdict src dst (bytes ++ rest)) clean)
 
 pub cut-tcp : (f : FrameFields) (src dst : IpAddress) (bytes rest : List ℕ) → f ≡ before transport_header f → f.payload_len ≡ length (bytes ++ rest)
     → IsCutOf (cut_tcp f src dst bytes) (with_tcp f src dst (bytes ++ rest))
@@ -280,7 +285,7 @@ cut-tcp f src dst bytes rest fresh len =
               both f src dst bytes rest None reason.BadLength h len
               (unsound src dst bytes (ap (λ (b : Bool). sound-by b (field bytes 0 16) (field bytes 16 16)) one))
               (unsound src dst all (ap (λ (b : Bool). sound-by b (field all 0 16) (field all 16 16)) two)) here there
-          | inr fits ↦ options-by f src dst bytes rest _ _ h cut (omega (arith, len, size, fits)) len refl refl
+          | inr fits ↦ options-by f src dst bytes rest _ _ (ap (λ (g : FrameFields). g.icmp) fresh) h cut (omega (arith, len, size, fits)) len refl refl
         ]
       ]
     ]

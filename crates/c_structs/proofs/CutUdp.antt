@@ -142,7 +142,7 @@ udp-part f src dst bytes rest h cut whole =
     cut-as _ _ _ _ refl
     (udp-whole f src dst all (omega (arith, size, h)) lengths
     ∙ shape-front f bytes rest (udp_verdict src dst all) _ _ (udp.packet_len bytes - 8) h found payload)
-    (inl (only-verdict f bytes (field bytes 16 16 == 0) (udp.packet_len bytes - 8) _ _ (cut-verdict (field bytes 48 16 == 0) (zero_udp_verdict src) _)))
+    (inl (inl (only-verdict f bytes (field bytes 16 16 == 0) (udp.packet_len bytes - 8) _ _ (cut-verdict (field bytes 48 16 == 0) (zero_udp_verdict src) _))))
 
 -- the header itself was not captured
 udp-cut : (f : FrameFields) (src dst : IpAddress) (bytes : List ℕ) → f ≡ before transport_header f → f.payload_len ≡ length bytes

@@ -28,7 +28,7 @@ use Rattle.ip_wire.specs.declared.IpProtocol.TheVariants as protocol
 use Rattle.wire_checksum.proofs.Parts.{slice_range-take}
 use Rattle.c_structs.proofs.CutBytes.{field-front}
 use Rattle.c_structs.proofs.StoredHeaders.{is-headed}
-use Rattle.c_structs.specs.FrameFields.{after_header, fields_of, nothing_of, rejected, rejected_transport, tcp_fault, udp_fault, with_carried, with_fragment_by, with_frame, with_ipv4_header, with_ipv6_header, with_message, with_payload, with_tcp_header, with_transport_by, with_udp_header}
+use Rattle.c_structs.specs.FrameFields.{after_header, fields_of, nothing_of, rejected, rejected_transport, tcp_fault, udp_fault, with_carried, with_fragment_by, with_frame, with_ipv4_header, with_ipv6_header, with_message, with_payload, with_tcp_header, with_transport_by, with_udp_header, has_message, icmp_verdict, with_icmp}
 use Rattle.c_structs.specs.FrameOptions.{header_in}
 use Rattle.c_structs.specs.Stored.{Locates, headed, linked}
 use Rattle.c_structs.specs.TcpOptions.{ReadsItems}
@@ -115,7 +115,9 @@ transport-placed f protocol.Tcp src dst frame bytes new at =
     (λ u is. let reads = (tcp_of-Reads src dst false bytes u).0 is in
     record { header = λ e. segment-header _ frame bytes f.payload_offset f.payload_len reads.options.items reads.options.tail at.len at.octets refl refl refl reads.lengths reads.options.list })
     (no-header (rejected_transport next (tcp_fault bytes (length bytes))) frame refl))
-transport-placed f p src dst frame bytes new at = no-header f frame new
+transport-placed f p src dst frame bytes new at =
+    let next = with_icmp f bytes (icmp_verdict src dst bytes) in
+    by-test (has_message p src bytes) next f frame (other next frame 3 refl (λ e. absurd (omega (arith, e)))) (no-header f frame new)
 
 message-placed : (f : FrameFields) (w : ArpRepr) (frame : List ℕ) → f.transport ≡ 0 → Places (with_message f w) frame
 message-placed f (EthernetIpv4 operation source_hardware source_protocol target_hardware target_protocol) frame new = no-header _ frame new

@@ -18,7 +18,7 @@ use Rattle.ip_wire.specs.declared.EthernetProtocol.TheVariants as ethertype
 use Rattle.ip_wire.specs.declared.IpProtocol.TheVariants as protocol
 use Rattle.c_structs.proofs.FieldsOf.{packet_fields_of-some}
 use Rattle.c_structs.proofs.StoredHeaders.{fields_of-linked}
-use Rattle.c_structs.specs.FrameFields.{bare_of, after_header, fields_of, ipv4_fault, ipv6_fault, packet_fields_of, rejected, rejected_transport, tcp_fault, udp_fault, with_carried, with_fragment_by, with_fragment_header, with_ipv4, with_ipv4_header, with_ipv6, with_ipv6_header, with_packet, with_payload, with_tcp, with_tcp_header, with_transport_by, with_udp, with_udp_header}
+use Rattle.c_structs.specs.FrameFields.{bare_of, after_header, fields_of, ipv4_fault, ipv6_fault, packet_fields_of, rejected, rejected_transport, tcp_fault, udp_fault, with_carried, with_fragment_by, with_fragment_header, with_ipv4, with_ipv4_header, with_ipv6, with_ipv6_header, with_packet, with_payload, with_tcp, with_tcp_header, with_transport_by, with_udp, with_udp_header, has_message, icmp_verdict, with_icmp}
 use Rattle.c_structs.specs.Stored.{IsTypeOf, in_frame, linked}
 use Rattle.c_structs.specs.declared.codes.Reason.TheVariants as reason
 use Rattle.c_structs.specs.declared.types.FrameFields.{FrameFields}
@@ -40,7 +40,7 @@ stepped v f header_len len =
     let same : f.payload_offset + 14 + header_len ≡ f.payload_offset + header_len + 14 = omega arith in
     ap (λ (n : ℕ). record (in_frame v (after_header f header_len len)) { payload_offset = n }) same
 
--- ---- UDP and TCP
+-- ---- UDP, TCP and ICMP
 
 udp-in : (v : EthernetRepr) (f : FrameFields) (src dst : IpAddress) (bytes : List ℕ) → with_udp (in_frame v f) src dst bytes ≡ in_frame v (with_udp f src dst bytes)
 udp-in v f src dst bytes =
@@ -60,7 +60,10 @@ transport-in : (v : EthernetRepr) (f : FrameFields) (p : IpProtocol) (src dst : 
     → with_transport_by (in_frame v f) p src dst bytes ≡ in_frame v (with_transport_by f p src dst bytes)
 transport-in v f protocol.Udp src dst bytes = udp-in v f src dst bytes
 transport-in v f protocol.Tcp src dst bytes = tcp-in v f src dst bytes
-transport-in v f p src dst bytes = refl
+transport-in v f p src dst bytes =
+    let w = icmp_verdict src dst bytes in
+    let same : f.payload_offset + 14 + 8 ≡ f.payload_offset + 8 + 14 = omega arith in
+    chosen v (has_message p src bytes) (with_icmp f bytes w) f _ _ (ap (λ (n : ℕ). record (in_frame v (with_icmp f bytes w)) { payload_offset = n }) same) refl
 
 payload-in : (v : EthernetRepr) (f g : FrameFields) (w : IpRepr) (bytes : List ℕ) → g ≡ in_frame v f → with_payload g w bytes ≡ in_frame v (with_payload f w bytes)
 payload-in v f g w bytes is = ap (λ (h : FrameFields). with_payload h w bytes) is ∙ transport-in v f (next_header_of w) (src_addr_of w) (dst_addr_of w) bytes

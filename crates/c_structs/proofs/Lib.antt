@@ -5,6 +5,7 @@ mod CutBytes
 pub mod CutFrame
 mod CutIpv4
 mod CutIpv6
+mod CutMessage
 pub mod CutOf
 mod CutTcp
 mod CutUdp
@@ -20,6 +21,7 @@ pub mod InFrame
 mod Ipv4Words
 mod Ipv6Put
 mod Ipv6Words
+mod Messages
 mod Numbered
 mod RejectedApart
 mod Steps

@@ -19,7 +19,7 @@ use Rattle.ip_wire.specs.declared.ArpRepr.TheVariants.{EthernetIpv4}
 use Rattle.ip_wire.specs.declared.EthernetProtocol.TheVariants as ethertype
 use Rattle.ip_wire.specs.declared.IpProtocol.TheVariants as protocol
 use Rattle.c_structs.proofs.StoredParts.{IsFault, tcp-faulty, udp-faulty}
-use Rattle.c_structs.specs.FrameFields.{after_header, fields_of, nothing_of, rejected, rejected_transport, tcp_fault, udp_fault, with_carried, with_fragment_by, with_fragment_header, with_frame, with_ipv4_header, with_ipv6_header, with_message, with_payload, with_tcp_header, with_transport_by, with_udp_header}
+use Rattle.c_structs.specs.FrameFields.{after_header, fields_of, nothing_of, rejected, rejected_transport, tcp_fault, udp_fault, with_carried, with_fragment_by, with_fragment_header, with_frame, with_ipv4_header, with_ipv6_header, with_message, with_payload, with_tcp_header, with_transport_by, with_udp_header, has_message, icmp_verdict, with_icmp}
 use Rattle.c_structs.specs.Stored.{linked}
 use Rattle.c_structs.specs.declared.codes.Reason.{Reason}
 use Rattle.c_structs.specs.declared.codes.Reason.TheVariants as reason
@@ -70,7 +70,8 @@ transport-apart f protocol.Tcp src dst bytes n =
     by-test (nat_lt (length bytes) 20) (rejected f reason.TooShort) _ (early f reason.TooShort n.transport n.rejected)
     (by-value (tcp_of src dst false bytes) (λ u. after_header next (tcp.header_len bytes) (length (tcp.payload_of bytes))) (rejected_transport next (tcp_fault bytes (length bytes)))
     (λ u. stored (after_header next (tcp.header_len bytes) (length (tcp.payload_of bytes))) n.reason n.rejected) (late next (tcp_fault bytes (length bytes)) (tcp-faulty bytes (length bytes))))
-transport-apart f p src dst bytes n = same f n
+transport-apart f p src dst bytes n =
+    let next = with_icmp f bytes (icmp_verdict src dst bytes) in by-test (has_message p src bytes) next f (stored next n.reason n.rejected) (same f n)
 
 fragment-new : (f : FrameFields) (p : IpProtocol) (bytes : List ℕ) → IsNew f → IsNew (with_fragment_by f p bytes)
 fragment-new f protocol.Ipv6Frag bytes n = either (nat_lt (length bytes) 8)

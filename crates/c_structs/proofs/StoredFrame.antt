@@ -23,7 +23,7 @@ use Rattle.ip_wire.specs.declared.EthernetProtocol.TheVariants as ethertype
 use Rattle.ip_wire.specs.declared.IpProtocol.TheVariants as protocol
 use Rattle.c_structs.proofs.StoredHeaders.{fields_of-linked, is-headed, is-transported, other-chosen, with_transport_by-read}
 use Rattle.c_structs.specs.Codes.{verdict_code}
-use Rattle.c_structs.specs.FrameFields.{fields_of, udp_verdict, with_carried, with_fragment_by, with_ipv4_header, with_ipv6_header, with_message, with_payload}
+use Rattle.c_structs.specs.FrameFields.{fields_of, udp_verdict, with_carried, with_fragment_by, with_ipv4_header, with_ipv6_header, with_message, with_payload, has_message, icmp_verdict, with_icmp}
 use Rattle.c_structs.specs.declared.codes.Verdict.{Verdict}
 use Rattle.c_structs.specs.declared.codes.Verdict.TheVariants as verdict
 use Rattle.ip_wire.specs.Field.{field}
@@ -79,10 +79,14 @@ record KeepsHeader (f g : FrameFields) : Type 0 where
   checksum : g.ipv4_checksum ≡ f.ipv4_checksum
   ip : g.ip ≡ f.ip
 
-kept : (f : FrameFields) (src dst : IpAddress) (bytes : List ℕ) (t : Transport) → KeepsHeader f (transported f src dst bytes t)
-kept f src dst bytes (datagram u q) = record { network = refl; checksum = refl; ip = refl }
-kept f src dst bytes (segment u q) = record { network = refl; checksum = refl; ip = refl }
-kept f src dst bytes (other q) = record { network = refl; checksum = refl; ip = refl }
+message-kept : (a : Bool) (f : FrameFields) (q : List ℕ) (v : Verdict) → KeepsHeader f (if a then with_icmp f q v else f)
+message-kept true f q v = record { network = refl; checksum = refl; ip = refl }
+message-kept false f q v = record { network = refl; checksum = refl; ip = refl }
+
+kept : (f : FrameFields) (p : IpProtocol) (src dst : IpAddress) (bytes : List ℕ) (t : Transport) → KeepsHeader f (transported f p src dst bytes t)
+kept f p src dst bytes (datagram u q) = record { network = refl; checksum = refl; ip = refl }
+kept f p src dst bytes (segment u q) = record { network = refl; checksum = refl; ip = refl }
+kept f p src dst bytes (other q) = message-kept (has_message p src q) f q (icmp_verdict src dst q)
 
 -- the header of a packet that is no fragment
 plain : (bytes : List ℕ) (w : IpRepr) → ReadsPacket unchecked bytes w → ReadsHeader bytes false w
@@ -97,7 +101,7 @@ stores-struct frame v (packet w t) r =
     let (type, header, inner) = r.reads_carried in
     let h = is-headed frame v w (plain (drop 14 frame) w header) in
     let d = is-transported (headed frame v w) (next_header_of w) (src_addr_of w) (dst_addr_of w) frame bytes t h.payload inner in
-    let k = kept (headed frame v w) (src_addr_of w) (dst_addr_of w) bytes t in
+    let k = kept (headed frame v w) (next_header_of w) (src_addr_of w) (dst_addr_of w) bytes t in
     record { fields = refl; values = (ap (λ (i : Ip). i.protocol) k.ip ∙ h.protocol, d.values); payload = d.payload }
 
 -- the struct of a frame that is parsed whole stores its values
@@ -164,13 +168,18 @@ packet-verdict caps frame v (Ipv6 w) r =
     let is : (headed frame v (Ipv6 w)).network ≡ 3 = fragment-network (with_ipv6_header (linked frame v) (drop 14 frame) w) w.next_header (ipv6.payload_of (drop 14 frame)) in
     (λ s on net. absurd (omega (arith, net, is)), λ h. r)
 
+-- an ICMP message is neither UDP nor TCP
+other-named : (a : Bool) (f : FrameFields) (q : List ℕ) (v : Verdict) (n : ℕ) → f.transport ≡ 0 → n ≢ 0 → n ≢ 3 → (if a then with_icmp f q v else f).transport ≢ n
+other-named true f q v n none zero icmp is = icmp (sym is)
+other-named false f q v n none zero icmp is = zero (sym is ∙ none)
+
 -- the verdict on what a packet carries
 transport-verdict : (caps : ChecksumCapabilities) (f : FrameFields) (p : IpProtocol) (src dst : IpAddress) (bytes : List ℕ) (t : Transport) → f.transport ≡ 0
     → ReadsTransportBy unchecked p src dst bytes t
     → ReadsTransportBy caps p src dst bytes t
-    ↔ ((IsTrue (verifies caps.udp) → (transported f src dst bytes t).transport ≡ 1
-    → ((transported f src dst bytes t).transport_checksum ≡ 1) ⊎ ((transported f src dst bytes t).transport_checksum ≡ 3))
-    × (IsTrue (verifies caps.tcp) → (transported f src dst bytes t).transport ≡ 2 → (transported f src dst bytes t).transport_checksum ≡ 1))
+    ↔ ((IsTrue (verifies caps.udp) → (transported f p src dst bytes t).transport ≡ 1
+    → ((transported f p src dst bytes t).transport_checksum ≡ 1) ⊎ ((transported f p src dst bytes t).transport_checksum ≡ 3))
+    × (IsTrue (verifies caps.tcp) → (transported f p src dst bytes t).transport ≡ 2 → (transported f p src dst bytes t).transport_checksum ≡ 1))
 transport-verdict caps f p src dst bytes (datagram u q) none (is, r) =
     let stored = stored-verdict src dst bytes r.lengths in
     rw stored (
@@ -182,7 +191,13 @@ transport-verdict caps f p src dst bytes (segment u q) none (is, r) = (
   λ h. (is, tcp_changed.reads-verified bytes src dst src dst false (verifies caps.tcp) u q r (λ on. (sum-is _ _ (partial-not-right (field bytes 128 16 == tcp_bytes.pseudo_header_sum src dst bytes))).0 (h.1 on refl))),
 )
 transport-verdict caps f p src dst bytes (other q) none r =
-    (λ s. (λ on net. absurd (omega (arith, none, net)), λ on net. absurd (omega (arith, none, net))), λ h. r)
+    let not = λ (n : ℕ) (zero : n ≢ 0) (icmp : n ≢ 3). other-named (has_message p src q) f q (icmp_verdict src dst q) n none zero icmp in (
+      λ s. (
+        λ on net. absurd (not 1 (λ e. omega (arith, e)) (λ e. omega (arith, e)) net),
+        λ on net. absurd (not 2 (λ e. omega (arith, e)) (λ e. omega (arith, e)) net),
+      ),
+      λ h. r,
+    )
 
 -- an ARP packet has no checksum
 message-verdicts : (caps : ChecksumCapabilities) (frame : List ℕ) (v : EthernetRepr) (w : ArpRepr) → ReadsFrame unchecked frame v (message w)
@@ -200,7 +215,7 @@ verdicts-read caps frame v (packet w t) r =
     let (type, header, inner) = r.reads_carried in
     let f = headed frame v w in
     let bytes = packet_payload w (drop 14 frame) in
-    let k = kept f (src_addr_of w) (dst_addr_of w) bytes t in
+    let k = kept f (next_header_of w) (src_addr_of w) (dst_addr_of w) bytes t in
     let h = is-headed frame v w (plain (drop 14 frame) w header) in
     let network = packet-verdict caps frame v w header in
     let transport = transport-verdict caps f (next_header_of w) (src_addr_of w) (dst_addr_of w) bytes t h.transport inner in

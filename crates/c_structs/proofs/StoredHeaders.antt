@@ -1,9 +1,9 @@
 -- The struct of a frame has the values of each header, and locates what follows it.
-use Rattle.std.proofs.Common.{ℕ, ◌≡◌, ◌≢◌, ◌∙◌, ◌↔◌, ◌≤◌, ◌<◌, ◌+◌, ◌-◌, ◌/◌, ◌%◌, ◌==◌, nat_lt, if◌then◌else◌, Bool, true, false, IsSome, IfSome, List, Some, None, drop, take, length, slice_range, refl, sym, ap, subst, arith}
+use Rattle.std.proofs.Common.{ℕ, ◌≡◌, ◌≢◌, ◌∙◌, ◌↔◌, ◌≤◌, ◌<◌, ◌+◌, ◌-◌, ◌/◌, ◌%◌, ◌==◌, ◌&&◌, nat_le, nat_lt, if◌then◌else◌, Bool, true, false, IsSome, IfSome, List, Some, None, drop, take, length, slice_range, refl, sym, ap, subst, arith}
 use Rattle.std.proofs.lemmas.Bool.{eqb-true}
 use Rattle.std.proofs.lemmas.Bool.Decides.{nat_tests}
 use Rattle.std.proofs.lemmas.Grind.{common_steps}
-use Rattle.std.proofs.lemmas.List.{drop-drop, drop-take, take-take}
+use Rattle.std.proofs.lemmas.List.{drop-drop, drop-take, length-drop, take-take, take_all}
 use Rattle.ip_wire.proofs.EthernetComputed.{ethernet_of-Reads}
 use Rattle.ip_wire.proofs.Layers.{length-part}
 use Rattle.ip_wire.proofs.Numbers.{protocol_number}
@@ -11,7 +11,7 @@ use Rattle.ip_wire.proofs.TcpComputed.{tcp_of-Reads}
 use Rattle.ip_wire.proofs.UdpComputed.{udp_of-Reads}
 use Rattle.ip_wire.specs.Ethernet as ethernet
 use Rattle.ip_wire.specs.Field.{field}
-use Rattle.ip_wire.specs.Frame.{ReadsTransportBy, Transport, datagram, describe_transport, ipv4_payload, other, packet_payload, segment}
+use Rattle.ip_wire.specs.Frame.{ReadsTransportBy, Transport, datagram, ipv4_payload, other, packet_payload, segment}
 use Rattle.ip_wire.specs.Ip.{ReadsHeader}
 use Rattle.ip_wire.specs.Ipv4 as ipv4
 use Rattle.ip_wire.specs.Ipv6 as ipv6
@@ -27,9 +27,10 @@ use Rattle.ip_wire.specs.declared.IpProtocol.TheVariants as protocol
 use Rattle.ip_wire.specs.declared.Ipv6FragmentRepr.{Ipv6FragmentRepr}
 use Rattle.ip_wire.specs.declared.TcpControl.{TcpControl}
 use Rattle.ip_wire.specs.declared.TcpControl.TheVariants as control
-use Rattle.c_structs.specs.FrameFields.{fields_of, with_carried, with_fragment_by, with_fragment_header, with_ipv6_header, with_transport_by}
-use Rattle.c_structs.specs.Stored.{HasFlag, HasProtocol, HasTransport, Locates, headed, linked, transported, unchecked}
+use Rattle.c_structs.specs.FrameFields.{fields_of, with_carried, with_fragment_by, with_fragment_header, with_ipv6_header, with_transport_by, has_message, icmp_verdict, is_icmp, with_icmp, with_message_by}
+use Rattle.c_structs.specs.Stored.{HasFlag, HasProtocol, HasTransport, Locates, headed, linked, payload_after, transported, unchecked}
 use Rattle.c_structs.specs.declared.types.FrameFields.{FrameFields}
+use Rattle.c_structs.specs.declared.codes.Verdict.{Verdict}
 
 -- ---- payloads
 
@@ -160,19 +161,20 @@ udp-read src dst verified bytes payload u r = (udp_of-Reads src dst verified byt
 tcp-read : (src dst : IpAddress) (verified : Bool) (bytes payload : List ℕ) (u : TcpHeader) → tcp.Reads bytes src dst verified u payload → tcp_of src dst verified bytes ≡ Some u
 tcp-read src dst verified bytes payload u r = (tcp_of-Reads src dst verified bytes u).1 (subst (λ q. tcp.Reads bytes src dst verified u q) r.body r)
 
-with_transport_by-other : (f : FrameFields) (p : IpProtocol) (src dst : IpAddress) (bytes : List ℕ) → p ≢ protocol.Udp → p ≢ protocol.Tcp → with_transport_by f p src dst bytes ≡ f
+pub with_transport_by-other : (f : FrameFields) (p : IpProtocol) (src dst : IpAddress) (bytes : List ℕ) → p ≢ protocol.Udp → p ≢ protocol.Tcp
+    → with_transport_by f p src dst bytes ≡ with_message_by f p src dst bytes
 with_transport_by-other f protocol.Udp src dst bytes n k = absurd (n refl)
 with_transport_by-other f protocol.Tcp src dst bytes n k = absurd (k refl)
 with_transport_by-other f _ src dst bytes n k = refl
 
 -- the struct after a transport header that is read
 pub with_transport_by-read : (f : FrameFields) (p : IpProtocol) (src dst : IpAddress) (bytes : List ℕ) (t : Transport) → ReadsTransportBy unchecked p src dst bytes t
-    → with_transport_by f p src dst bytes ≡ transported f src dst bytes t
+    → with_transport_by f p src dst bytes ≡ transported f p src dst bytes t
 with_transport_by-read f p src dst bytes (datagram u q) (is, r) =
     rw (is, udp-read src dst false bytes q u r, r.body) (other-chosen (nat_lt (length bytes) 8) _ _ (not-short (length bytes) 8 r.lengths.least))
 with_transport_by-read f p src dst bytes (segment u q) (is, r) =
     rw (is, tcp-read src dst false bytes q u r, r.body) (other-chosen (nat_lt (length bytes) 20) _ _ (not-short (length bytes) 20 r.lengths.least))
-with_transport_by-read f p src dst bytes (other q) (n, k, is) = with_transport_by-other f p src dst bytes n k
+with_transport_by-read f p src dst bytes (other q) (n, k, is) = with_transport_by-other f p src dst bytes n k ∙ ap (with_message_by f p src dst) (sym is)
 
 -- the flags of a segment, by the byte that holds them
 control-flag : (bytes : List ℕ) (c : TcpControl) → HasControl bytes c → HasFlag (field bytes 104 8) c
@@ -193,13 +195,32 @@ ack-some false n = (λ some. absurd (cc), λ e. absurd (cc))
 ack-flag : (bytes : List ℕ) → ((field bytes 107 1 == 1) ≡ true) ↔ (field bytes 104 8 / 16 % 2 ≡ 1)
 ack-flag bytes = (λ e. let is : field bytes 107 1 ≡ 1 = eqb-true _ 1 e in omega (arith, is), λ e. let is : field bytes 107 1 ≡ 1 = omega (arith, e) in rw is refl)
 
+-- the header of a message is there
+pub header-there : (a : Bool) (n : ℕ) → (a && nat_le 8 n) ≡ true → 8 ≤ n
+header-there true n e = grind (arith, nat_tests)
+header-there false n e = absurd (cc)
+
+-- the payload follows the header of a message, if there is one
+message-found : (a : Bool) (f : FrameFields) (v : Verdict) (frame bytes : List ℕ) → (a ≡ true → 8 ≤ length bytes) → Locates f frame bytes
+    → Locates (if a then with_icmp f bytes v else f) frame (if a then drop 8 bytes else bytes)
+message-found true f v frame bytes header d =
+    let least = header refl in
+    let size = length-drop 8 bytes in
+    let len : f.payload_len - 8 ≡ length (drop 8 bytes) = omega (arith, d.len, size) in
+    record {
+      len = len;
+      octets = inner-found frame bytes (drop 8 bytes) f.payload_offset f.payload_len 8 (f.payload_len - 8) d.len d.octets (omega (arith, size, least))
+          (take_all (length (drop 8 bytes)) (drop 8 bytes) (omega arith)) len;
+    }
+message-found false f v frame bytes header d = d
+
 -- the struct after a transport header has its values, and locates its payload
-pub record IsTransported (f : FrameFields) (frame : List ℕ) (t : Transport) : Type 0 where
+pub record IsTransported (f : FrameFields) (p : IpProtocol) (src : IpAddress) (frame : List ℕ) (t : Transport) : Type 0 where
   pub values : HasTransport f t
-  pub payload : Locates f frame (describe_transport t).payload
+  pub payload : Locates f frame (payload_after p src t)
 
 pub is-transported : (f : FrameFields) (p : IpProtocol) (src dst : IpAddress) (frame bytes : List ℕ) (t : Transport) → Locates f frame bytes
-    → ReadsTransportBy unchecked p src dst bytes t → IsTransported (transported f src dst bytes t) frame t
+    → ReadsTransportBy unchecked p src dst bytes t → IsTransported (transported f p src dst bytes t) p src frame t
 is-transported f p src dst frame bytes (datagram u q) d (is, r) =
     let all = r.lengths.whole in
     let least = r.lengths.header in
@@ -234,4 +255,7 @@ is-transported f p src dst frame bytes (segment u q) d (is, r) =
             (grind (arith, common_steps)) (grind (arith, common_steps)) refl);
       };
     }
-is-transported f p src dst frame bytes (other q) d (n, k, is) = record { values = tt; payload = rw is d }
+is-transported f p src dst frame bytes (other q) d (n, k, is) = record {
+  values = tt;
+  payload = message-found (has_message p src q) f (icmp_verdict src dst q) frame q (header-there (is_icmp p src) (length q)) (subst (Locates f frame) (sym is) d);
+}

@@ -29,13 +29,14 @@ use Rattle.ip_wire.specs.declared.ArpRepr.TheVariants.{EthernetIpv4}
 use Rattle.c_structs.proofs.StoredFrame.{chosen-network, fragment-network, with_carried-choice, with_carried-ipv4, with_carried-ipv6}
 use Rattle.c_structs.proofs.StoredHeaders.{fields_of-linked, first-chosen, is-headed, rest-found}
 use Rattle.c_structs.specs.Codes.{reason_code}
-use Rattle.c_structs.specs.FrameFields.{arp_fault, after_header, fields_of, ipv4_fault, ipv6_fault, rejected, rejected_transport, tcp_fault, udp_fault, with_arp, with_carried, with_fragment_by, with_ipv4, with_ipv4_header, with_ipv6, with_ipv6_header, with_message, with_payload, with_tcp_header, with_transport_by, with_udp_header}
+use Rattle.c_structs.specs.FrameFields.{arp_fault, after_header, fields_of, ipv4_fault, ipv6_fault, rejected, rejected_transport, tcp_fault, udp_fault, with_arp, with_carried, with_fragment_by, with_ipv4, with_ipv4_header, with_ipv6, with_ipv6_header, with_message, with_payload, with_tcp_header, with_transport_by, with_udp_header, has_message, icmp_verdict, with_icmp}
 use Rattle.c_structs.specs.Stored.{StoresFragment, StoresRejected, StoresRejectedBy, StoresUnread, headed, linked, network_fault, unchecked}
 use Rattle.c_structs.specs.Written.{flag}
 use Rattle.c_structs.specs.declared.codes.Reason.{Reason}
 use Rattle.c_structs.specs.declared.codes.Reason.TheVariants as reason
 use Rattle.c_structs.specs.declared.types.FrameFields.{FrameFields}
 use Rattle.c_structs.specs.declared.types.Ip.{Ip}
+use Rattle.c_structs.specs.declared.codes.Verdict.{Verdict}
 
 -- ---- faults
 
@@ -206,6 +207,11 @@ rejected-by true o f g h read fault = refl
 rejected-by false None f g h read fault = refl
 rejected-by false (Some a) f g h read fault = absurd (fault read)
 
+-- an ICMP message is not rejected
+message-reason : (a : Bool) (f : FrameFields) (bytes : List ℕ) (v : Verdict) → (if a then with_icmp f bytes v else f).reason ≡ f.reason
+message-reason true f bytes v = refl
+message-reason false f bytes v = refl
+
 -- what is stored of a transport header that is rejected, and what is not
 record IsRejected (f g : FrameFields) (p : IpProtocol) (src dst : IpAddress) (bytes : List ℕ) : Type 0 where
   stores : StoresRejectedBy p g f src dst bytes
@@ -227,7 +233,7 @@ is-rejected f protocol.Tcp src dst bytes read fault =
       stores = is;
       keeps = rw is (kept-payload (nat_lt (length bytes) 20) f _ _ (record { part = refl; ip = refl; offset = refl; len = refl }) (record { part = refl; ip = refl; offset = refl; len = refl }));
     }
-is-rejected f p src dst bytes read fault = absurd (fault read)
+is-rejected f p src dst bytes read fault = absurd (fault (message-reason (has_message p src bytes) f bytes (icmp_verdict src dst bytes) ∙ read))
 
 -- no header after a fragment header is rejected
 rejected-part : (f g headers : FrameFields) (p : IpProtocol) (src dst : IpAddress) (bytes payload : List ℕ) → StoresRejectedBy p g headers src dst bytes → with_fragment_by f p payload ≡ f
@@ -285,7 +291,7 @@ kept-network false (Some v) f g h why a c = a
 between-network : (f : FrameFields) (p : IpProtocol) (src dst : IpAddress) (bytes : List ℕ) → (with_transport_by f p src dst bytes).network ≡ f.network
 between-network f protocol.Udp src dst bytes = kept-network (nat_lt (length bytes) 8) (udp_of src dst false bytes) f (after_header (with_udp_header f src dst bytes) 8 (length (udp.payload_of bytes))) (with_udp_header f src dst bytes) (udp_fault bytes) refl refl
 between-network f protocol.Tcp src dst bytes = kept-network (nat_lt (length bytes) 20) (tcp_of src dst false bytes) f (after_header (with_tcp_header f src dst bytes) (tcp_bytes.header_len bytes) (length (tcp_bytes.payload_of bytes))) (with_tcp_header f src dst bytes) (tcp_fault bytes (length bytes)) refl refl
-between-network f p src dst bytes = refl
+between-network f p src dst bytes = chosen-network (has_message p src bytes) (with_icmp f bytes (icmp_verdict src dst bytes)) f f.network refl refl
 
 arp-network : (f : FrameFields) (w : ArpRepr) → (with_message f w).network ≡ 0 → ⊥
 arp-network f (EthernetIpv4 operation source_hardware source_protocol target_hardware target_protocol) e = omega (arith, e)

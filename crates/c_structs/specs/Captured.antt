@@ -16,7 +16,7 @@ use Rattle.ip_wire.specs.Types.{EthernetProtocol, EthernetRepr, IpAddress, IpPro
 use Rattle.ip_wire.specs.declared.EthernetProtocol.TheVariants as ethertype
 use Rattle.ip_wire.specs.declared.IpProtocol.TheVariants as protocol
 use Rattle.c_structs.specs.Codes.{reason_code, transport_code, verdict_code}
-use Rattle.c_structs.specs.FrameFields.{bare_of, after_header, cut_udp_verdict, fields_of, ipv4_fault, ipv6_fault, nothing_of, no_tcp, packet_fields_of, rejected, rejected_transport, tcp_fault, with_arp, with_fragment_header, with_ipv4, with_ipv4_fields, with_ipv6, with_ipv6_fields, with_link, with_tcp_fields, with_udp, with_udp_fields}
+use Rattle.c_structs.specs.FrameFields.{bare_of, after_header, cut_udp_verdict, fields_of, has_message, ipv4_fault, ipv6_fault, nothing_of, no_icmp, no_tcp, packet_fields_of, rejected, rejected_transport, tcp_fault, with_arp, with_fragment_header, with_icmp, with_ipv4, with_ipv4_fields, with_ipv6, with_ipv6_fields, with_link, with_tcp_fields, with_udp, with_udp_fields}
 use Rattle.c_structs.specs.declared.codes.Reason.TheVariants as reason
 use Rattle.c_structs.specs.declared.codes.TransportKind.TheVariants as transport
 use Rattle.c_structs.specs.declared.codes.Verdict.TheVariants as verdict
@@ -46,11 +46,12 @@ cut_tcp f src dst bytes =
     option_map_or (λ v. after_header next (tcp.header_len bytes) (f.payload_len - tcp.header_len bytes)) (tcp_of src dst false bytes)
     (rejected_transport next (tcp_fault bytes f.payload_len))
 
--- the fields with those of the payload of a packet of this protocol between two addresses, if it is UDP or TCP
+-- the fields with those of the payload of a packet of this protocol between two addresses, if it is UDP, TCP or ICMP; the
+-- checksum of a message covers all of it, and cannot be verified
 abbrev pub cut_transport_by : FrameFields → IpProtocol → IpAddress → IpAddress → List ℕ → FrameFields
 cut_transport_by f protocol.Udp src dst bytes = cut_udp f src dst bytes
 cut_transport_by f protocol.Tcp src dst bytes = cut_tcp f src dst bytes
-cut_transport_by f _ src dst bytes = f
+cut_transport_by f p src dst bytes = if has_message p src bytes then with_icmp f bytes verdict.ChecksumCut else f
 
 -- the fields with those of the payload of a packet with this header
 abbrev pub cut_payload : FrameFields → IpRepr → List ℕ → FrameFields
@@ -168,11 +169,13 @@ before transport_header g = record g {
   transport = transport_code transport.None;
   rejected = transport_code transport.None;
   transport_checksum = verdict_code verdict.None;
+  icmp = no_icmp;
 }
 before options g = record g {
   transport = transport_code transport.None;
   rejected = transport_code transport.Tcp;
   transport_checksum = verdict_code verdict.ChecksumCut;
+  icmp = no_icmp;
 }
 
 -- a header was cut: the fields before it are those of the whole frame, and the payload begins at it
@@ -185,6 +188,18 @@ pub record HasHeaders (f g : FrameFields) : Type 0 where
   pub checksum : (f.transport_checksum ≡ g.transport_checksum) ⊎ (f.transport_checksum ≡ verdict_code verdict.ChecksumCut)
   pub fields : f ≡ record g { transport_checksum = f.transport_checksum }
 
+-- the header of an ICMP message was cut, and is not rejected: the message is payload
+pub record LacksMessage (f g : FrameFields) : Type 0 where
+  pub named : g.transport ≡ transport_code transport.Icmp
+  pub fields : f ≡ record g {
+    transport_offset = 0;
+    payload_offset = g.transport_offset;
+    payload_len = g.payload_len + 8;
+    transport = transport_code transport.None;
+    transport_checksum = verdict_code verdict.None;
+    icmp = no_icmp;
+  }
+
 -- the fields of a frame of which only a part was captured, by those of the whole frame
 abbrev pub IsCutOf : FrameFields → FrameFields → Type 0
-IsCutOf f g = HasHeaders f g ⊎ ((h : CutHeader) × IsCutAt h f g)
+IsCutOf f g = (HasHeaders f g ⊎ LacksMessage f g) ⊎ ((h : CutHeader) × IsCutAt h f g)

@@ -1,6 +1,6 @@
 -- The values of a frame as the struct of C.
 -- Pinned by: `worked/read`, `worked/options`
-use Rattle.std.specs.Prelude.{ℕ, ◌+◌, ◌*◌, ◌/◌, ◌%◌, ◌==◌, ◌||◌, not, nat_lt, is_none, if◌then◌else◌, false, List, drop, length, replicate, take}
+use Rattle.std.specs.Prelude.{ℕ, ◌+◌, ◌*◌, ◌/◌, ◌%◌, ◌-◌, ◌==◌, ◌&&◌, ◌||◌, not, nat_le, nat_lt, is_none, if◌then◌else◌, Bool, false, List, drop, length, replicate, take}
 use Rattle.std.specs.Option.{option_map_or}
 use Rattle.ip_wire.specs.Arp as arp
 use Rattle.ip_wire.specs.Arp.{arp_of}
@@ -25,6 +25,7 @@ use Rattle.ip_wire.specs.declared.EthernetProtocol.TheVariants as ethertype
 use Rattle.ip_wire.specs.declared.IpAddress.TheVariants as address
 use Rattle.ip_wire.specs.declared.IpProtocol.TheVariants as protocol
 use Rattle.ip_wire.specs.declared.Ipv6FragmentRepr.{Ipv6FragmentRepr}
+use Rattle.wire_icmp.specs.Icmp.{verifies}
 use Rattle.c_structs.specs.Addresses.{endpoint_of, no_endpoint}
 use Rattle.c_structs.specs.Codes.{network_code, reason_code, transport_code, verdict_code}
 use Rattle.c_structs.specs.Written.{flag}
@@ -37,6 +38,7 @@ use Rattle.c_structs.specs.declared.codes.Verdict.TheVariants as verdict
 use Rattle.c_structs.specs.declared.types.Arp.{Arp}
 use Rattle.c_structs.specs.declared.types.Ethernet.{Ethernet}
 use Rattle.c_structs.specs.declared.types.FrameFields.{FrameFields}
+use Rattle.c_structs.specs.declared.types.Icmp.{Icmp}
 use Rattle.c_structs.specs.declared.types.Ip.{Ip}
 use Rattle.c_structs.specs.declared.types.Tcp.{Tcp}
 
@@ -68,6 +70,10 @@ no_ip = record {
 abbrev pub no_tcp : Tcp
 no_tcp = record { seq_number = 0; ack_number = 0; window_len = 0; urgent_at = 0; flags = 0; header_len = 0 }
 
+-- the struct of no ICMP message: zeros
+abbrev pub no_icmp : Icmp
+no_icmp = record { word = 0; msg_type = 0; code = 0 }
+
 -- ---- where the payload begins
 
 -- the struct of a frame of this length of which no header is parsed, because it is too short for the first one
@@ -90,6 +96,8 @@ nothing_of len = record {
   is_fragment = 0;
   ipv4_checksum = verdict_code verdict.None;
   transport_checksum = verdict_code verdict.None;
+  unused = replicate 5 0;
+  icmp = no_icmp;
 }
 
 -- the fields after a header of this length: the payload begins after it, and has this length
@@ -168,7 +176,11 @@ tcp_verdict src dst bytes =
     else if field bytes 128 16 == tcp.pseudo_header_sum src dst bytes then verdict.LeftToDevice
     else verdict.Wrong
 
--- ---- UDP and TCP
+-- what the checksum of an ICMP message says; it covers the whole message, and over IPv6 the pseudo-header too
+abbrev pub icmp_verdict : IpAddress → IpAddress → List ℕ → Verdict
+icmp_verdict src dst bytes = if verifies src dst bytes then verdict.Right else verdict.Wrong
+
+-- ---- UDP, TCP and ICMP
 
 -- the fields with the ports of a transport header, its first 4 bytes
 abbrev pub with_ports : FrameFields → List ℕ → FrameFields
@@ -226,11 +238,38 @@ with_tcp f src dst bytes =
     else let next = with_tcp_header f src dst bytes in
     option_map_or (λ v. after_header next (tcp.header_len bytes) (length (tcp.payload_of bytes))) (tcp_of src dst false bytes) (rejected_transport next (tcp_fault bytes (length bytes)))
 
--- the fields with those of the payload of a packet of this protocol between two addresses, if it is UDP or TCP
+-- whether a packet of this protocol with this source carries ICMP, which has a protocol number for each version
+abbrev pub is_icmp : IpProtocol → IpAddress → Bool
+is_icmp protocol.Icmp src = udp.is_ipv4 src
+is_icmp protocol.Icmpv6 src = not (udp.is_ipv4 src)
+is_icmp _ src = false
+
+-- whether it carries a message with a whole header
+abbrev pub has_message : IpProtocol → IpAddress → List ℕ → Bool
+has_message p src bytes = is_icmp p src && nat_le 8 (length bytes)
+
+-- the values of the header of a message
+abbrev pub icmp_values : List ℕ → Icmp
+icmp_values bytes = record { word = field bytes 32 32; msg_type = field bytes 0 8; code = field bytes 8 8 }
+
+-- the fields with those of the header of a message whose checksum has this verdict; the payload begins after it
+abbrev pub with_icmp : FrameFields → List ℕ → Verdict → FrameFields
+with_icmp f bytes v = let next = after_header f 8 (f.payload_len - 8) in record next {
+  transport_offset = f.payload_offset;
+  transport = transport_code transport.Icmp;
+  transport_checksum = verdict_code v;
+  icmp = icmp_values bytes;
+}
+
+-- the fields with those of an ICMP message in the payload of a packet of this protocol; a shorter one has no header
+abbrev pub with_message_by : FrameFields → IpProtocol → IpAddress → IpAddress → List ℕ → FrameFields
+with_message_by f p src dst bytes = if has_message p src bytes then with_icmp f bytes (icmp_verdict src dst bytes) else f
+
+-- the fields with those of the payload of a packet of this protocol between two addresses, if it is UDP, TCP or ICMP
 abbrev pub with_transport_by : FrameFields → IpProtocol → IpAddress → IpAddress → List ℕ → FrameFields
 with_transport_by f protocol.Udp src dst bytes = with_udp f src dst bytes
 with_transport_by f protocol.Tcp src dst bytes = with_tcp f src dst bytes
-with_transport_by f _ src dst bytes = f
+with_transport_by f p src dst bytes = with_message_by f p src dst bytes
 
 -- the fields with those of the payload of a packet with this header
 abbrev pub with_payload : FrameFields → IpRepr → List ℕ → FrameFields

@@ -2,7 +2,7 @@
 -- Pinned by: `worked/read`
 use Rattle.std.specs.Prelude.{ℕ, ◌≡◌, ◌⊎◌, ◌↔◌, ◌==◌, ◌&&◌, ◌+◌, ◌/◌, ◌%◌, nat_lt, if◌then◌else◌, IfSome, IsSome, IsTrue, List, drop, length, slice_range, ⊤}
 use Rattle.ip_wire.specs.Field.{field}
-use Rattle.ip_wire.specs.Frame.{Carried, Transport, datagram, describe_carried, message, other, packet, packet_payload, segment}
+use Rattle.ip_wire.specs.Frame.{Carried, Transport, datagram, describe_carried, describe_transport, message, other, packet, packet_payload, segment}
 use Rattle.ip_wire.specs.Ip.{dst_addr_of, next_header_of, src_addr_of}
 use Rattle.ip_wire.specs.Ipv6.{payload_of}
 use Rattle.ip_wire.specs.Protocol.{number_of}
@@ -14,7 +14,7 @@ use Rattle.ip_wire.specs.declared.IpProtocol.TheVariants as protocol
 use Rattle.ip_wire.specs.declared.TcpControl.{TcpControl}
 use Rattle.ip_wire.specs.declared.TcpControl.TheVariants as control
 use Rattle.c_structs.specs.Codes.{network_code, transport_code, verdict_code}
-use Rattle.c_structs.specs.FrameFields.{arp_fault, after_header, ipv4_fault, ipv6_fault, nothing_of, rejected, rejected_transport, tcp_fault, udp_fault, with_fragment_by, with_ipv4_header, with_ipv6_header, with_link, with_message, with_tcp_header, with_udp_header}
+use Rattle.c_structs.specs.FrameFields.{arp_fault, after_header, has_message, ipv4_fault, ipv6_fault, nothing_of, rejected, rejected_transport, tcp_fault, udp_fault, with_fragment_by, with_ipv4_header, with_ipv6_header, with_link, with_message, with_message_by, with_tcp_header, with_udp_header}
 use Rattle.c_structs.specs.declared.codes.NetworkKind.TheVariants as network
 use Rattle.c_structs.specs.declared.codes.Reason.{Reason}
 use Rattle.c_structs.specs.declared.codes.Reason.TheVariants as reason
@@ -35,22 +35,25 @@ unchecked = all_are checksum.None
 abbrev pub linked : List ℕ → EthernetRepr → FrameFields
 linked frame v = with_link (nothing_of (length frame)) v (length (drop 14 frame))
 
+-- the struct of a packet after its IP header
+abbrev pub headed_by : FrameFields → List ℕ → IpRepr → FrameFields
+headed_by f bytes (Ipv4 w) = with_ipv4_header f bytes w
+headed_by f bytes (Ipv6 w) = with_fragment_by (with_ipv6_header f bytes w) w.next_header (payload_of bytes)
+
 -- the struct of a frame after its IP header
 abbrev pub headed : List ℕ → EthernetRepr → IpRepr → FrameFields
-headed frame v (Ipv4 w) = with_ipv4_header (linked frame v) (drop 14 frame) w
-headed frame v (Ipv6 w) =
-    let payload = payload_of (drop 14 frame) in with_fragment_by (with_ipv6_header (linked frame v) (drop 14 frame) w) w.next_header payload
+headed frame v w = headed_by (linked frame v) (drop 14 frame) w
 
--- the struct of a frame after a transport header between two addresses, which the bytes begin with
-abbrev pub transported : FrameFields → IpAddress → IpAddress → List ℕ → Transport → FrameFields
-transported f src dst bytes (datagram v payload) = after_header (with_udp_header f src dst bytes) 8 (length payload)
-transported f src dst bytes (segment v payload) = after_header (with_tcp_header f src dst bytes) (tcp.header_len bytes) (length payload)
-transported f src dst bytes (other payload) = f
+-- the struct of a frame after a transport header of this protocol between two addresses, which the bytes begin with
+abbrev pub transported : FrameFields → IpProtocol → IpAddress → IpAddress → List ℕ → Transport → FrameFields
+transported f p src dst bytes (datagram v payload) = after_header (with_udp_header f src dst bytes) 8 (length payload)
+transported f p src dst bytes (segment v payload) = after_header (with_tcp_header f src dst bytes) (tcp.header_len bytes) (length payload)
+transported f p src dst bytes (other payload) = with_message_by f p src dst payload
 
 -- the struct of a frame that parses as a whole
 abbrev pub struct_of : List ℕ → EthernetRepr → Carried → FrameFields
 struct_of frame v (message w) = with_message (linked frame v) w
-struct_of frame v (packet w t) = transported (headed frame v w) (src_addr_of w) (dst_addr_of w) (packet_payload w (drop 14 frame)) t
+struct_of frame v (packet w t) = transported (headed frame v w) (next_header_of w) (src_addr_of w) (dst_addr_of w) (packet_payload w (drop 14 frame)) t
 
 -- the struct of a frame whose UDP header is rejected; the header is stored if all of it is there
 abbrev pub rejected_udp : FrameFields → IpAddress → IpAddress → List ℕ → FrameFields
@@ -105,6 +108,16 @@ abbrev pub HasValues : FrameFields → Carried → Type 0
 HasValues f (message v) = ⊤
 HasValues f (packet v t) = HasProtocol f v × HasTransport f t
 
+-- the payload after a transport header of this protocol, which may be that of an ICMP message
+abbrev pub payload_after : IpProtocol → IpAddress → Transport → List ℕ
+payload_after p src (other payload) = if has_message p src payload then drop 8 payload else payload
+payload_after p src t = (describe_transport t).payload
+
+-- the innermost payload of a frame
+abbrev pub innermost : Carried → List ℕ
+innermost (message v) = (describe_carried (message v)).payload
+innermost (packet w t) = payload_after (next_header_of w) (src_addr_of w) t
+
 -- the payload of the struct is these bytes of the frame
 pub record Locates (f : FrameFields) (frame bytes : List ℕ) : Type 0 where
   pub len : f.payload_len ≡ length bytes
@@ -116,7 +129,7 @@ pub record Locates (f : FrameFields) (frame bytes : List ℕ) : Type 0 where
 pub record Stores (f : FrameFields) (frame : List ℕ) (v : EthernetRepr) (w : Carried) : Type 0 where
   pub fields : f ≡ struct_of frame v w
   pub values : HasValues f w
-  pub payload : Locates f frame (describe_carried w).payload
+  pub payload : Locates f frame (innermost w)
 
 -- the struct stores the headers of an IPv4 fragment, whose payload is not parsed
 pub record StoresFragment (f : FrameFields) (frame : List ℕ) (v : EthernetRepr) (w : Ipv4Repr) : Type 0 where

@@ -15,6 +15,7 @@ ghost use Rattle.c_structs.specs.Captured.{IsCutOf, begun_ipv4, begun_ipv6, capt
 use crate::codes::{Reason, Verdict};
 use crate::faults::{ARP_LEN, ipv4_fault, ipv6_fault, tcp_fault};
 use crate::frame_fields::FRAGMENT_HEADER_LEN;
+use crate::icmp_fields::is_icmp;
 use crate::types::FrameFields;
 use crate::verdicts::cut_udp_verdict;
 use ip_wire::{
@@ -23,6 +24,7 @@ use ip_wire::{
     TCP_HEADER_LEN, TcpPacket, TcpRepr, UDP_HEADER_LEN, UdpPacket,
 };
 use net_base::ChecksumCapabilities;
+use wire_icmp::{ICMP_HEADER_LEN, IcmpPacket};
 
 impl FrameFields {
     /// Stores the values of a frame of `len` bytes of which fewer were captured, up to a header that is
@@ -259,7 +261,12 @@ impl FrameFields {
         match IpProtocol::from(protocol) {
             IpProtocol::Udp => self.store_cut_udp(src_addr, dst_addr, bytes),
             IpProtocol::Tcp => self.store_cut_tcp(src_addr, dst_addr, bytes),
-            _ => {}
+            other => {
+                if is_icmp(other, src_addr) && bytes.len() >= ICMP_HEADER_LEN {
+                    let packet = IcmpPacket::new_unchecked(bytes);
+                    self.store_icmp_fields(&packet, Verdict::ChecksumCut);
+                }
+            }
         }
     }
 

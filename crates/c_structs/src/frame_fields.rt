@@ -12,7 +12,7 @@ ghost use Rattle.c_structs.specs.FrameFields.{after_header, fields_of, nothing_o
 
 use crate::codes::{NetworkKind, Reason, TransportKind, Verdict};
 use crate::faults::{ARP_LEN, arp_fault, ipv4_fault, ipv6_fault};
-use crate::types::{Addr, Arp, Endpoint, Ethernet, FrameFields, Ip, Tcp};
+use crate::types::{Addr, Arp, Endpoint, Ethernet, FrameFields, Icmp, Ip, Tcp};
 use crate::verdicts::ipv4_verdict;
 use byteorder::{ByteOrder, NetworkEndian};
 use ip_wire::{
@@ -146,6 +146,8 @@ impl FrameFields {
             is_fragment: 0,
             ipv4_checksum: Verdict::None.code(),
             transport_checksum: Verdict::None.code(),
+            unused: [0; 5],
+            icmp: Icmp::none(),
         }
     }
 

@@ -11,10 +11,12 @@ ghost use Rattle.c_structs.specs.FrameFields.{fields_of};
 ghost use Rattle.c_structs.specs.Stored.{HasVerdicts, IsTypeOf, Stores, StoresFragment, StoresRejected, StoresUnread, in_frame, unchecked};
 
 mod failures;
+mod messages;
 
 use crate::types::FrameFields;
 pub use failures::failures_are_exact;
 use ip_wire::ETHERNET_HEADER_LEN;
+pub use messages::{messages_are_stored, only_messages_have_icmp, other_frames_have_no_icmp};
 use net_base::ChecksumCapabilities;
 
 /// The struct of a frame that is parsed whole stores each value of its headers under the name of the

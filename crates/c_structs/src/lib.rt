@@ -12,6 +12,7 @@ mod faults;
 mod frame_fields;
 mod frame_options;
 mod frames;
+mod icmp_fields;
 mod ip;
 mod ipv6_steps;
 pub mod laws;
@@ -39,6 +40,6 @@ pub use links::read_link;
 pub use rebuild::rebuild_frame;
 pub use results::{MAX_LEN, failed, is_set, print, usable, within};
 pub use types::{
-    Addr, Arp, Block, Endpoint, Ethernet, FrameFields, Ip, Ipv6HeaderPlace, SackRange, Tcp,
+    Addr, Arp, Block, Endpoint, Ethernet, FrameFields, Icmp, Ip, Ipv6HeaderPlace, SackRange, Tcp,
     TcpOptionPlace, TcpOptions,
 };

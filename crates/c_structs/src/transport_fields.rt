@@ -1,4 +1,4 @@
-//! The values of UDP and TCP headers, stored in the struct of C.
+//! The values of transport headers, stored in the struct of C.
 
 ghost use Rattle.std.specs.Prelude.{◌≡◌, ◌≤◌, ◌+◌, length};
 ghost use Rattle.ip_wire.specs.IpAddress.{version_of};
@@ -9,6 +9,7 @@ ghost use Rattle.c_structs.specs.FrameFields.{rejected_transport, udp_fault, wit
 
 use crate::codes::{Reason, TransportKind, Verdict};
 use crate::faults::{tcp_fault, udp_fault};
+use crate::icmp_fields::is_icmp;
 use crate::tcp_kept;
 use crate::types::FrameFields;
 use crate::verdicts::{tcp_verdict, udp_verdict};
@@ -16,6 +17,7 @@ use ip_wire::{
     IpAddress, IpProtocol, TCP_HEADER_LEN, TcpPacket, TcpRepr, UDP_HEADER_LEN, UdpPacket, UdpRepr,
 };
 use net_base::ChecksumCapabilities;
+use wire_icmp::ICMP_HEADER_LEN;
 
 impl FrameFields {
     // Stores the payload of a packet with this protocol number between two addresses. The number is compared
@@ -37,7 +39,11 @@ impl FrameFields {
         match IpProtocol::from(protocol) {
             IpProtocol::Udp => self.store_udp(src_addr, dst_addr, bytes),
             IpProtocol::Tcp => self.store_tcp(src_addr, dst_addr, bytes),
-            _ => {}
+            other => {
+                if is_icmp(other, src_addr) && bytes.len() >= ICMP_HEADER_LEN {
+                    self.store_icmp(*src_addr, *dst_addr, bytes);
+                }
+            }
         }
     }
 

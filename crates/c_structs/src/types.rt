@@ -135,8 +135,17 @@ pub struct Ipv6HeaderPlace {
     pub next: u8,
 }
 
-/// The fields of `struct lk_frame` before those of ICMP: the values of a frame, and where its headers and its payload
-/// are.
+/// `struct lk_icmp`: the header of an ICMP message, without its checksum.
+#[repr(C)]
+#[derive(Clone, Copy)]
+pub struct Icmp {
+    /// Bytes 4 to 7.
+    pub word: u32,
+    pub msg_type: u8,
+    pub code: u8,
+}
+
+/// `struct lk_frame`: the values of a frame, and where its headers and its payload are.
 #[repr(C)]
 #[derive(Clone, Copy)]
 pub struct FrameFields {
@@ -163,4 +172,7 @@ pub struct FrameFields {
     pub is_fragment: u8,
     pub ipv4_checksum: u8,
     pub transport_checksum: u8,
+    /// Zeros, after which `icmp` is aligned.
+    pub unused: [u8; 5],
+    pub icmp: Icmp,
 }

@@ -6,11 +6,13 @@ ghost use Rattle.ip_wire.specs.IpAddress.{version_of};
 ghost use Rattle.ip_wire.specs.Ipv4 as ipv4;
 ghost use Rattle.ip_wire.specs.Tcp as tcp;
 ghost use Rattle.ip_wire.specs.Udp as udp;
-ghost use Rattle.c_structs.specs.FrameFields.{cut_udp_verdict, ipv4_verdict, tcp_verdict, udp_verdict, zero_udp_verdict};
+ghost use Rattle.wire_icmp.specs.Icmp.{packet_bytes};
+ghost use Rattle.c_structs.specs.FrameFields.{cut_udp_verdict, icmp_verdict, ipv4_verdict, tcp_verdict, udp_verdict, zero_udp_verdict};
 ghost use Rattle.c_structs.specs.declared.codes.Verdict.TheVariants as verdict;
 
 use crate::codes::Verdict;
 use ip_wire::{IpAddress, Ipv4Packet, TcpPacket, UdpPacket};
+use wire_icmp::IcmpPacket;
 
 /// The verdict on the checksum of an IPv4 header.
 #[inline(always)]
@@ -107,6 +109,19 @@ fn partial_tcp_verdict(packet: &TcpPacket<'_>, src_addr: IpAddress, dst_addr: Ip
 {
     if packet.verify_partial_checksum(&src_addr, &dst_addr) {
         Verdict::LeftToDevice
+    } else {
+        Verdict::Wrong
+    }
+}
+
+/// The verdict on the checksum of an ICMP message.
+#[inline(always)]
+pub fn icmp_verdict(packet: &IcmpPacket<'_>, src_addr: &IpAddress, dst_addr: &IpAddress) -> Verdict
+    requires { version_of src_addr.now ≡ version_of dst_addr.now }
+    ensures { result ≡ icmp_verdict src_addr.now dst_addr.now (packet_bytes packet.now) }
+{
+    if packet.verify_checksum(src_addr, dst_addr) {
+        Verdict::Right
     } else {
         Verdict::Wrong
     }

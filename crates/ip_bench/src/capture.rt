@@ -4,7 +4,7 @@ use crate::derived::Frames;
 use crate::digest::Digest;
 use crate::frames::{Kind, ROOM, pool};
 use crate::random::Random;
-use c_structs::{Addr, Arp, Endpoint, Ethernet, FrameFields, Ip, Tcp, rebuild_frame};
+use c_structs::{Addr, Arp, Endpoint, Ethernet, FrameFields, Icmp, Ip, Tcp, rebuild_frame};
 use std::alloc::{AllocError, Global};
 
 const NOWHERE: Endpoint = Endpoint {
@@ -58,6 +58,12 @@ const NO_FIELDS: FrameFields = FrameFields {
     is_fragment: 0,
     ipv4_checksum: 0,
     transport_checksum: 0,
+    unused: [0; 5],
+    icmp: Icmp {
+        word: 0,
+        msg_type: 0,
+        code: 0,
+    },
 };
 
 /// Reads and rebuilds this many frames. Of one of four rebuilt frames the digest has all bytes, of the others the

@@ -11,8 +11,6 @@ use Rattle.app_link.specs.declared.link_type.LinkType.TheVariants as kind
 use Rattle.ip_wire.specs.Ethernet.{protocol_of}
 use Rattle.ip_wire.specs.Types.{EthernetProtocol}
 use Rattle.ip_wire.specs.declared.EthernetProtocol.TheVariants as ethertype
-use Rattle.c_icmp.specs.Messages.{payload_in, with_icmp, with_message, without_icmp}
-use Rattle.c_icmp.specs.declared.types.FullFrame.{FullFrame}
 use Rattle.c_structs.proofs.CutOf.{arp-keeps, ipv4-keeps, ipv6-keeps}
 use Rattle.c_structs.specs.Captured.{cut_carried}
 use Rattle.c_structs.specs.Codes.{reason_code}
@@ -34,20 +32,6 @@ whole-keeps : (f : FrameFields) (p : EthernetProtocol) (bytes : List ℕ) → na
     → (carried_by f p bytes).ethernet ≡ f.ethernet
 whole-keeps f p bytes whole =
     subst (λ b. (if b then cut_carried f p bytes else with_carried f p bytes).ethernet ≡ f.ethernet) (sym whole) (carried-keeps f p bytes)
-
-message-keeps : (b : Bool) (f : FrameFields) (message : List ℕ) → (if b then with_message f message else without_icmp f).fields.ethernet ≡ f.ethernet
-message-keeps true f message = refl
-message-keeps false f message = refl
-
-message-reason : (b : Bool) (f : FrameFields) (message : List ℕ) → (if b then with_message f message else without_icmp f).fields.reason ≡ f.reason
-message-reason true f message = refl
-message-reason false f message = refl
-
-icmp-keeps : (bytes : List ℕ) (f : FrameFields) → (with_icmp bytes f).fields.ethernet ≡ f.ethernet
-icmp-keeps bytes f = message-keeps _ f (payload_in f bytes)
-
-icmp-reason : (bytes : List ℕ) (f : FrameFields) → (with_icmp bytes f).fields.reason ≡ f.reason
-icmp-reason bytes f = message-reason _ f (payload_in f bytes)
 
 -- ---- the header
 
@@ -92,7 +76,7 @@ by-rejects : (o : Option LinkType) (f : FrameFields) (bytes : List ℕ) → opti
 by-rejects None f bytes not = λ e. omega (arith, e)
 by-rejects (Some t) f bytes not = after-rejects f bytes t (link_of t bytes) not
 
--- ---- the calls without ICMP
+-- ---- the packet
 
 type-of : (number : ℕ) (bytes : List ℕ) (old : Link) → link_reason number bytes ≡ 0
     → (linked_of number bytes (length bytes)).ethernet.ethertype ≡ (link_or number bytes old).ethertype
@@ -114,16 +98,16 @@ unfolding usable within
 used-len bytes = choice-len (nat_le (length bytes) max_len) bytes
 
 -- the packet of a link type, of which all bytes are there
-abbrev packet_of : ℕ → List ℕ → FullFrame
-packet_of number bytes = with_icmp bytes (linked_of number bytes (length bytes))
+abbrev packet_of : ℕ → List ℕ → FrameFields
+packet_of number bytes = linked_of number bytes (length bytes)
 
-all-used : (number : ℕ) (bytes : List ℕ) (frame : FullFrame)
-    → frame ≡ with_icmp (take (usable (length bytes)) (within bytes)) (linked_of number (take (usable (length bytes)) (within bytes)) (usable (length bytes)))
+all-used : (number : ℕ) (bytes : List ℕ) (frame : FrameFields)
+    → frame ≡ linked_of number (take (usable (length bytes)) (within bytes)) (usable (length bytes))
     → frame ≡ packet_of number (within bytes)
 all-used number bytes frame is =
     let w = within bytes in
     let same : take (usable (length bytes)) w ≡ w = ap (λ n. take n w) (used-len bytes) ∙ take_all (length w) w (omega arith) in
-    is ∙ ap (λ (l : List ℕ). with_icmp l (linked_of number l (usable (length bytes)))) same ∙ ap (λ n. with_icmp w (linked_of number w n)) (used-len bytes)
+    is ∙ ap (λ (l : List ℕ). linked_of number l (usable (length bytes))) same ∙ ap (λ n. linked_of number w n) (used-len bytes)
 
 -- ---- the two calls
 
@@ -131,22 +115,20 @@ abbrev count : ℤ → ℕ
 count (pos n) = n
 count (negsuc n) = 0
 
-pub same_type : (number : ℕ) (bytes : List ℕ) (old new : Link) (frame : FullFrame) (a : ℤ) → new ≡ link_or number (within bytes) old
+pub same_type : (number : ℕ) (bytes : List ℕ) (old new : Link) (frame : FrameFields) (a : ℤ) → new ≡ link_or number (within bytes) old
     → a ≡ pos (link_reason number (within bytes))
-    → frame ≡ with_icmp (take (usable (length bytes)) (within bytes)) (linked_of number (take (usable (length bytes)) (within bytes)) (usable (length bytes)))
-    → a ≡ pos 0 → frame.fields.ethernet.ethertype ≡ new.ethertype
+    → frame ≡ linked_of number (take (usable (length bytes)) (within bytes)) (usable (length bytes))
+    → a ≡ pos 0 → frame.ethernet.ethertype ≡ new.ethertype
 same_type number bytes old new frame a found returned is read =
     let w = within bytes in
     let none : link_reason number w ≡ 0 = ap count (sym returned ∙ read) in
-    ap (λ (g : FullFrame). g.fields.ethernet.ethertype) (all-used number bytes frame is)
-    ∙ ap (λ e. e.ethertype) (icmp-keeps w (linked_of number w (length w)))
-    ∙ type-of number w old none ∙ sym (ap (λ (l : Link). l.ethertype) found)
+    ap (λ (g : FrameFields). g.ethernet.ethertype) (all-used number bytes frame is) ∙ type-of number w old none ∙ sym (ap (λ (l : Link). l.ethertype) found)
 
-pub both_reject : (number : ℕ) (bytes : List ℕ) (frame : FullFrame) (a b : ℤ) → a ≡ pos (link_reason number (within bytes))
-    → frame ≡ with_icmp (take (usable (length bytes)) (within bytes)) (linked_of number (take (usable (length bytes)) (within bytes)) (usable (length bytes)))
-    → b ≡ pos frame.fields.reason → a ≢ pos 0 → b ≢ pos 0
+pub both_reject : (number : ℕ) (bytes : List ℕ) (frame : FrameFields) (a b : ℤ) → a ≡ pos (link_reason number (within bytes))
+    → frame ≡ linked_of number (take (usable (length bytes)) (within bytes)) (usable (length bytes))
+    → b ≡ pos frame.reason → a ≢ pos 0 → b ≢ pos 0
 both_reject number bytes frame a b returned is also not read =
     let w = within bytes in
-    let none : frame.fields.reason ≡ 0 = ap count (sym also ∙ read) in
+    let none : frame.reason ≡ 0 = ap count (sym also ∙ read) in
     rejects-of number w (λ e. not (returned ∙ ap pos e))
-    (sym (icmp-reason w (linked_of number w (length w))) ∙ sym (ap (λ (g : FullFrame). g.fields.reason) (all-used number bytes frame is)) ∙ none)
+    (sym (ap (λ (g : FrameFields). g.reason) (all-used number bytes frame is)) ∙ none)

@@ -6,11 +6,10 @@ use c_exports::frames::{
     lk_emit_arp_frame, lk_emit_tcp_frame, lk_emit_udp_frame, lk_reply, lk_wrap_tcp_frame,
     lk_wrap_udp_frame,
 };
-use c_icmp::FullFrame;
-use c_structs::TcpOptions;
+use c_structs::{FrameFields, TcpOptions};
 
 // A frame has one reply.
-fn reply(frame: &mut FullFrame, other: &mut FullFrame)
+fn reply(frame: &mut FrameFields, other: &mut FrameFields)
     requires { frame.old ≡ other.old }
     ensures { frame.new ≡ other.new }
 {
@@ -21,7 +20,7 @@ fn reply(frame: &mut FullFrame, other: &mut FullFrame)
 // A UDP frame has one form.
 #[tactic(auto, using(crate::proofs::Once::writes_result, crate::proofs::Once::writes_bytes))]
 fn emit_udp_frame(
-    headers: &FullFrame,
+    headers: &FrameFields,
     payload: &[u8],
     out: &mut [u8],
     other: &mut [u8],
@@ -39,7 +38,7 @@ fn emit_udp_frame(
 // A TCP frame has one form.
 #[tactic(auto, using(crate::proofs::Once::writes_result, crate::proofs::Once::writes_bytes))]
 fn emit_tcp_frame(
-    headers: &FullFrame,
+    headers: &FrameFields,
     options: &TcpOptions,
     payload: &[u8],
     out: &mut [u8],
@@ -58,7 +57,7 @@ fn emit_tcp_frame(
 // A UDP frame around a payload has one form.
 #[tactic(auto, using(crate::proofs::Once::writes_result, crate::proofs::Once::writes_bytes))]
 fn wrap_udp_frame(
-    headers: &FullFrame,
+    headers: &FrameFields,
     payload_len: usize,
     out: &mut [u8],
     other: &mut [u8],
@@ -76,7 +75,7 @@ fn wrap_udp_frame(
 // A TCP frame around a payload has one form.
 #[tactic(auto, using(crate::proofs::Once::writes_result, crate::proofs::Once::writes_bytes))]
 fn wrap_tcp_frame(
-    headers: &FullFrame,
+    headers: &FrameFields,
     options: &TcpOptions,
     payload_len: usize,
     out: &mut [u8],
@@ -93,7 +92,7 @@ fn wrap_tcp_frame(
 }
 
 // An ARP frame has one form.
-fn emit_arp_frame(headers: &FullFrame, out: &mut [u8], other: &mut [u8]) -> (isize, isize)
+fn emit_arp_frame(headers: &FrameFields, out: &mut [u8], other: &mut [u8]) -> (isize, isize)
     requires { out.old ≡ other.old }
     ensures returned { result.0 ≡ result.1 }
     ensures written { out.new ≡ other.new }

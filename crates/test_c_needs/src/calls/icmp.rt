@@ -8,8 +8,8 @@ ghost use Rattle.ip_wire.specs.Types.{EthernetRepr};
 use c_exports::icmp::{
     lk_emit_icmp, lk_emit_icmp_error, lk_emit_icmp_frame, lk_emit_ndisc_frame, lk_read_ndisc,
 };
-use c_icmp::{FullFrame, Icmp, InterfaceFields, Ndisc};
-use c_structs::Addr;
+use c_icmp::{InterfaceFields, Ndisc};
+use c_structs::{Addr, FrameFields, Icmp};
 
 // An ICMP message has one form.
 #[tactic(auto, using(crate::proofs::Once::writes_result, crate::proofs::Once::writes_bytes))]
@@ -35,7 +35,7 @@ fn emit_icmp(
 // A frame with an ICMP message has one form.
 #[tactic(auto, using(crate::proofs::Once::writes_result, crate::proofs::Once::writes_bytes))]
 fn emit_icmp_frame(
-    headers: &FullFrame,
+    headers: &FrameFields,
     payload: &[u8],
     out: &mut [u8],
     other: &mut [u8],
@@ -62,7 +62,7 @@ fn read_ndisc(frame: &[u8], ndisc: &mut Ndisc, other: &mut Ndisc) -> (i32, i32)
 // A frame with a neighbour discovery message has one form.
 #[tactic(auto, using(crate::proofs::Once::writes_result, crate::proofs::Once::writes_bytes))]
 fn emit_ndisc_frame(
-    headers: &FullFrame,
+    headers: &FrameFields,
     ndisc: &Ndisc,
     out: &mut [u8],
     other: &mut [u8],

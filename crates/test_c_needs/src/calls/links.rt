@@ -4,7 +4,7 @@ ghost use Rattle.std.specs.Prelude.{◌≡◌, ◌≢◌, pos};
 
 use app_link::Link;
 use c_exports::links::{lk_read_link, lk_read_linktype};
-use c_icmp::FullFrame;
+use c_structs::FrameFields;
 
 // Bytes begin with one link-layer header.
 fn read_link(link_type: u32, captured: &[u8], link: &mut Link, other: &mut Link) -> (i32, i32)
@@ -23,8 +23,8 @@ fn read_linktype(
     link_type: u32,
     captured: &[u8],
     len: usize,
-    frame: &mut FullFrame,
-    other: &mut FullFrame,
+    frame: &mut FrameFields,
+    other: &mut FrameFields,
 ) -> (i32, i32)
     requires { frame.old ≡ other.old }
     ensures returned { result.0 ≡ result.1 }
@@ -41,9 +41,9 @@ fn link_of_packet(
     link_type: u32,
     bytes: &[u8],
     link: &mut Link,
-    frame: &mut FullFrame,
+    frame: &mut FrameFields,
 ) -> (i32, i32)
-    ensures read { result.0 ≡ pos 0 → frame.new.fields.ethernet.ethertype ≡ link.new.ethertype }
+    ensures read { result.0 ≡ pos 0 → frame.new.ethernet.ethertype ≡ link.new.ethertype }
     ensures rejected { result.0 ≢ pos 0 → result.1 ≢ pos 0 }
 {
     (
@@ -57,9 +57,9 @@ fn payload_of_linktype<'a>(
     link_type: u32,
     bytes: &'a [u8],
     captured: &[u8],
-    frame: &mut FullFrame,
+    frame: &mut FrameFields,
 ) -> &'a [u8] {
     lk_read_linktype(link_type, captured, bytes.len(), frame);
-    let start = frame.fields.payload_offset;
-    &bytes[start..start + frame.fields.payload_len]
+    let start = frame.payload_offset;
+    &bytes[start..start + frame.payload_len]
 }

@@ -1,15 +1,14 @@
 //! Needs the contracts of calls that parse.
 
 ghost use Rattle.std.specs.Prelude.{List, ℕ, ◌++◌, ◌≡◌, ◌≤◌, ◌+◌, length};
-ghost use Rattle.c_icmp.specs.Messages.{IsCutFrame};
+ghost use Rattle.c_structs.specs.Captured.{IsCutOf};
 ghost use Rattle.c_structs.specs.FrameFields.{fields_of, packet_fields_of};
 
 use c_exports::read_calls::{
     lk_next_ipv6_header, lk_next_tcp_option, lk_read_captured, lk_read_captured_packet,
     lk_read_frame, lk_read_frame_options, lk_read_packet, lk_read_tcp_options, lk_version,
 };
-use c_icmp::FullFrame;
-use c_structs::{Ipv6HeaderPlace, TcpOptionPlace, TcpOptions};
+use c_structs::{FrameFields, Ipv6HeaderPlace, TcpOptionPlace, TcpOptions};
 
 // The library has one version.
 fn version() -> (u32, u32)
@@ -19,7 +18,7 @@ fn version() -> (u32, u32)
 }
 
 // Bytes parse as one frame.
-fn read_frame(bytes: &[u8], frame: &mut FullFrame, other: &mut FullFrame) -> (i32, i32)
+fn read_frame(bytes: &[u8], frame: &mut FrameFields, other: &mut FrameFields) -> (i32, i32)
     requires { frame.old ≡ other.old }
     ensures returned { result.0 ≡ result.1 }
     ensures written { frame.new ≡ other.new }
@@ -28,7 +27,7 @@ fn read_frame(bytes: &[u8], frame: &mut FullFrame, other: &mut FullFrame) -> (i3
 }
 
 // Bytes parse as one packet.
-fn read_packet(bytes: &[u8], frame: &mut FullFrame, other: &mut FullFrame) -> (i32, i32)
+fn read_packet(bytes: &[u8], frame: &mut FrameFields, other: &mut FrameFields) -> (i32, i32)
     requires { frame.old ≡ other.old }
     ensures returned { result.0 ≡ result.1 }
     ensures written { frame.new ≡ other.new }
@@ -40,8 +39,8 @@ fn read_packet(bytes: &[u8], frame: &mut FullFrame, other: &mut FullFrame) -> (i
 fn read_captured(
     captured: &[u8],
     len: usize,
-    frame: &mut FullFrame,
-    other: &mut FullFrame,
+    frame: &mut FrameFields,
+    other: &mut FrameFields,
 ) -> (i32, i32)
     requires { frame.old ≡ other.old }
     ensures returned { result.0 ≡ result.1 }
@@ -57,8 +56,8 @@ fn read_captured(
 fn read_captured_packet(
     captured: &[u8],
     len: usize,
-    frame: &mut FullFrame,
-    other: &mut FullFrame,
+    frame: &mut FrameFields,
+    other: &mut FrameFields,
 ) -> (i32, i32)
     requires { frame.old ≡ other.old }
     ensures returned { result.0 ≡ result.1 }
@@ -85,8 +84,8 @@ fn read_tcp_options(header: &[u8], options: &mut TcpOptions, other: &mut TcpOpti
 // Bytes parse as one frame with one list of options.
 fn read_frame_options(
     bytes: &[u8],
-    frame: &mut FullFrame,
-    other: &mut FullFrame,
+    frame: &mut FrameFields,
+    other: &mut FrameFields,
     options: &mut TcpOptions,
     others: &mut TcpOptions,
 ) -> (i32, i32)
@@ -133,55 +132,55 @@ fn next_ipv6_header(
 }
 
 // The payload is in the frame.
-fn payload_of_frame<'a>(bytes: &'a [u8], frame: &mut FullFrame) -> &'a [u8] {
+fn payload_of_frame<'a>(bytes: &'a [u8], frame: &mut FrameFields) -> &'a [u8] {
     lk_read_frame(bytes, frame);
-    let start = frame.fields.payload_offset;
-    &bytes[start..start + frame.fields.payload_len]
+    let start = frame.payload_offset;
+    &bytes[start..start + frame.payload_len]
 }
 
 // The payload is in the frame whose options are stored.
 fn payload_of_frame_options<'a>(
     bytes: &'a [u8],
-    frame: &mut FullFrame,
+    frame: &mut FrameFields,
     options: &mut TcpOptions,
 ) -> &'a [u8] {
     lk_read_frame_options(bytes, frame, options);
-    let start = frame.fields.payload_offset;
-    &bytes[start..start + frame.fields.payload_len]
+    let start = frame.payload_offset;
+    &bytes[start..start + frame.payload_len]
 }
 
 // The payload is in the packet.
-fn payload_of_packet<'a>(bytes: &'a [u8], frame: &mut FullFrame) -> &'a [u8] {
+fn payload_of_packet<'a>(bytes: &'a [u8], frame: &mut FrameFields) -> &'a [u8] {
     lk_read_packet(bytes, frame);
-    let start = frame.fields.payload_offset;
-    &bytes[start..start + frame.fields.payload_len]
+    let start = frame.payload_offset;
+    &bytes[start..start + frame.payload_len]
 }
 
 // The payload of a frame that was captured in part is in the whole frame.
 fn payload_of_captured_frame<'a>(
     bytes: &'a [u8],
     captured: &[u8],
-    frame: &mut FullFrame,
+    frame: &mut FrameFields,
 ) -> &'a [u8] {
     lk_read_captured(captured, bytes.len(), frame);
-    let start = frame.fields.payload_offset;
-    &bytes[start..start + frame.fields.payload_len]
+    let start = frame.payload_offset;
+    &bytes[start..start + frame.payload_len]
 }
 
 // The payload of a packet that was captured in part is in the whole packet.
 fn payload_of_captured_packet<'a>(
     bytes: &'a [u8],
     captured: &[u8],
-    frame: &mut FullFrame,
+    frame: &mut FrameFields,
 ) -> &'a [u8] {
     lk_read_captured_packet(captured, bytes.len(), frame);
-    let start = frame.fields.payload_offset;
-    &bytes[start..start + frame.fields.payload_len]
+    let start = frame.payload_offset;
+    &bytes[start..start + frame.payload_len]
 }
 
 // Of more bytes than a frame has, its own are parsed.
 #[tactic(auto, using(crate::proofs::Once::short_bytes, crate::proofs::Once::short_len, crate::proofs::Once::short_front))]
-fn whole_frame(captured: &[u8], len: usize, frame: &mut FullFrame, other: &mut FullFrame)
+fn whole_frame(captured: &[u8], len: usize, frame: &mut FrameFields, other: &mut FrameFields)
     requires part { len ≤ length captured.now }
     requires usable { length captured.now ≤ 1099511627775 }
     ensures { frame.new ≡ other.new }
@@ -192,7 +191,7 @@ fn whole_frame(captured: &[u8], len: usize, frame: &mut FullFrame, other: &mut F
 
 // Of more bytes than a packet has, its own are parsed.
 #[tactic(auto, using(crate::proofs::Once::short_bytes, crate::proofs::Once::short_len, crate::proofs::Once::short_front))]
-fn whole_packet(captured: &[u8], len: usize, frame: &mut FullFrame, other: &mut FullFrame)
+fn whole_packet(captured: &[u8], len: usize, frame: &mut FrameFields, other: &mut FrameFields)
     requires part { len ≤ length captured.now }
     requires usable { length captured.now ≤ 1099511627775 }
     ensures { frame.new ≡ other.new }
@@ -203,18 +202,18 @@ fn whole_packet(captured: &[u8], len: usize, frame: &mut FullFrame, other: &mut 
 
 // The first bytes of a frame have the fields of the whole frame, up to a header that was cut.
 #[tactic(auto, using(crate::proofs::Once::short_bytes, crate::proofs::Once::short_len))]
-fn cut_frame(captured: &[u8], len: usize, frame: &mut FullFrame)
+fn cut_frame(captured: &[u8], len: usize, frame: &mut FrameFields)
     requires { len ≤ 1099511627775 }
-    ensures { (rest : List ℕ) → length captured.now + length rest ≡ len → IsCutFrame captured.now frame.new (fields_of (captured.now ++ rest)) }
+    ensures { (rest : List ℕ) → length captured.now + length rest ≡ len → IsCutOf frame.new (fields_of (captured.now ++ rest)) }
 {
     lk_read_captured(captured, len, frame);
 }
 
 // The first bytes of a packet have the fields of the whole packet, up to a header that was cut.
 #[tactic(auto, using(crate::proofs::Once::short_bytes, crate::proofs::Once::short_len))]
-fn cut_packet(captured: &[u8], len: usize, frame: &mut FullFrame)
+fn cut_packet(captured: &[u8], len: usize, frame: &mut FrameFields)
     requires { len ≤ 1099511627775 }
-    ensures { (rest : List ℕ) → length captured.now + length rest ≡ len → IsCutFrame captured.now frame.new (packet_fields_of (captured.now ++ rest)) }
+    ensures { (rest : List ℕ) → length captured.now + length rest ≡ len → IsCutOf frame.new (packet_fields_of (captured.now ++ rest)) }
 {
     lk_read_captured_packet(captured, len, frame);
 }

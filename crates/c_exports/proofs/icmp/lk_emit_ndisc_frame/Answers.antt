@@ -8,7 +8,7 @@ use Rattle.c_exports.proofs.icmp.lk_emit_ndisc_frame.Goals.{then-out-le-MAX_LEN,
 
 pub returns-in-Some : goal.returns-in-Some
 returns-in-Some c = elim c.if-out-le-MAX_LEN.branch [
-  | then-out-le-MAX_LEN w ↦ within-Some _ _ _ _ _ _ _ _ w.out-is w.len-is c.in-Some.is w.emit_ndisc-len.ensures w.if-out-le-MAX_LEN.true
+  | then-out-le-MAX_LEN w ↦ within-Some _ _ _ _ _ _ _ _ w.out-is w.len-is c.in-Some.is w.emit_ndisc_frame-len.ensures w.if-out-le-MAX_LEN.true
   | else-out-le-MAX_LEN w ↦ absurd (none-some _ (sym w.len-is ∙ c.in-Some.is))
 ]
 
@@ -17,6 +17,6 @@ returns-in-None c =
     let fits : SFits w64 c.failed.result = search rules in
     let why = c.failed.ensures ∙ ap failed_by c.ndisc_failure.ensures in
     elim c.if-out-le-MAX_LEN.branch [
-      | then-out-le-MAX_LEN w ↦ within-None _ _ _ _ _ _ _ _ w.out-is w.len-is c.in-None.is w.emit_ndisc-len.ensures w.if-out-le-MAX_LEN.true why fits
+      | then-out-le-MAX_LEN w ↦ within-None _ _ _ _ _ _ _ _ w.out-is w.len-is c.in-None.is w.emit_ndisc_frame-len.ensures w.if-out-le-MAX_LEN.true why fits
       | else-out-le-MAX_LEN w ↦ writes-nothing _ _ _ _ _ (omega (arith, w.if-out-le-MAX_LEN.false)) w.out-is (to_z-of_z w64 c.failed.result fits ∙ why)
     ]

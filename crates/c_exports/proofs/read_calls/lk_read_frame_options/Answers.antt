@@ -1,8 +1,11 @@
-use Rattle.c_exports.proofs.FrameOptions.{tcp-fields, used-whole}
+use Rattle.std.proofs.Common.{◌∙◌, ap}
+use Rattle.c_exports.proofs.FrameOptions.{used-whole}
+use Rattle.c_structs.specs.FrameFields.{fields_of}
 use Rattle.c_exports.proofs.read_calls.lk_read_frame_options.Goals as goal
 
 pub read_in-requires : goal.read_in-requires
-read_in-requires c tcp = tcp-fields c.args.bytes.now c.lk_read_frame-reason.new.frame c.lk_read_frame-reason.ensures.fields tcp
+read_in-requires c tcp =
+    let fields = c.lk_read_frame-reason.ensures.fields in fields ∙ ap fields_of (used-whole c.args.bytes.now c.lk_read_frame-reason.new.frame fields tcp)
 
 pub returns-clause-options : goal.returns-clause-options
 returns-clause-options c = record {
