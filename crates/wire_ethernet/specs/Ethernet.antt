@@ -63,19 +63,31 @@ frame_bytes_mut f = (frame_slice f).now
 abbrev pub Becomes : Writing → Writing → List ℕ → Type 0
 Becomes old new bytes = Holds (frame_slice old) (frame_slice new) bytes
 
+-- the destination address
+abbrev pub dst_addr_of : List ℕ → List ℕ
+dst_addr_of bytes = slice_range bytes 0 6
+
+-- the source address
+abbrev pub src_addr_of : List ℕ → List ℕ
+src_addr_of bytes = slice_range bytes 6 12
+
+-- the EtherType
+abbrev pub ethertype_of : List ℕ → EthernetProtocol
+ethertype_of bytes = protocol_of (field bytes 96 16)
+
 -- the bytes begin with an Ethernet header that parses as this value
 pub record Reads (bytes : List ℕ) (v : EthernetRepr) : Type 0 where
   pub whole : 14 ≤ length bytes
-  pub dst_addr : v.dst_addr.0 ≡ slice_range bytes 0 6
-  pub src_addr : v.src_addr.0 ≡ slice_range bytes 6 12
-  pub ethertype : v.ethertype ≡ protocol_of (field bytes 96 16)
+  pub dst_addr : v.dst_addr.0 ≡ dst_addr_of bytes
+  pub src_addr : v.src_addr.0 ≡ src_addr_of bytes
+  pub ethertype : v.ethertype ≡ ethertype_of bytes
 
 -- the values of the fields of an Ethernet header
 abbrev pub header_of : List ℕ → EthernetRepr
 header_of bytes = record {
-  dst_addr = record { 0 = slice_range bytes 0 6 };
-  src_addr = record { 0 = slice_range bytes 6 12 };
-  ethertype = protocol_of (field bytes 96 16);
+  dst_addr = record { 0 = dst_addr_of bytes };
+  src_addr = record { 0 = src_addr_of bytes };
+  ethertype = ethertype_of bytes;
 }
 
 -- the Ethernet header that the bytes parse as, if there is one

@@ -1,13 +1,13 @@
 //! Frames of Ethernet II: what they carry, their views and the values of their header.
 
-ghost use Rattle.std.specs.Prelude.{◌≡◌, ◌↔◌, ◌≤◌, ◌+◌, ◌^◌, ◌<◌, ◌++◌, [], IfOk, IsOk, Ok, OnOk, Some, drop, length, slice_range};
+ghost use Rattle.std.specs.Prelude.{◌≡◌, ◌↔◌, ◌≤◌, ◌+◌, ◌^◌, ◌<◌, ◌++◌, [], IfOk, IsOk, Ok, OnOk, Some, drop, length};
 ghost use Rattle.std.specs.Result.{result_ok};
 ghost use Rattle.std.specs.Borrow.{sem};
 ghost use Rattle.arrayvec.specs.ArrayString.{array_string_len};
-ghost use Rattle.wire_field.specs.Field.{field, with_field, with_range};
+ghost use Rattle.wire_field.specs.Field.{with_field, with_range};
 ghost use Rattle.wire_field.specs.Borrow.{Checks, Holds, Locates, StaysIfErr};
 ghost use Rattle.wire_ethernet.specs.EthernetBorrow.{BorrowsPayload};
-ghost use Rattle.wire_ethernet.specs.Ethernet.{Becomes, Reads, bytes_of, ethernet_of, frame_bytes, frame_bytes_mut, frame_slice, frame_text, header_text, number_of, protocol_of, protocol_text};
+ghost use Rattle.wire_ethernet.specs.Ethernet.{Becomes, Reads, bytes_of, dst_addr_of, ethernet_of, ethertype_of, frame_bytes, frame_bytes_mut, frame_slice, frame_text, header_text, number_of, protocol_of, protocol_text, src_addr_of};
 ghost use Rattle.wire_ethernet.specs.declared.ethernet.EthernetRepr.{EthernetRepr};
 
 use arrayvec::ArrayString;
@@ -155,7 +155,7 @@ impl<B: Octets> EthernetView<B> {
     /// The address of the receiver.
     pub fn dst_addr(&self) -> EthernetAddress
         requires { 6 ≤ length (B.octets (frame_slice self.now)) }
-        ensures { result.0 ≡ slice_range (B.octets (frame_slice self.now)) 0 6 }
+        ensures { result.0 ≡ dst_addr_of (B.octets (frame_slice self.now)) }
     {
         EthernetAddress::from_bytes(&self.as_bytes()[0..6])
     }
@@ -163,7 +163,7 @@ impl<B: Octets> EthernetView<B> {
     /// The address of the sender.
     pub fn src_addr(&self) -> EthernetAddress
         requires { 12 ≤ length (B.octets (frame_slice self.now)) }
-        ensures { result.0 ≡ slice_range (B.octets (frame_slice self.now)) 6 12 }
+        ensures { result.0 ≡ src_addr_of (B.octets (frame_slice self.now)) }
     {
         EthernetAddress::from_bytes(&self.as_bytes()[6..12])
     }
@@ -171,7 +171,7 @@ impl<B: Octets> EthernetView<B> {
     /// The protocol of the payload. A tag of a virtual network is not looked for.
     pub fn ethertype(&self) -> EthernetProtocol
         requires { 14 ≤ length (B.octets (frame_slice self.now)) }
-        ensures { result ≡ protocol_of (field (B.octets (frame_slice self.now)) 96 16) }
+        ensures { result ≡ ethertype_of (B.octets (frame_slice self.now)) }
     {
         EthernetProtocol::from(NetworkEndian::read_u16(&self.as_bytes()[12..14]))
     }
