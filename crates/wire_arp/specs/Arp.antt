@@ -74,6 +74,18 @@ packet_bytes_mut p = (packet_slice p).now
 abbrev pub Becomes : Writing → Writing → List ℕ → Type 0
 Becomes old new bytes = Holds (packet_slice old) (packet_slice new) bytes
 
+-- the number of the hardware type
+abbrev pub hardware_type_of : List ℕ → ℕ
+hardware_type_of bytes = field bytes 0 16
+
+-- the number of the protocol type, an EtherType
+abbrev pub protocol_type_of : List ℕ → ℕ
+protocol_type_of bytes = field bytes 16 16
+
+-- the number of the operation
+abbrev pub opcode_of : List ℕ → ℕ
+opcode_of bytes = field bytes 48 16
+
 -- the length of a hardware address in bytes, as the packet says
 abbrev pub hardware_len : List ℕ → ℕ
 hardware_len bytes = field bytes 32 8
@@ -130,7 +142,7 @@ ethernet_ipv4 = 0x00 ∷ 0x01 ∷ 0x08 ∷ 0x00 ∷ 0x06 ∷ 0x04 ∷ []
 -- the values of the fields of an ARP packet for Ethernet and IPv4
 abbrev pub value_of : List ℕ → ArpRepr
 value_of bytes =
-    EthernetIpv4 (operation_of (field bytes 48 16)) (record { 0 = slice_range bytes 8 14 }) (slice_range bytes 14 18)
+    EthernetIpv4 (operation_of (opcode_of bytes)) (record { 0 = slice_range bytes 8 14 }) (slice_range bytes 14 18)
     (record { 0 = slice_range bytes 18 24 }) (slice_range bytes 24 28)
 
 -- the bytes begin with an ARP packet for Ethernet and IPv4 that parses as this value

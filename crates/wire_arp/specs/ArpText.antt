@@ -4,8 +4,7 @@ use Rattle.std.specs.Prelude.{ℕ, ◌++◌, ◌&&◌, nat_le, if◌then◌else�
 use Rattle.std.specs.List.{join_by}
 use Rattle.std.specs.Option.{option_map_or}
 use Rattle.wire_addr.specs.Printed.{dashed, dotted}
-use Rattle.wire_field.specs.Field.{field}
-use Rattle.wire_arp.specs.Arp.{arp_of, hardware_len, hardware_of, operation_of, protocol_len, source_hardware_addr, source_protocol_addr, target_hardware_addr, target_protocol_addr, target_protocol_end}
+use Rattle.wire_arp.specs.Arp.{arp_of, hardware_len, hardware_of, hardware_type_of, opcode_of, operation_of, protocol_len, protocol_type_of, source_hardware_addr, source_protocol_addr, target_hardware_addr, target_protocol_addr, target_protocol_end}
 use Rattle.wire_ethernet.specs.Ethernet.{protocol_of}
 use Rattle.wire_arp.specs.declared.arp.ArpHardware.{ArpHardware}
 use Rattle.wire_arp.specs.declared.arp.ArpHardware.TheVariants as hardware
@@ -67,7 +66,7 @@ addresses_text bytes =
 -- the printed text of all fields of a packet that is not for Ethernet and IPv4
 unfoldable pub fields_text : List ℕ → List ℕ
 fields_text bytes =
-    numbers_text (hardware_of (field bytes 0 16)) (protocol_of (field bytes 16 16)) (hardware_len bytes) (protocol_len bytes) (operation_of (field bytes 48 16))
+    numbers_text (hardware_of (hardware_type_of bytes)) (protocol_of (protocol_type_of bytes)) (hardware_len bytes) (protocol_len bytes) (operation_of (opcode_of bytes))
     ++ addresses_text bytes
 
 -- whether the lengths are valid

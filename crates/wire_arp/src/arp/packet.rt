@@ -1,8 +1,7 @@
 //! A view that reads the bytes of an ARP packet.
 
 ghost use Rattle.std.specs.Prelude.{◌≡◌, ◌↔◌, ◌≤◌, IfOk, IsOk, Some, length};
-ghost use Rattle.wire_field.specs.Field.{field};
-ghost use Rattle.wire_arp.specs.Arp.{HasLengths, hardware_len, hardware_of, operation_of, packet_bytes, packet_slice, protocol_len, source_hardware_addr, source_hardware_end, source_protocol_addr, source_protocol_end, target_hardware_addr, target_hardware_end, target_protocol_addr, target_protocol_end};
+ghost use Rattle.wire_arp.specs.Arp.{HasLengths, hardware_len, hardware_of, hardware_type_of, opcode_of, operation_of, packet_bytes, packet_slice, protocol_len, protocol_type_of, source_hardware_addr, source_hardware_end, source_protocol_addr, source_protocol_end, target_hardware_addr, target_hardware_end, target_protocol_addr, target_protocol_end};
 ghost use Rattle.wire_arp.specs.ArpText.{packet_text};
 ghost use Rattle.wire_ethernet.specs.Ethernet.{protocol_of};
 
@@ -75,7 +74,7 @@ impl<B: Octets> ArpView<B> {
     /// The kind of the hardware addresses.
     pub fn hardware_type(&self) -> ArpHardware
         requires { 2 ≤ length (B.octets (packet_slice self.now)) }
-        ensures { result ≡ hardware_of (field (B.octets (packet_slice self.now)) 0 16) }
+        ensures { result ≡ hardware_of (hardware_type_of (B.octets (packet_slice self.now))) }
     {
         ArpHardware::from(NetworkEndian::read_u16(&self.as_bytes()[0..2]))
     }
@@ -83,7 +82,7 @@ impl<B: Octets> ArpView<B> {
     /// The protocol whose addresses the packet has.
     pub fn protocol_type(&self) -> EthernetProtocol
         requires { 4 ≤ length (B.octets (packet_slice self.now)) }
-        ensures { result ≡ protocol_of (field (B.octets (packet_slice self.now)) 16 16) }
+        ensures { result ≡ protocol_of (protocol_type_of (B.octets (packet_slice self.now))) }
     {
         EthernetProtocol::from(NetworkEndian::read_u16(&self.as_bytes()[2..4]))
     }
@@ -107,7 +106,7 @@ impl<B: Octets> ArpView<B> {
     /// The operation.
     pub fn operation(&self) -> ArpOperation
         requires { 8 ≤ length (B.octets (packet_slice self.now)) }
-        ensures { result ≡ operation_of (field (B.octets (packet_slice self.now)) 48 16) }
+        ensures { result ≡ operation_of (opcode_of (B.octets (packet_slice self.now))) }
     {
         ArpOperation::from(NetworkEndian::read_u16(&self.as_bytes()[6..8]))
     }
