@@ -7,6 +7,7 @@ use Rattle.byteorder.specs.Endian.{big_bytes}
 use Rattle.wire_field.specs.Field.{field}
 use Rattle.wire_field.specs.Borrow.{Holds}
 use Rattle.wire_ends.specs.Protocol.{known, number_of, protocol_of}
+use Rattle.wire_ends.specs.declared.ip_protocol.IpProtocol.{IpProtocol}
 use Rattle.wire_ipv6.specs.declared.ipv6.packet.Ipv6View.{Ipv6View}
 use Rattle.wire_ipv6.specs.declared.ipv6.repr.Ipv6Repr.{Ipv6Repr}
 
@@ -34,9 +35,33 @@ packet_bytes_mut p = (packet_slice p).now
 abbrev pub Becomes : Writing → Writing → List ℕ → Type 0
 Becomes old new bytes = Holds (packet_slice old) (packet_slice new) bytes
 
+-- the version field
+abbrev pub ip_version_of : List ℕ → ℕ
+ip_version_of bytes = field bytes 0 4
+
+-- the length of the payload in bytes
+abbrev pub payload_len_of : List ℕ → ℕ
+payload_len_of bytes = field bytes 32 16
+
+-- the protocol of the payload, or the type of the first extension header
+abbrev pub next_header_of : List ℕ → IpProtocol
+next_header_of bytes = protocol_of (field bytes 48 8)
+
+-- the hop limit
+abbrev pub hop_limit_of : List ℕ → ℕ
+hop_limit_of bytes = field bytes 56 8
+
+-- the source address
+abbrev pub src_addr_of : List ℕ → List ℕ
+src_addr_of bytes = slice_range bytes 8 24
+
+-- the destination address
+abbrev pub dst_addr_of : List ℕ → List ℕ
+dst_addr_of bytes = slice_range bytes 24 40
+
 -- the length of the packet in bytes: header and payload
 abbrev pub total_len : List ℕ → ℕ
-total_len bytes = 40 + field bytes 32 16
+total_len bytes = 40 + payload_len_of bytes
 
 -- the payload: the bytes after the header, up to the end of the packet
 abbrev pub payload_of : List ℕ → List ℕ
@@ -49,26 +74,26 @@ HasLengths bytes = total_len bytes ≤ length bytes
 -- the bytes begin with a packet that parses as this value
 pub record Reads (bytes : List ℕ) (v : Ipv6Repr) : Type 0 where
   pub lengths : HasLengths bytes
-  pub version : field bytes 0 4 ≡ 6
-  pub payload_len : v.payload_len ≡ field bytes 32 16
-  pub next_header : v.next_header ≡ protocol_of (field bytes 48 8)
-  pub hop_limit : v.hop_limit ≡ field bytes 56 8
-  pub src_addr : v.src_addr ≡ slice_range bytes 8 24
-  pub dst_addr : v.dst_addr ≡ slice_range bytes 24 40
+  pub version : ip_version_of bytes ≡ 6
+  pub payload_len : v.payload_len ≡ payload_len_of bytes
+  pub next_header : v.next_header ≡ next_header_of bytes
+  pub hop_limit : v.hop_limit ≡ hop_limit_of bytes
+  pub src_addr : v.src_addr ≡ src_addr_of bytes
+  pub dst_addr : v.dst_addr ≡ dst_addr_of bytes
 
 -- the values of the fields of an IPv6 header
 abbrev pub header_of : List ℕ → Ipv6Repr
 header_of bytes = record {
-  src_addr = slice_range bytes 8 24;
-  dst_addr = slice_range bytes 24 40;
-  next_header = protocol_of (field bytes 48 8);
-  payload_len = field bytes 32 16;
-  hop_limit = field bytes 56 8;
+  src_addr = src_addr_of bytes;
+  dst_addr = dst_addr_of bytes;
+  next_header = next_header_of bytes;
+  payload_len = payload_len_of bytes;
+  hop_limit = hop_limit_of bytes;
 }
 
 -- whether the bytes parse
 abbrev pub is_read : List ℕ → Bool
-is_read bytes = nat_le (total_len bytes) (length bytes) && field bytes 0 4 == 6
+is_read bytes = nat_le (total_len bytes) (length bytes) && ip_version_of bytes == 6
 
 -- the value that the bytes parse as, if there is one
 unfoldable pub ipv6_of : List ℕ → Option Ipv6Repr

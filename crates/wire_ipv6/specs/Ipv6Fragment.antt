@@ -33,19 +33,31 @@ header_bytes_mut h = (header_slice h).now
 abbrev pub Becomes : Writing → Writing → List ℕ → Type 0
 Becomes old new bytes = Holds (header_slice old) (header_slice new) bytes
 
+-- the offset of the fragment in units of 8 bytes
+abbrev pub frag_offset_of : List ℕ → ℕ
+frag_offset_of bytes = field bytes 0 13
+
+-- the flag M (more fragments): 1 if it is set, else 0
+abbrev pub more_frags_of : List ℕ → ℕ
+more_frags_of bytes = field bytes 15 1
+
+-- the identification
+abbrev pub ident_of : List ℕ → ℕ
+ident_of bytes = field bytes 16 32
+
 -- the bytes begin with a fragment header that parses as this value; the two reserved bits are ignored
 pub record Reads (bytes : List ℕ) (v : Ipv6FragmentRepr) : Type 0 where
   pub whole : 6 ≤ length bytes
-  pub frag_offset : v.frag_offset ≡ field bytes 0 13
-  pub more_frags : IsTrue v.more_frags ↔ (field bytes 15 1 ≡ 1)
-  pub ident : v.ident ≡ field bytes 16 32
+  pub frag_offset : v.frag_offset ≡ frag_offset_of bytes
+  pub more_frags : IsTrue v.more_frags ↔ (more_frags_of bytes ≡ 1)
+  pub ident : v.ident ≡ ident_of bytes
 
 -- the values of the fields of a fragment header
 abbrev pub header_of : List ℕ → Ipv6FragmentRepr
 header_of bytes = record {
-  frag_offset = field bytes 0 13;
-  more_frags = field bytes 15 1 == 1;
-  ident = field bytes 16 32;
+  frag_offset = frag_offset_of bytes;
+  more_frags = more_frags_of bytes == 1;
+  ident = ident_of bytes;
 }
 
 -- the value that the bytes parse as, if there is one

@@ -1,10 +1,9 @@
 //! Views of IPv6 packets, and their getters.
 
-ghost use Rattle.std.specs.Prelude.{◌≡◌, ◌↔◌, ◌≤◌, IfOk, IsOk, Some, length, slice_range};
+ghost use Rattle.std.specs.Prelude.{◌≡◌, ◌↔◌, ◌≤◌, IfOk, IsOk, Some, length};
 ghost use Rattle.wire_field.specs.Field.{field};
-ghost use Rattle.wire_ipv6.specs.Ipv6.{HasLengths, packet_bytes, packet_slice, payload_of, total_len};
+ghost use Rattle.wire_ipv6.specs.Ipv6.{HasLengths, dst_addr_of, hop_limit_of, ip_version_of, next_header_of, packet_bytes, packet_slice, payload_len_of, payload_of, src_addr_of, total_len};
 ghost use Rattle.wire_ipv6.specs.Ipv6Text.{packet_text};
-ghost use Rattle.wire_ends.specs.Protocol.{protocol_of};
 
 use super::{IPV6_HEADER_LEN, Ipv6Repr};
 use byteorder::{ByteOrder, NetworkEndian};
@@ -78,7 +77,7 @@ impl<B: Octets> Ipv6View<B> {
     /// The version, of 4 bits.
     pub fn version(&self) -> u8
         requires { 1 ≤ length (B.octets (packet_slice self.now)) }
-        ensures { result ≡ field (B.octets (packet_slice self.now)) 0 4 }
+        ensures { result ≡ ip_version_of (B.octets (packet_slice self.now)) }
     {
         self.as_bytes()[0] >> 4
     }
@@ -103,7 +102,7 @@ impl<B: Octets> Ipv6View<B> {
     /// The length of the payload in bytes. Extension headers are counted.
     pub fn payload_len(&self) -> u16
         requires { 6 ≤ length (B.octets (packet_slice self.now)) }
-        ensures { result ≡ field (B.octets (packet_slice self.now)) 32 16 }
+        ensures { result ≡ payload_len_of (B.octets (packet_slice self.now)) }
     {
         NetworkEndian::read_u16(&self.as_bytes()[4..6])
     }
@@ -120,7 +119,7 @@ impl<B: Octets> Ipv6View<B> {
     #[inline(always)]
     pub fn next_header(&self) -> IpProtocol
         requires { 7 ≤ length (B.octets (packet_slice self.now)) }
-        ensures { result ≡ protocol_of (field (B.octets (packet_slice self.now)) 48 8) }
+        ensures { result ≡ next_header_of (B.octets (packet_slice self.now)) }
     {
         IpProtocol::from(self.as_bytes()[6])
     }
@@ -128,7 +127,7 @@ impl<B: Octets> Ipv6View<B> {
     /// The hop limit: the number of hops that the packet may still take.
     pub fn hop_limit(&self) -> u8
         requires { 8 ≤ length (B.octets (packet_slice self.now)) }
-        ensures { result ≡ field (B.octets (packet_slice self.now)) 56 8 }
+        ensures { result ≡ hop_limit_of (B.octets (packet_slice self.now)) }
     {
         self.as_bytes()[7]
     }
@@ -136,7 +135,7 @@ impl<B: Octets> Ipv6View<B> {
     /// The source address.
     pub fn src_addr(&self) -> Ipv6Address
         requires { 24 ≤ length (B.octets (packet_slice self.now)) }
-        ensures { result ≡ slice_range (B.octets (packet_slice self.now)) 8 24 }
+        ensures { result ≡ src_addr_of (B.octets (packet_slice self.now)) }
     {
         Ipv6Address::from_octets(array_at(self.as_bytes(), 8))
     }
@@ -144,7 +143,7 @@ impl<B: Octets> Ipv6View<B> {
     /// The destination address.
     pub fn dst_addr(&self) -> Ipv6Address
         requires { 40 ≤ length (B.octets (packet_slice self.now)) }
-        ensures { result ≡ slice_range (B.octets (packet_slice self.now)) 24 40 }
+        ensures { result ≡ dst_addr_of (B.octets (packet_slice self.now)) }
     {
         Ipv6Address::from_octets(array_at(self.as_bytes(), 24))
     }

@@ -1,8 +1,7 @@
 //! Views of IPv6 fragment headers, and their getters.
 
 ghost use Rattle.std.specs.Prelude.{◌≡◌, ◌↔◌, ◌≤◌, IfOk, IsOk, IsTrue, Some, length};
-ghost use Rattle.wire_field.specs.Field.{field};
-ghost use Rattle.wire_ipv6.specs.Ipv6Fragment.{header_bytes, header_slice, header_text};
+ghost use Rattle.wire_ipv6.specs.Ipv6Fragment.{frag_offset_of, header_bytes, header_slice, header_text, ident_of, more_frags_of};
 
 use super::{HEADER_LEN, Ipv6FragmentRepr};
 use byteorder::{ByteOrder, NetworkEndian};
@@ -66,7 +65,7 @@ impl<B: Octets> Ipv6FragmentView<B> {
     /// The fragment offset: where the fragment begins in the fragmentable part, in units of 8 bytes.
     pub fn frag_offset(&self) -> u16
         requires { 2 ≤ length (B.octets (header_slice self.now)) }
-        ensures { result ≡ field (B.octets (header_slice self.now)) 0 13 }
+        ensures { result ≡ frag_offset_of (B.octets (header_slice self.now)) }
     {
         NetworkEndian::read_u16(&self.as_bytes()[0..2]) >> 3
     }
@@ -74,7 +73,7 @@ impl<B: Octets> Ipv6FragmentView<B> {
     /// Returns `true` if more fragments follow this one.
     pub fn more_frags(&self) -> bool
         requires { 2 ≤ length (B.octets (header_slice self.now)) }
-        ensures { IsTrue result ↔ (field (B.octets (header_slice self.now)) 15 1 ≡ 1) }
+        ensures { IsTrue result ↔ (more_frags_of (B.octets (header_slice self.now)) ≡ 1) }
     {
         is_bit_set(self.as_bytes(), 15)
     }
@@ -82,7 +81,7 @@ impl<B: Octets> Ipv6FragmentView<B> {
     /// The identification, which all fragments of a packet share.
     pub fn ident(&self) -> u32
         requires { 6 ≤ length (B.octets (header_slice self.now)) }
-        ensures { result ≡ field (B.octets (header_slice self.now)) 16 32 }
+        ensures { result ≡ ident_of (B.octets (header_slice self.now)) }
     {
         NetworkEndian::read_u32(&self.as_bytes()[2..6])
     }
