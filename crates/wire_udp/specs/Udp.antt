@@ -40,6 +40,30 @@ packet_bytes_mut p = (packet_slice p).now
 abbrev pub Becomes : Writing → Writing → List ℕ → Type 0
 Becomes old new bytes = Holds (packet_slice old) (packet_slice new) bytes
 
+-- the source port; 0 if the sender has none
+abbrev pub src_port_of : List ℕ → ℕ
+src_port_of bytes = field bytes 0 16
+
+-- the destination port
+abbrev pub dst_port_of : List ℕ → ℕ
+dst_port_of bytes = field bytes 16 16
+
+-- the checksum field; 0 if the sender computed no checksum
+abbrev pub checksum_of : List ℕ → ℕ
+checksum_of bytes = field bytes 48 16
+
+-- the bytes with this source port
+abbrev pub with_src_port : List ℕ → ℕ → List ℕ
+with_src_port bytes x = with_field bytes 0 16 x
+
+-- the bytes with this destination port
+abbrev pub with_dst_port : List ℕ → ℕ → List ℕ
+with_dst_port bytes x = with_field bytes 16 16 x
+
+-- the bytes with this number in the checksum field
+abbrev pub with_checksum_field : List ℕ → ℕ → List ℕ
+with_checksum_field bytes x = with_field bytes 48 16 x
+
 -- the length field: the length of header and payload in bytes
 abbrev pub packet_len : List ℕ → ℕ
 packet_len bytes = field bytes 32 16
@@ -74,7 +98,7 @@ Verifies src dst bytes = packet_sum src dst (take (packet_len bytes) bytes) ≡ 
 
 -- the checksum is valid: not 0 and correct, or 0 over IPv4
 abbrev pub HasChecksum : IpAddress → IpAddress → List ℕ → Type 0
-HasChecksum src dst bytes = ((field bytes 48 16 ≡ 0) × (version_of src ≡ version.Ipv4)) ⊎ ((field bytes 48 16 ≢ 0) × Verifies src dst bytes)
+HasChecksum src dst bytes = ((checksum_of bytes ≡ 0) × (version_of src ≡ version.Ipv4)) ⊎ ((checksum_of bytes ≢ 0) × Verifies src dst bytes)
 
 -- the checksum of a sum: its complement, or 0xffff instead of 0, because 0 means that there is no checksum
 abbrev pub checksum_for : ℕ → ℕ
@@ -83,30 +107,30 @@ checksum_for sum = if 65535 - sum == 0 then 65535 else 65535 - sum
 -- the bytes with a correct checksum of the packet at their front, computed with 0 in the checksum field
 abbrev pub with_checksum : IpAddress → IpAddress → List ℕ → List ℕ
 with_checksum src dst bytes =
-    let zeroed = with_field bytes 48 16 0 in
-    with_field zeroed 48 16 (checksum_for (packet_sum src dst (take (packet_len bytes) zeroed)))
+    let zeroed = with_checksum_field bytes 0 in
+    with_checksum_field zeroed (checksum_for (packet_sum src dst (take (packet_len bytes) zeroed)))
 
 -- the bytes with the checksum updated, after words that it covers changed from the sum old to the sum new; 0, which
 -- means that there is no checksum, stays
 abbrev pub with_updated_checksum : List ℕ → ℕ → ℕ → List ℕ
 with_updated_checksum bytes old new =
-    let checksum = field bytes 48 16 in
-    if checksum == 0 then bytes else with_field bytes 48 16 (checksum_for (65535 - updated checksum old new))
+    let checksum = checksum_of bytes in
+    if checksum == 0 then bytes else with_checksum_field bytes (checksum_for (65535 - updated checksum old new))
 
 -- ---- reading and writing
 
 -- the bytes begin with a packet between two addresses that parses as this value and payload
 pub record Reads (bytes : List ℕ) (src dst : IpAddress) (verified : Bool) (v : UdpRepr) (payload : List ℕ) : Type 0 where
   pub lengths : HasLengths bytes
-  pub receiver : field bytes 16 16 ≢ 0
+  pub receiver : dst_port_of bytes ≢ 0
   pub checksum : IsTrue verified → HasChecksum src dst bytes
-  pub src_port : v.src_port ≡ field bytes 0 16
-  pub dst_port : v.dst_port ≡ field bytes 16 16
+  pub src_port : v.src_port ≡ src_port_of bytes
+  pub dst_port : v.dst_port ≡ dst_port_of bytes
   pub body : payload ≡ payload_of bytes
 
 -- the values of the fields of a UDP header
 abbrev pub header_of : List ℕ → UdpRepr
-header_of bytes = record { src_port = field bytes 0 16; dst_port = field bytes 16 16 }
+header_of bytes = record { src_port = src_port_of bytes; dst_port = dst_port_of bytes }
 
 -- whether the lengths are valid
 abbrev pub has_lengths : List ℕ → Bool
@@ -119,11 +143,11 @@ is_ipv4 (address.Ipv6 bytes) = false
 
 -- whether the checksum is valid
 abbrev pub has_checksum : IpAddress → IpAddress → List ℕ → Bool
-has_checksum src dst bytes = if field bytes 48 16 == 0 then is_ipv4 src else packet_sum src dst (take (packet_len bytes) bytes) == 65535
+has_checksum src dst bytes = if checksum_of bytes == 0 then is_ipv4 src else packet_sum src dst (take (packet_len bytes) bytes) == 65535
 
 -- whether the bytes parse
 abbrev pub is_read : IpAddress → IpAddress → Bool → List ℕ → Bool
-is_read src dst verified bytes = has_lengths bytes && not (field bytes 16 16 == 0) && (not verified || has_checksum src dst bytes)
+is_read src dst verified bytes = has_lengths bytes && not (dst_port_of bytes == 0) && (not verified || has_checksum src dst bytes)
 
 -- the value that the bytes parse as, if there is one
 unfoldable pub udp_of : IpAddress → IpAddress → Bool → List ℕ → Option UdpRepr

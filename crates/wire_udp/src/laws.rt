@@ -4,8 +4,7 @@ ghost use Rattle.std.specs.Prelude.{◌≡◌, ◌≢◌, ◌↔◌, ◌++◌, �
 ghost use Rattle.wire_ends.specs.IpAddress.{address_bytes, version_of};
 ghost use Rattle.wire_ends.specs.declared.ip_address.IpAddress.{IpAddress};
 ghost use Rattle.wire_field.specs.Diagram.{end_of, nth_field};
-ghost use Rattle.wire_field.specs.Field.{field, with_field};
-ghost use Rattle.wire_udp.specs.Udp.{HasChecksum, HasLengths, Reads, Verifies, bytes_of, max_payload_len, packet_bytes, packet_bytes_mut, packet_len, payload_of, udp_of, with_checksum};
+ghost use Rattle.wire_udp.specs.Udp.{HasChecksum, HasLengths, Reads, Verifies, bytes_of, checksum_of, max_payload_len, packet_bytes, packet_bytes_mut, packet_len, payload_of, udp_of, with_checksum, with_checksum_field, with_dst_port, with_src_port};
 ghost use Rattle.wire_udp.specs.UdpFields.{address_after, address_before, after, after_fill, after_update, diagram, got, read_of, with_sums, write_of};
 ghost use Rattle.wire_udp.specs.declared.udp.repr.UdpRepr.{UdpRepr};
 
@@ -91,7 +90,7 @@ pub fn filled_checksum_verifies_udp(bytes: &[u8], src_addr: IpAddress, dst_addr:
     requires lengths { HasLengths bytes.now }
     requires family { version_of src_addr ≡ version_of dst_addr }
     ensures valid { HasChecksum src_addr dst_addr (with_checksum src_addr dst_addr bytes.now) }
-    ensures written { field (with_checksum src_addr dst_addr bytes.now) 48 16 ≢ 0 }
+    ensures written { checksum_of (with_checksum src_addr dst_addr bytes.now) ≢ 0 }
     ensures verifies { Verifies src_addr dst_addr (with_checksum src_addr dst_addr bytes.now) }
     ensures reads { (v : UdpRepr) (payload : List ℕ) → Reads bytes.now src_addr dst_addr false v payload
         → Reads (with_checksum src_addr dst_addr bytes.now) src_addr dst_addr true v payload }
@@ -121,9 +120,9 @@ pub fn one_value_changes_udp(
     word: u16,
 )
     requires { Reads bytes.now src_addr dst_addr false value payload.now }
-    ensures src_port { Reads (with_field bytes.now 0 16 word) src_addr dst_addr false (record value { src_port = word }) payload.now }
-    ensures dst_port { word ≢ 0 → Reads (with_field bytes.now 16 16 word) src_addr dst_addr false (record value { dst_port = word }) payload.now }
-    ensures checksum { Reads (with_field bytes.now 48 16 word) src_addr dst_addr false value payload.now }
+    ensures src_port { Reads (with_src_port bytes.now word) src_addr dst_addr false (record value { src_port = word }) payload.now }
+    ensures dst_port { word ≢ 0 → Reads (with_dst_port bytes.now word) src_addr dst_addr false (record value { dst_port = word }) payload.now }
+    ensures checksum { Reads (with_checksum_field bytes.now word) src_addr dst_addr false value payload.now }
 {}
 
 /// A call of a setter.

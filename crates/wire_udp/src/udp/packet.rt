@@ -2,8 +2,7 @@
 
 ghost use Rattle.std.specs.Prelude.{◌≡◌, ◌↔◌, ◌≤◌, ◌⊎◌, IfOk, IsOk, IsTrue, Some, length};
 ghost use Rattle.wire_ends.specs.IpAddress.{version_of};
-ghost use Rattle.wire_field.specs.Field.{field};
-ghost use Rattle.wire_udp.specs.Udp.{HasChecksum, HasLengths, Verifies, has_checksum, packet_bytes, packet_len, packet_slice, payload_of, pseudo_header_sum};
+ghost use Rattle.wire_udp.specs.Udp.{HasChecksum, HasLengths, Verifies, checksum_of, dst_port_of, has_checksum, packet_bytes, packet_len, packet_slice, payload_of, pseudo_header_sum, src_port_of};
 ghost use Rattle.wire_udp.specs.UdpText.{packet_text};
 
 use super::UDP_HEADER_LEN;
@@ -76,7 +75,7 @@ impl<B: Octets> UdpView<B> {
     /// The source port, or 0 if the sender has none.
     pub fn src_port(&self) -> u16
         requires { 2 ≤ length (B.octets (packet_slice self.now)) }
-        ensures { result ≡ field (B.octets (packet_slice self.now)) 0 16 }
+        ensures { result ≡ src_port_of (B.octets (packet_slice self.now)) }
     {
         NetworkEndian::read_u16(&self.as_bytes()[0..2])
     }
@@ -84,7 +83,7 @@ impl<B: Octets> UdpView<B> {
     /// The destination port.
     pub fn dst_port(&self) -> u16
         requires { 4 ≤ length (B.octets (packet_slice self.now)) }
-        ensures { result ≡ field (B.octets (packet_slice self.now)) 16 16 }
+        ensures { result ≡ dst_port_of (B.octets (packet_slice self.now)) }
     {
         NetworkEndian::read_u16(&self.as_bytes()[2..4])
     }
@@ -100,7 +99,7 @@ impl<B: Octets> UdpView<B> {
     /// The checksum field, or 0 if the sender computed no checksum.
     pub fn checksum(&self) -> u16
         requires { 8 ≤ length (B.octets (packet_slice self.now)) }
-        ensures { result ≡ field (B.octets (packet_slice self.now)) 48 16 }
+        ensures { result ≡ checksum_of (B.octets (packet_slice self.now)) }
     {
         NetworkEndian::read_u16(&self.as_bytes()[6..8])
     }
@@ -110,7 +109,7 @@ impl<B: Octets> UdpView<B> {
     pub fn verify_partial_checksum(&self, src_addr: &IpAddress, dst_addr: &IpAddress) -> bool
         requires header { 8 ≤ length (B.octets (packet_slice self.now)) }
         requires family { version_of src_addr.now ≡ version_of dst_addr.now }
-        ensures { IsTrue result ↔ (field (B.octets (packet_slice self.now)) 48 16 ≡ pseudo_header_sum src_addr.now dst_addr.now (B.octets (packet_slice self.now))) }
+        ensures { IsTrue result ↔ (checksum_of (B.octets (packet_slice self.now)) ≡ pseudo_header_sum src_addr.now dst_addr.now (B.octets (packet_slice self.now))) }
     {
         let len = u32::from(self.len());
         self.checksum() == checksum::pseudo_header(src_addr, dst_addr, IpProtocol::Udp, len)
@@ -123,7 +122,7 @@ impl<B: Octets> UdpView<B> {
         requires header { 8 ≤ length (B.octets (packet_slice self.now)) }
         requires whole { packet_len (B.octets (packet_slice self.now)) ≤ length (B.octets (packet_slice self.now)) }
         requires family { version_of src_addr.now ≡ version_of dst_addr.now }
-        ensures { IsTrue result ↔ ((field (B.octets (packet_slice self.now)) 48 16 ≡ 0) ⊎ Verifies src_addr.now dst_addr.now (B.octets (packet_slice self.now))) }
+        ensures { IsTrue result ↔ ((checksum_of (B.octets (packet_slice self.now)) ≡ 0) ⊎ Verifies src_addr.now dst_addr.now (B.octets (packet_slice self.now))) }
     {
         if self.checksum() == 0 {
             return true;

@@ -5,7 +5,7 @@ ghost use Rattle.std.specs.Borrow.{sem};
 ghost use Rattle.wire_ends.specs.IpAddress.{version_of};
 ghost use Rattle.wire_field.specs.Field.{with_field, with_range};
 ghost use Rattle.wire_field.specs.Borrow.{Checks, Holds, Locates, StaysIfErr};
-ghost use Rattle.wire_udp.specs.Udp.{Becomes, HasLengths, packet_bytes_mut, packet_len, packet_slice, payload_of, with_checksum};
+ghost use Rattle.wire_udp.specs.Udp.{Becomes, HasLengths, packet_bytes_mut, packet_len, packet_slice, payload_of, with_checksum, with_checksum_field, with_dst_port, with_src_port};
 ghost use Rattle.wire_udp.specs.UdpBorrow.{BorrowsPayload};
 
 use super::packet::UdpView;
@@ -47,7 +47,7 @@ impl<'a> UdpPacketMut<'a> {
     /// Writes the source port, or 0 if the sender has none.
     pub fn set_src_port(&mut self, value: u16)
         requires { 2 ≤ length (packet_bytes_mut self.old) }
-        ensures { Becomes self.old self.new (with_field (packet_bytes_mut self.old) 0 16 value) }
+        ensures { Becomes self.old self.new (with_src_port (packet_bytes_mut self.old) value) }
     {
         NetworkEndian::write_u16(&mut self.buffer[0..2], value);
     }
@@ -55,7 +55,7 @@ impl<'a> UdpPacketMut<'a> {
     /// Writes the destination port.
     pub fn set_dst_port(&mut self, value: u16)
         requires { 4 ≤ length (packet_bytes_mut self.old) }
-        ensures { Becomes self.old self.new (with_field (packet_bytes_mut self.old) 16 16 value) }
+        ensures { Becomes self.old self.new (with_dst_port (packet_bytes_mut self.old) value) }
     {
         NetworkEndian::write_u16(&mut self.buffer[2..4], value);
     }
@@ -71,7 +71,7 @@ impl<'a> UdpPacketMut<'a> {
     /// Writes the checksum field.
     pub fn set_checksum(&mut self, value: u16)
         requires { 8 ≤ length (packet_bytes_mut self.old) }
-        ensures { Becomes self.old self.new (with_field (packet_bytes_mut self.old) 48 16 value) }
+        ensures { Becomes self.old self.new (with_checksum_field (packet_bytes_mut self.old) value) }
     {
         NetworkEndian::write_u16(&mut self.buffer[6..8], value);
     }

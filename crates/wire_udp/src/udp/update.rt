@@ -5,8 +5,7 @@ ghost use Rattle.std.specs.Prelude.{◌≡◌, ◌≢◌, ◌%◌, ◌≤◌, Bo
 ghost use Rattle.wire_checksum.specs.WordSum.{sum_of_bytes};
 ghost use Rattle.wire_ends.specs.IpAddress.{address_bytes, version_of};
 ghost use Rattle.wire_ends.specs.declared.ip_address.IpAddress.{IpAddress};
-ghost use Rattle.wire_field.specs.Field.{field, with_field};
-ghost use Rattle.wire_udp.specs.Udp.{Becomes, HasChecksum, HasLengths, Reads, packet_bytes_mut, with_updated_checksum};
+ghost use Rattle.wire_udp.specs.Udp.{Becomes, HasChecksum, HasLengths, Reads, dst_port_of, packet_bytes_mut, src_port_of, with_dst_port, with_src_port, with_updated_checksum};
 ghost use Rattle.wire_udp.specs.declared.udp.repr.UdpRepr.{UdpRepr};
 
 use super::{UdpPacketMut, checksum_for};
@@ -31,7 +30,7 @@ impl<'a> UdpPacketMut<'a> {
     pub fn update_src_port(&mut self, value: u16)
         requires { 8 ≤ length (packet_bytes_mut self.old) }
         ensures value { let bytes = packet_bytes_mut self.old in
-            Becomes self.old self.new (with_updated_checksum (with_field bytes 0 16 value) (field bytes 0 16) value) }
+            Becomes self.old self.new (with_updated_checksum (with_src_port bytes value) (src_port_of bytes) value) }
         ensures valid { (src dst : IpAddress) → length (address_bytes src) % 2 ≡ 0 → length (address_bytes dst) % 2 ≡ 0
             → HasLengths (packet_bytes_mut self.old) → HasChecksum src dst (packet_bytes_mut self.old) → HasChecksum src dst (packet_bytes_mut self.new) }
         ensures reads { (src dst : IpAddress) (verified : Bool) (v : UdpRepr) (payload : List ℕ) → length (address_bytes src) % 2 ≡ 0 → length (address_bytes dst) % 2 ≡ 0
@@ -48,7 +47,7 @@ impl<'a> UdpPacketMut<'a> {
     pub fn update_dst_port(&mut self, value: u16)
         requires { 8 ≤ length (packet_bytes_mut self.old) }
         ensures value { let bytes = packet_bytes_mut self.old in
-            Becomes self.old self.new (with_updated_checksum (with_field bytes 16 16 value) (field bytes 16 16) value) }
+            Becomes self.old self.new (with_updated_checksum (with_dst_port bytes value) (dst_port_of bytes) value) }
         ensures valid { (src dst : IpAddress) → length (address_bytes src) % 2 ≡ 0 → length (address_bytes dst) % 2 ≡ 0
             → HasLengths (packet_bytes_mut self.old) → HasChecksum src dst (packet_bytes_mut self.old) → HasChecksum src dst (packet_bytes_mut self.new) }
         ensures reads { (src dst : IpAddress) (verified : Bool) (v : UdpRepr) (payload : List ℕ) → length (address_bytes src) % 2 ≡ 0 → length (address_bytes dst) % 2 ≡ 0
