@@ -35,6 +35,86 @@ packet_bytes_mut p = (packet_slice p).now
 abbrev pub Becomes : Writing → Writing → List ℕ → Type 0
 Becomes old new bytes = Holds (packet_slice old) (packet_slice new) bytes
 
+-- the source port
+abbrev pub src_port_of : List ℕ → ℕ
+src_port_of bytes = field bytes 0 16
+
+-- the destination port
+abbrev pub dst_port_of : List ℕ → ℕ
+dst_port_of bytes = field bytes 16 16
+
+-- the 32 bits of the sequence number
+abbrev pub seq_bits_of : List ℕ → ℕ
+seq_bits_of bytes = field bytes 32 32
+
+-- the 32 bits of the acknowledgement number
+abbrev pub ack_bits_of : List ℕ → ℕ
+ack_bits_of bytes = field bytes 64 32
+
+-- the flag NS: 1 if it is set, else 0
+abbrev pub ns_of : List ℕ → ℕ
+ns_of bytes = field bytes 103 1
+
+-- the flag CWR: 1 if it is set, else 0
+abbrev pub cwr_of : List ℕ → ℕ
+cwr_of bytes = field bytes 104 1
+
+-- the flag ECE: 1 if it is set, else 0
+abbrev pub ece_of : List ℕ → ℕ
+ece_of bytes = field bytes 105 1
+
+-- the flag URG: 1 if it is set, else 0
+abbrev pub urg_of : List ℕ → ℕ
+urg_of bytes = field bytes 106 1
+
+-- the flag ACK: 1 if it is set, else 0
+abbrev pub ack_of : List ℕ → ℕ
+ack_of bytes = field bytes 107 1
+
+-- the flag PSH: 1 if it is set, else 0
+abbrev pub psh_of : List ℕ → ℕ
+psh_of bytes = field bytes 108 1
+
+-- the flag RST: 1 if it is set, else 0
+abbrev pub rst_of : List ℕ → ℕ
+rst_of bytes = field bytes 109 1
+
+-- the flag SYN: 1 if it is set, else 0
+abbrev pub syn_of : List ℕ → ℕ
+syn_of bytes = field bytes 110 1
+
+-- the flag FIN: 1 if it is set, else 0
+abbrev pub fin_of : List ℕ → ℕ
+fin_of bytes = field bytes 111 1
+
+-- the window
+abbrev pub window_len_of : List ℕ → ℕ
+window_len_of bytes = field bytes 112 16
+
+-- the checksum field
+abbrev pub checksum_of : List ℕ → ℕ
+checksum_of bytes = field bytes 128 16
+
+-- the urgent pointer
+abbrev pub urgent_at_of : List ℕ → ℕ
+urgent_at_of bytes = field bytes 144 16
+
+-- the bytes with this source port
+abbrev pub with_src_port : List ℕ → ℕ → List ℕ
+with_src_port bytes x = with_field bytes 0 16 x
+
+-- the bytes with this destination port
+abbrev pub with_dst_port : List ℕ → ℕ → List ℕ
+with_dst_port bytes x = with_field bytes 16 16 x
+
+-- the bytes with this window
+abbrev pub with_window_len : List ℕ → ℕ → List ℕ
+with_window_len bytes x = with_field bytes 112 16 x
+
+-- the bytes with this number in the checksum field
+abbrev pub with_checksum_field : List ℕ → ℕ → List ℕ
+with_checksum_field bytes x = with_field bytes 128 16 x
+
 -- the length of the header in bytes: the data offset counts words of 4
 abbrev pub header_len : List ℕ → ℕ
 header_len bytes = 4 * field bytes 96 4
@@ -49,7 +129,7 @@ payload_of bytes = drop (header_len bytes) bytes
 
 -- the number of sequence numbers that a segment uses: one for each byte of its payload, for SYN and for FIN
 abbrev pub segment_len : List ℕ → ℕ
-segment_len bytes = length bytes - header_len bytes + field bytes 110 1 + field bytes 111 1
+segment_len bytes = length bytes - header_len bytes + syn_of bytes + fin_of bytes
 
 -- the bytes with a flag set or cleared
 abbrev pub with_flag : List ℕ → ℕ → Bool → List ℕ
@@ -82,9 +162,9 @@ Verifies src dst bytes = segment_sum src dst bytes ≡ 65535
 -- the bytes with a correct checksum: the complement of their sum with 0 in the checksum field
 abbrev pub with_checksum : IpAddress → IpAddress → List ℕ → List ℕ
 with_checksum src dst bytes =
-    let zeroed = with_field bytes 128 16 0 in
-    with_field zeroed 128 16 (65535 - segment_sum src dst zeroed)
+    let zeroed = with_checksum_field bytes 0 in
+    with_checksum_field zeroed (65535 - segment_sum src dst zeroed)
 
 -- the bytes with the checksum updated, after words that it covers changed from the sum old to the sum new
 abbrev pub with_updated_checksum : List ℕ → ℕ → ℕ → List ℕ
-with_updated_checksum bytes old new = with_field bytes 128 16 (updated (field bytes 128 16) old new)
+with_updated_checksum bytes old new = with_checksum_field bytes (updated (checksum_of bytes) old new)

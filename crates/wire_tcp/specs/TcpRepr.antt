@@ -6,8 +6,7 @@ use Rattle.std.specs.List.{AllByRecursion, filter_map}
 use Rattle.std.specs.Option.{option_and_then, option_map, option_map_or}
 use Rattle.byteorder.specs.Endian.{big_bytes}
 use Rattle.wire_ends.specs.declared.ip_address.IpAddress.{IpAddress}
-use Rattle.wire_field.specs.Field.{field}
-use Rattle.wire_tcp.specs.Tcp.{HasLengths, Verifies, has_lengths, options_of, payload_of, segment_sum}
+use Rattle.wire_tcp.specs.Tcp.{HasLengths, Verifies, ack_bits_of, ack_of, dst_port_of, fin_of, has_lengths, options_of, payload_of, psh_of, rst_of, segment_sum, seq_bits_of, src_port_of, syn_of, window_len_of}
 use Rattle.wire_tcp_parts.specs.TcpItems.{IsOptionList, Item, first_item, item, sack_permitted_of, sack_ranges_of, segment_size_of, texts, timestamp_of, window_scale_of}
 use Rattle.wire_tcp_parts.specs.TcpOption.{range_bytes}
 use Rattle.wire_tcp_parts.specs.TcpSeq.{number}
@@ -57,21 +56,21 @@ seq_of bits = record { 0 = cast_signed w32 bits }
 
 -- the flags RST, SYN and FIN of a segment, each 1 if it is set
 pub record HasFlags (bytes : List ℕ) (r s f : ℕ) : Type 0 where
-  pub rst : field bytes 109 1 ≡ r
-  pub syn : field bytes 110 1 ≡ s
-  pub fin : field bytes 111 1 ≡ f
+  pub rst : rst_of bytes ≡ r
+  pub syn : syn_of bytes ≡ s
+  pub fin : fin_of bytes ≡ f
 
 -- the control of a segment: the one of RST, SYN and FIN that is set, or PSH if none of them is
 abbrev pub HasControl : List ℕ → TcpControl → Type 0
 HasControl bytes control.Rst = HasFlags bytes 1 0 0
 HasControl bytes control.Syn = HasFlags bytes 0 1 0
 HasControl bytes control.Fin = HasFlags bytes 0 0 1
-HasControl bytes control.Psh = HasFlags bytes 0 0 0 × (field bytes 108 1 ≡ 1)
-HasControl bytes control.None = HasFlags bytes 0 0 0 × (field bytes 108 1 ≡ 0)
+HasControl bytes control.Psh = HasFlags bytes 0 0 0 × (psh_of bytes ≡ 1)
+HasControl bytes control.None = HasFlags bytes 0 0 0 × (psh_of bytes ≡ 0)
 
 -- the acknowledgement number of a segment, if ACK is set
 abbrev pub ack_number_of : List ℕ → Option TcpSeqNumber
-ack_number_of bytes = if field bytes 107 1 == 1 then Some (seq_of (field bytes 64 32)) else None
+ack_number_of bytes = if ack_of bytes == 1 then Some (seq_of (ack_bits_of bytes)) else None
 
 -- a timestamp and the echoed timestamp as a value
 abbrev pub stamp_of : ℕ × ℕ → TcpTimestampRepr
@@ -99,16 +98,16 @@ pub record ReadsOptions (bytes : List ℕ) (v : TcpHeader) : Type 0 where
 -- the bytes are a segment between two addresses that parses as these values and this payload
 pub record Reads (bytes : List ℕ) (src dst : IpAddress) (verified : Bool) (v : TcpHeader) (payload : List ℕ) : Type 0 where
   pub lengths : HasLengths bytes
-  pub sender : field bytes 0 16 ≢ 0
-  pub receiver : field bytes 16 16 ≢ 0
+  pub sender : src_port_of bytes ≢ 0
+  pub receiver : dst_port_of bytes ≢ 0
   pub control : HasControl bytes v.control
   pub checksum : IsTrue verified → Verifies src dst bytes
   pub options : ReadsOptions (options_of bytes) v
-  pub src_port : v.src_port ≡ field bytes 0 16
-  pub dst_port : v.dst_port ≡ field bytes 16 16
-  pub seq_number : v.seq_number ≡ seq_of (field bytes 32 32)
+  pub src_port : v.src_port ≡ src_port_of bytes
+  pub dst_port : v.dst_port ≡ dst_port_of bytes
+  pub seq_number : v.seq_number ≡ seq_of (seq_bits_of bytes)
   pub ack_number : v.ack_number ≡ ack_number_of bytes
-  pub window_len : v.window_len ≡ field bytes 112 16
+  pub window_len : v.window_len ≡ window_len_of bytes
   pub body : payload ≡ payload_of bytes
 
 -- no control fits: more than one of RST, SYN and FIN is set
@@ -130,7 +129,7 @@ control_by rst syn fin psh =
 
 -- the control of the segment, if at most one of RST, SYN and FIN is set
 abbrev pub control_of : List ℕ → Option TcpControl
-control_of bytes = control_by (field bytes 109 1) (field bytes 110 1) (field bytes 111 1) (field bytes 108 1)
+control_of bytes = control_by (rst_of bytes) (syn_of bytes) (fin_of bytes) (psh_of bytes)
 
 -- the items in at most n bytes up to the end of the list, if none of them is malformed
 unfoldable pub items_within : ℕ → List ℕ → Option (List Item)
@@ -147,12 +146,12 @@ items_in bytes = items_within (length bytes) bytes
 -- the values of a segment with this control and these items
 abbrev pub header_with : List ℕ → TcpControl → List Item → TcpHeader
 header_with bytes asked items = record {
-  src_port = field bytes 0 16;
-  dst_port = field bytes 16 16;
+  src_port = src_port_of bytes;
+  dst_port = dst_port_of bytes;
   control = asked;
-  seq_number = seq_of (field bytes 32 32);
+  seq_number = seq_of (seq_bits_of bytes);
   ack_number = ack_number_of bytes;
-  window_len = field bytes 112 16;
+  window_len = window_len_of bytes;
   window_scale = scale_of items;
   max_seg_size = segment_size_of items;
   sack_permitted = sack_permitted_of items;
@@ -163,7 +162,7 @@ header_with bytes asked items = record {
 -- whether lengths, ports and checksum are valid
 abbrev pub is_sound : IpAddress → IpAddress → Bool → List ℕ → Bool
 is_sound src dst verified bytes =
-    has_lengths bytes && not (field bytes 0 16 == 0) && not (field bytes 16 16 == 0)
+    has_lengths bytes && not (src_port_of bytes == 0) && not (dst_port_of bytes == 0)
     && (not verified || (segment_sum src dst bytes == 65535))
 
 -- the value that the bytes parse as, if there is one, without its payload

@@ -5,8 +5,7 @@ use Rattle.std.specs.List.{join_by}
 use Rattle.std.specs.Option.{option_map_or}
 use Rattle.byteorder.specs.Endian.{big_number}
 use Rattle.wire_addr.specs.Printed.{hex}
-use Rattle.wire_field.specs.Field.{field}
-use Rattle.wire_tcp.specs.Tcp.{has_lengths, header_len, options_of}
+use Rattle.wire_tcp.specs.Tcp.{ack_bits_of, ack_of, cwr_of, dst_port_of, ece_of, fin_of, has_lengths, header_len, ns_of, options_of, psh_of, rst_of, seq_bits_of, src_port_of, syn_of, urg_of, urgent_at_of, window_len_of}
 use Rattle.wire_tcp_parts.specs.TcpItems.{Item, first_blocks, first_item, is_timestamp, stamps}
 use Rattle.wire_tcp_parts.specs.declared.tcp.option.TcpOption.{TcpOption}
 use Rattle.wire_tcp_parts.specs.declared.tcp.option.TcpOption.TheVariants.{EndOfList, NoOperation, MaxSegmentSize, WindowScale, SackPermitted, SackRange, TimeStamp, Unknown}
@@ -17,16 +16,16 @@ use Rattle.wire_tcp_parts.specs.declared.tcp.option.TcpOption.TheVariants.{EndOf
 abbrev pub ports_text : ℕ → ℕ → List ℕ
 ports_text src dst = codes "TCP src=" ++ (decimal src ++ (codes " dst=" ++ decimal dst))
 
--- the text if the flag at this bit is set, else nothing
-abbrev pub where_set : List ℕ → ℕ → List ℕ → List ℕ
-where_set bytes at text = if field bytes at 1 == 1 then text else []
+-- the text if a flag is 1, else nothing
+abbrev pub where_set : ℕ → List ℕ → List ℕ
+where_set flag text = if flag == 1 then text else []
 
 -- the printed text of the flags that are set
 unfoldable pub flags_text : List ℕ → List ℕ
 flags_text bytes =
-    where_set bytes 110 (codes " syn") ++ where_set bytes 111 (codes " fin") ++ where_set bytes 109 (codes " rst")
-    ++ where_set bytes 108 (codes " psh") ++ where_set bytes 105 (codes " ece") ++ where_set bytes 104 (codes " cwr")
-    ++ where_set bytes 103 (codes " ns")
+    where_set (syn_of bytes) (codes " syn") ++ where_set (fin_of bytes) (codes " fin") ++ where_set (rst_of bytes) (codes " rst")
+    ++ where_set (psh_of bytes) (codes " psh") ++ where_set (ece_of bytes) (codes " ece") ++ where_set (cwr_of bytes) (codes " cwr")
+    ++ where_set (ns_of bytes) (codes " ns")
 
 -- a name and a number in decimal
 abbrev pub numbered : List ℕ → ℕ → List ℕ
@@ -42,14 +41,14 @@ numbers_text seq ack window urgent len =
     numbered (codes " seq=") seq ++ numbered_some (codes " ack=") ack ++ numbered (codes " win=") window
     ++ numbered_some (codes " urg=") urgent ++ numbered (codes " len=") len
 
--- a number, if the flag at this bit is set
-abbrev pub number_where : List ℕ → ℕ → ℕ → Option ℕ
-number_where bytes at n = if field bytes at 1 == 1 then Some n else None
+-- a number, if a flag is 1
+abbrev pub number_where : ℕ → ℕ → Option ℕ
+number_where flag n = if flag == 1 then Some n else None
 
 -- the printed text of the numbers of the header that the bytes begin with
 abbrev pub fields_text : List ℕ → List ℕ
 fields_text bytes =
-    numbers_text (field bytes 32 32) (number_where bytes 107 (field bytes 64 32)) (field bytes 112 16) (number_where bytes 106 (field bytes 144 16)) (length bytes - header_len bytes)
+    numbers_text (seq_bits_of bytes) (number_where (ack_of bytes) (ack_bits_of bytes)) (window_len_of bytes) (number_where (urg_of bytes) (urgent_at_of bytes)) (length bytes - header_len bytes)
 
 -- ---- options
 
@@ -108,5 +107,5 @@ options_text bytes = options_text_within (length bytes) bytes
 unfoldable pub packet_text : List ℕ → List ℕ
 packet_text bytes =
     if has_lengths bytes then
-    ports_text (field bytes 0 16) (field bytes 16 16) ++ (flags_text bytes ++ (fields_text bytes ++ options_text (options_of bytes)))
+    ports_text (src_port_of bytes) (dst_port_of bytes) ++ (flags_text bytes ++ (fields_text bytes ++ options_text (options_of bytes)))
     else codes "TCP (wire::Error)"

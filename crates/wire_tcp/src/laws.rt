@@ -6,7 +6,7 @@ ghost use Rattle.wire_ends.specs.IpAddress.{address_bytes, version_of};
 ghost use Rattle.wire_ends.specs.declared.ip_address.IpAddress.{IpAddress};
 ghost use Rattle.wire_field.specs.Diagram.{end_of};
 ghost use Rattle.wire_field.specs.Field.{field, with_field};
-ghost use Rattle.wire_tcp.specs.Tcp.{HasLengths, Verifies, header_len, packet_bytes, packet_bytes_mut, payload_of, with_checksum, with_flag};
+ghost use Rattle.wire_tcp.specs.Tcp.{HasLengths, Verifies, ack_bits_of, header_len, packet_bytes, packet_bytes_mut, payload_of, with_checksum, with_checksum_field, with_dst_port, with_flag, with_src_port, with_window_len};
 ghost use Rattle.wire_tcp.specs.TcpRepr.{HasIdleRanges, IsQuiet, Reads, TcpHeader, bytes_of, header_len_of, header_of, no_ranges, normal, seq_of, tcp_of};
 ghost use Rattle.wire_tcp.specs.TcpFields.{address_after, address_before, after, after_fill, after_update, diagram, got, quiet_of, read_of, with_no_flags, with_sums, write_of};
 
@@ -172,12 +172,12 @@ pub fn one_value_changes_tcp(
     on: bool,
 )
     requires { Reads bytes.now src_addr dst_addr false (header_of value) value.payload.now }
-    ensures src_port { word ≢ 0 → Reads (with_field bytes.now 0 16 word) src_addr dst_addr false (record (header_of value.entry) { src_port = word }) value.entry.payload.now }
-    ensures dst_port { word ≢ 0 → Reads (with_field bytes.now 16 16 word) src_addr dst_addr false (record (header_of value.entry) { dst_port = word }) value.entry.payload.now }
+    ensures src_port { word ≢ 0 → Reads (with_src_port bytes.now word) src_addr dst_addr false (record (header_of value.entry) { src_port = word }) value.entry.payload.now }
+    ensures dst_port { word ≢ 0 → Reads (with_dst_port bytes.now word) src_addr dst_addr false (record (header_of value.entry) { dst_port = word }) value.entry.payload.now }
     ensures seq_number { Reads (with_field bytes.now 32 32 number) src_addr dst_addr false (record (header_of value.entry) { seq_number = seq_of number }) value.entry.payload.now }
     ensures ack_number { let ack = option_map (λ old. seq_of number) value.entry.ack_number in
         Reads (with_field bytes.now 64 32 number) src_addr dst_addr false (record (header_of value.entry) { ack_number = ack }) value.entry.payload.now }
-    ensures ack { let ack = if on then Some (seq_of (field bytes.now 64 32)) else None in
+    ensures ack { let ack = if on then Some (seq_of (ack_bits_of bytes.now)) else None in
         Reads (with_flag bytes.now 107 on) src_addr dst_addr false (record (header_of value.entry) { ack_number = ack }) value.entry.payload.now }
     ensures psh { IsQuiet value.entry.control → let control = if on then TcpControl.Psh else TcpControl.None in
         Reads (with_flag bytes.now 108 on) src_addr dst_addr false (record (header_of value.entry) { control = control }) value.entry.payload.now }
@@ -187,8 +187,8 @@ pub fn one_value_changes_tcp(
         Reads (with_flag bytes.now 110 on) src_addr dst_addr false (record (header_of value.entry) { control = control }) value.entry.payload.now }
     ensures fin { IsQuiet value.entry.control ⊎ (value.entry.control ≡ TcpControl.Fin) → let control = if on then TcpControl.Fin else quiet_of bytes.now in
         Reads (with_flag bytes.now 111 on) src_addr dst_addr false (record (header_of value.entry) { control = control }) value.entry.payload.now }
-    ensures window_len { Reads (with_field bytes.now 112 16 word) src_addr dst_addr false (record (header_of value.entry) { window_len = word }) value.entry.payload.now }
-    ensures checksum { Reads (with_field bytes.now 128 16 word) src_addr dst_addr false (header_of value.entry) value.entry.payload.now }
+    ensures window_len { Reads (with_window_len bytes.now word) src_addr dst_addr false (record (header_of value.entry) { window_len = word }) value.entry.payload.now }
+    ensures checksum { Reads (with_checksum_field bytes.now word) src_addr dst_addr false (header_of value.entry) value.entry.payload.now }
     ensures unread { (first width x : ℕ) → 0 < width → ((100 ≤ first) × (first + width ≤ 107)) ⊎ ((144 ≤ first) × (first + width ≤ 160))
         → Reads (with_field bytes.now first width x) src_addr dst_addr false (header_of value.entry) value.entry.payload.now }
 {}

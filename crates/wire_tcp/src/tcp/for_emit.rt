@@ -3,8 +3,8 @@
 ghost use Rattle.std.specs.Prelude.{◌≡◌, ◌+◌, ◌-◌, ◌≤◌, ◌++◌, drop, length, replicate};
 ghost use Rattle.byteorder.specs.Endian.{big_bytes};
 ghost use Rattle.wire_ends.specs.IpAddress.{version_of};
-ghost use Rattle.wire_field.specs.Field.{with_field, with_range};
-ghost use Rattle.wire_tcp.specs.Tcp.{Becomes, packet_bytes_mut, segment_sum};
+ghost use Rattle.wire_field.specs.Field.{with_range};
+ghost use Rattle.wire_tcp.specs.Tcp.{Becomes, packet_bytes_mut, segment_sum, with_checksum_field};
 ghost use Rattle.wire_tcp_parts.specs.TcpOption.{IsEmittable, option_len, option_text};
 ghost use Rattle.wire_tcp.specs.TcpFixed.{fixed_bytes};
 
@@ -47,7 +47,7 @@ pub(super) fn write_checksum(
     requires front { packet_bytes_mut packet.old ≡ fixed.now ++ drop 20 (packet_bytes_mut packet.old) }
     requires family { version_of src_addr.now ≡ version_of dst_addr.now }
     ensures { let bytes = packet_bytes_mut packet.old in
-        Becomes packet.old packet.new (with_field bytes 128 16 (65535 - segment_sum src_addr.now dst_addr.now bytes)) }
+        Becomes packet.old packet.new (with_checksum_field bytes (65535 - segment_sum src_addr.now dst_addr.now bytes)) }
 {
     let (_, rest) = packet.as_bytes().split_at(TCP_HEADER_LEN);
     let sum = wire_checksum::for_emit::packet(*src_addr, *dst_addr, IpProtocol::Tcp, fixed, rest);

@@ -3,7 +3,7 @@
 ghost use Rattle.std.specs.Prelude.{◌≡◌, ◌↔◌, ◌≤◌, [], IfOk, IsOk, IsTrue, OnErr, false, length, true};
 ghost use Rattle.wire_ends.specs.IpAddress.{version_of};
 ghost use Rattle.wire_field.specs.Field.{field};
-ghost use Rattle.wire_tcp.specs.Tcp.{HasLengths, Verifies, header_len, options_of, packet_bytes, packet_slice, payload_of, pseudo_header_sum, segment_len};
+ghost use Rattle.wire_tcp.specs.Tcp.{HasLengths, Verifies, ack_bits_of, ack_of, checksum_of, cwr_of, dst_port_of, ece_of, fin_of, header_len, ns_of, options_of, packet_bytes, packet_slice, payload_of, pseudo_header_sum, psh_of, rst_of, segment_len, seq_bits_of, src_port_of, syn_of, urg_of, urgent_at_of, window_len_of};
 ghost use Rattle.wire_tcp_parts.specs.TcpItems.{first_blocks};
 ghost use Rattle.wire_tcp_parts.specs.TcpSeq.{number};
 ghost use Rattle.wire_tcp_parts.specs.TcpSummary.{HasNoList, Summarizes};
@@ -78,7 +78,7 @@ impl<B: Octets> TcpView<B> {
     /// The source port.
     pub fn src_port(&self) -> u16
         requires { 2 ≤ length (B.octets (packet_slice self.now)) }
-        ensures { result ≡ field (B.octets (packet_slice self.now)) 0 16 }
+        ensures { result ≡ src_port_of (B.octets (packet_slice self.now)) }
     {
         NetworkEndian::read_u16(&self.as_bytes()[0..2])
     }
@@ -86,7 +86,7 @@ impl<B: Octets> TcpView<B> {
     /// The destination port.
     pub fn dst_port(&self) -> u16
         requires { 4 ≤ length (B.octets (packet_slice self.now)) }
-        ensures { result ≡ field (B.octets (packet_slice self.now)) 16 16 }
+        ensures { result ≡ dst_port_of (B.octets (packet_slice self.now)) }
     {
         NetworkEndian::read_u16(&self.as_bytes()[2..4])
     }
@@ -94,7 +94,7 @@ impl<B: Octets> TcpView<B> {
     /// The sequence number of the first byte of the payload, or of SYN.
     pub fn seq_number(&self) -> TcpSeqNumber
         requires { 8 ≤ length (B.octets (packet_slice self.now)) }
-        ensures { number result ≡ field (B.octets (packet_slice self.now)) 32 32 }
+        ensures { number result ≡ seq_bits_of (B.octets (packet_slice self.now)) }
     {
         seq_number_of(NetworkEndian::read_u32(&self.as_bytes()[4..8]))
     }
@@ -102,7 +102,7 @@ impl<B: Octets> TcpView<B> {
     /// The sequence number that the sender expects next. It is valid if ACK is set.
     pub fn ack_number(&self) -> TcpSeqNumber
         requires { 12 ≤ length (B.octets (packet_slice self.now)) }
-        ensures { number result ≡ field (B.octets (packet_slice self.now)) 64 32 }
+        ensures { number result ≡ ack_bits_of (B.octets (packet_slice self.now)) }
     {
         seq_number_of(NetworkEndian::read_u32(&self.as_bytes()[8..12]))
     }
@@ -118,7 +118,7 @@ impl<B: Octets> TcpView<B> {
     /// NS, the nonce sum that protects congestion notifications (RFC 3540).
     pub fn ns(&self) -> bool
         requires { 13 ≤ length (B.octets (packet_slice self.now)) }
-        ensures { IsTrue result ↔ (field (B.octets (packet_slice self.now)) 103 1 ≡ 1) }
+        ensures { IsTrue result ↔ (ns_of (B.octets (packet_slice self.now)) ≡ 1) }
     {
         is_bit_set(self.as_bytes(), 103)
     }
@@ -126,7 +126,7 @@ impl<B: Octets> TcpView<B> {
     /// CWR: congestion window reduced (RFC 3168).
     pub fn cwr(&self) -> bool
         requires { 14 ≤ length (B.octets (packet_slice self.now)) }
-        ensures { IsTrue result ↔ (field (B.octets (packet_slice self.now)) 104 1 ≡ 1) }
+        ensures { IsTrue result ↔ (cwr_of (B.octets (packet_slice self.now)) ≡ 1) }
     {
         is_bit_set(self.as_bytes(), 104)
     }
@@ -134,7 +134,7 @@ impl<B: Octets> TcpView<B> {
     /// ECE: the echo of a congestion notification (RFC 3168).
     pub fn ece(&self) -> bool
         requires { 14 ≤ length (B.octets (packet_slice self.now)) }
-        ensures { IsTrue result ↔ (field (B.octets (packet_slice self.now)) 105 1 ≡ 1) }
+        ensures { IsTrue result ↔ (ece_of (B.octets (packet_slice self.now)) ≡ 1) }
     {
         is_bit_set(self.as_bytes(), 105)
     }
@@ -142,7 +142,7 @@ impl<B: Octets> TcpView<B> {
     /// URG: the urgent pointer is valid.
     pub fn urg(&self) -> bool
         requires { 14 ≤ length (B.octets (packet_slice self.now)) }
-        ensures { IsTrue result ↔ (field (B.octets (packet_slice self.now)) 106 1 ≡ 1) }
+        ensures { IsTrue result ↔ (urg_of (B.octets (packet_slice self.now)) ≡ 1) }
     {
         is_bit_set(self.as_bytes(), 106)
     }
@@ -150,7 +150,7 @@ impl<B: Octets> TcpView<B> {
     /// ACK: the acknowledgement number is valid.
     pub fn ack(&self) -> bool
         requires { 14 ≤ length (B.octets (packet_slice self.now)) }
-        ensures { IsTrue result ↔ (field (B.octets (packet_slice self.now)) 107 1 ≡ 1) }
+        ensures { IsTrue result ↔ (ack_of (B.octets (packet_slice self.now)) ≡ 1) }
     {
         is_bit_set(self.as_bytes(), 107)
     }
@@ -158,7 +158,7 @@ impl<B: Octets> TcpView<B> {
     /// PSH: the receiver passes the data on at once.
     pub fn psh(&self) -> bool
         requires { 14 ≤ length (B.octets (packet_slice self.now)) }
-        ensures { IsTrue result ↔ (field (B.octets (packet_slice self.now)) 108 1 ≡ 1) }
+        ensures { IsTrue result ↔ (psh_of (B.octets (packet_slice self.now)) ≡ 1) }
     {
         is_bit_set(self.as_bytes(), 108)
     }
@@ -166,7 +166,7 @@ impl<B: Octets> TcpView<B> {
     /// RST: reset the connection.
     pub fn rst(&self) -> bool
         requires { 14 ≤ length (B.octets (packet_slice self.now)) }
-        ensures { IsTrue result ↔ (field (B.octets (packet_slice self.now)) 109 1 ≡ 1) }
+        ensures { IsTrue result ↔ (rst_of (B.octets (packet_slice self.now)) ≡ 1) }
     {
         is_bit_set(self.as_bytes(), 109)
     }
@@ -174,7 +174,7 @@ impl<B: Octets> TcpView<B> {
     /// SYN: synchronize sequence numbers.
     pub fn syn(&self) -> bool
         requires { 14 ≤ length (B.octets (packet_slice self.now)) }
-        ensures { IsTrue result ↔ (field (B.octets (packet_slice self.now)) 110 1 ≡ 1) }
+        ensures { IsTrue result ↔ (syn_of (B.octets (packet_slice self.now)) ≡ 1) }
     {
         is_bit_set(self.as_bytes(), 110)
     }
@@ -182,7 +182,7 @@ impl<B: Octets> TcpView<B> {
     /// FIN: no more data from the sender.
     pub fn fin(&self) -> bool
         requires { 14 ≤ length (B.octets (packet_slice self.now)) }
-        ensures { IsTrue result ↔ (field (B.octets (packet_slice self.now)) 111 1 ≡ 1) }
+        ensures { IsTrue result ↔ (fin_of (B.octets (packet_slice self.now)) ≡ 1) }
     {
         is_bit_set(self.as_bytes(), 111)
     }
@@ -190,7 +190,7 @@ impl<B: Octets> TcpView<B> {
     /// The receive window of the sender in bytes, before scaling.
     pub fn window_len(&self) -> u16
         requires { 16 ≤ length (B.octets (packet_slice self.now)) }
-        ensures { result ≡ field (B.octets (packet_slice self.now)) 112 16 }
+        ensures { result ≡ window_len_of (B.octets (packet_slice self.now)) }
     {
         NetworkEndian::read_u16(&self.as_bytes()[14..16])
     }
@@ -198,7 +198,7 @@ impl<B: Octets> TcpView<B> {
     /// The checksum field.
     pub fn checksum(&self) -> u16
         requires { 18 ≤ length (B.octets (packet_slice self.now)) }
-        ensures { result ≡ field (B.octets (packet_slice self.now)) 128 16 }
+        ensures { result ≡ checksum_of (B.octets (packet_slice self.now)) }
     {
         NetworkEndian::read_u16(&self.as_bytes()[16..18])
     }
@@ -206,7 +206,7 @@ impl<B: Octets> TcpView<B> {
     /// The urgent pointer: the distance from the sequence number to the end of the urgent data.
     pub fn urgent_at(&self) -> u16
         requires { 20 ≤ length (B.octets (packet_slice self.now)) }
-        ensures { result ≡ field (B.octets (packet_slice self.now)) 144 16 }
+        ensures { result ≡ urgent_at_of (B.octets (packet_slice self.now)) }
     {
         NetworkEndian::read_u16(&self.as_bytes()[18..20])
     }
@@ -269,7 +269,7 @@ impl<B: Octets> TcpView<B> {
         requires header { 18 ≤ length (B.octets (packet_slice self.now)) }
         requires family { version_of src_addr.now ≡ version_of dst_addr.now }
         ensures { let bytes = B.octets (packet_slice self.now) in
-            IsTrue result ↔ (field bytes 128 16 ≡ pseudo_header_sum src_addr.now dst_addr.now bytes) }
+            IsTrue result ↔ (checksum_of bytes ≡ pseudo_header_sum src_addr.now dst_addr.now bytes) }
     {
         let len = (self.as_bytes().len() % (1 << 16)) as u32;
         self.checksum() == checksum::pseudo_header(src_addr, dst_addr, IpProtocol::Tcp, len)

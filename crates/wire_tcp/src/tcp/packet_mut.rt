@@ -5,7 +5,7 @@ ghost use Rattle.std.specs.Borrow.{sem};
 ghost use Rattle.wire_ends.specs.IpAddress.{version_of};
 ghost use Rattle.wire_field.specs.Field.{with_field};
 ghost use Rattle.wire_field.specs.Borrow.{Checks, Holds, Locates, StaysIfErr};
-ghost use Rattle.wire_tcp.specs.Tcp.{Becomes, HasLengths, header_len, options_of, packet_bytes_mut, packet_slice, payload_of, with_checksum, with_flag};
+ghost use Rattle.wire_tcp.specs.Tcp.{Becomes, HasLengths, header_len, options_of, packet_bytes_mut, packet_slice, payload_of, with_checksum, with_checksum_field, with_dst_port, with_flag, with_src_port, with_window_len};
 ghost use Rattle.wire_tcp.specs.TcpBorrow.{BorrowsOptions, BorrowsPayload};
 ghost use Rattle.wire_tcp_parts.specs.TcpSeq.{number};
 
@@ -61,7 +61,7 @@ impl<'a> TcpPacketMut<'a> {
     /// Writes the source port.
     pub fn set_src_port(&mut self, value: u16)
         requires { 2 ≤ length (packet_bytes_mut self.old) }
-        ensures { Becomes self.old self.new (with_field (packet_bytes_mut self.old) 0 16 value) }
+        ensures { Becomes self.old self.new (with_src_port (packet_bytes_mut self.old) value) }
     {
         NetworkEndian::write_u16(&mut self.buffer[0..2], value);
     }
@@ -69,7 +69,7 @@ impl<'a> TcpPacketMut<'a> {
     /// Writes the destination port.
     pub fn set_dst_port(&mut self, value: u16)
         requires { 4 ≤ length (packet_bytes_mut self.old) }
-        ensures { Becomes self.old self.new (with_field (packet_bytes_mut self.old) 16 16 value) }
+        ensures { Becomes self.old self.new (with_dst_port (packet_bytes_mut self.old) value) }
     {
         NetworkEndian::write_u16(&mut self.buffer[2..4], value);
     }
@@ -182,7 +182,7 @@ impl<'a> TcpPacketMut<'a> {
     /// Writes the receive window of the sender in bytes, before scaling.
     pub fn set_window_len(&mut self, value: u16)
         requires { 16 ≤ length (packet_bytes_mut self.old) }
-        ensures { Becomes self.old self.new (with_field (packet_bytes_mut self.old) 112 16 value) }
+        ensures { Becomes self.old self.new (with_window_len (packet_bytes_mut self.old) value) }
     {
         NetworkEndian::write_u16(&mut self.buffer[14..16], value);
     }
@@ -190,7 +190,7 @@ impl<'a> TcpPacketMut<'a> {
     /// Writes the checksum field.
     pub fn set_checksum(&mut self, value: u16)
         requires { 18 ≤ length (packet_bytes_mut self.old) }
-        ensures { Becomes self.old self.new (with_field (packet_bytes_mut self.old) 128 16 value) }
+        ensures { Becomes self.old self.new (with_checksum_field (packet_bytes_mut self.old) value) }
     {
         NetworkEndian::write_u16(&mut self.buffer[16..18], value);
     }

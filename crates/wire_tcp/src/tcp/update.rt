@@ -6,8 +6,8 @@ ghost use Rattle.byteorder.specs.Endian.{big_bytes, big_number};
 ghost use Rattle.wire_checksum.specs.WordSum.{sum_of_bytes};
 ghost use Rattle.wire_ends.specs.IpAddress.{address_bytes};
 ghost use Rattle.wire_ends.specs.declared.ip_address.IpAddress.{IpAddress};
-ghost use Rattle.wire_field.specs.Field.{field, with_field, with_range};
-ghost use Rattle.wire_tcp.specs.Tcp.{Becomes, Verifies, header_len, packet_bytes_mut, with_updated_checksum};
+ghost use Rattle.wire_field.specs.Field.{with_range};
+ghost use Rattle.wire_tcp.specs.Tcp.{Becomes, Verifies, dst_port_of, header_len, packet_bytes_mut, src_port_of, window_len_of, with_dst_port, with_src_port, with_updated_checksum, with_window_len};
 ghost use Rattle.wire_tcp.specs.TcpRepr.{Reads, TcpHeader};
 ghost use Rattle.wire_tcp.specs.TcpSegmentSize.{max_seg_size_at, max_seg_size_of, with_max_seg_size, with_size_at};
 
@@ -32,7 +32,7 @@ impl<'a> TcpPacketMut<'a> {
     pub fn update_src_port(&mut self, value: u16)
         requires { 18 ≤ length (packet_bytes_mut self.old) }
         ensures value { let bytes = packet_bytes_mut self.old in
-            Becomes self.old self.new (with_updated_checksum (with_field bytes 0 16 value) (field bytes 0 16) value) }
+            Becomes self.old self.new (with_updated_checksum (with_src_port bytes value) (src_port_of bytes) value) }
         ensures valid { (src dst : IpAddress) → length (address_bytes src) % 2 ≡ 0 → length (address_bytes dst) % 2 ≡ 0
             → Verifies src dst (packet_bytes_mut self.old) → Verifies src dst (packet_bytes_mut self.new) }
         ensures reads { (src dst : IpAddress) (verified : Bool) (v : TcpHeader) (payload : List ℕ) → length (address_bytes src) % 2 ≡ 0 → length (address_bytes dst) % 2 ≡ 0
@@ -49,7 +49,7 @@ impl<'a> TcpPacketMut<'a> {
     pub fn update_dst_port(&mut self, value: u16)
         requires { 18 ≤ length (packet_bytes_mut self.old) }
         ensures value { let bytes = packet_bytes_mut self.old in
-            Becomes self.old self.new (with_updated_checksum (with_field bytes 16 16 value) (field bytes 16 16) value) }
+            Becomes self.old self.new (with_updated_checksum (with_dst_port bytes value) (dst_port_of bytes) value) }
         ensures valid { (src dst : IpAddress) → length (address_bytes src) % 2 ≡ 0 → length (address_bytes dst) % 2 ≡ 0
             → Verifies src dst (packet_bytes_mut self.old) → Verifies src dst (packet_bytes_mut self.new) }
         ensures reads { (src dst : IpAddress) (verified : Bool) (v : TcpHeader) (payload : List ℕ) → length (address_bytes src) % 2 ≡ 0 → length (address_bytes dst) % 2 ≡ 0
@@ -66,7 +66,7 @@ impl<'a> TcpPacketMut<'a> {
     pub fn update_window_len(&mut self, value: u16)
         requires { 18 ≤ length (packet_bytes_mut self.old) }
         ensures value { let bytes = packet_bytes_mut self.old in
-            Becomes self.old self.new (with_updated_checksum (with_field bytes 112 16 value) (field bytes 112 16) value) }
+            Becomes self.old self.new (with_updated_checksum (with_window_len bytes value) (window_len_of bytes) value) }
         ensures valid { (src dst : IpAddress) → length (address_bytes src) % 2 ≡ 0 → length (address_bytes dst) % 2 ≡ 0
             → Verifies src dst (packet_bytes_mut self.old) → Verifies src dst (packet_bytes_mut self.new) }
         ensures reads { (src dst : IpAddress) (verified : Bool) (v : TcpHeader) (payload : List ℕ) → length (address_bytes src) % 2 ≡ 0 → length (address_bytes dst) % 2 ≡ 0
