@@ -2,9 +2,8 @@
 
 ghost use Rattle.std.specs.Prelude.{◌≡◌, ◌↔◌, ◌≤◌, IfOk, IsOk, IsTrue, Some, length, slice_range, take};
 ghost use Rattle.wire_field.specs.Field.{field};
-ghost use Rattle.wire_ipv4.specs.Ipv4.{HasLengths, fragment_offset, header_len, is_fragment, key_of, packet_bytes, packet_slice, total_len};
+ghost use Rattle.wire_ipv4.specs.Ipv4.{HasLengths, checksum_of, dont_frag_of, dscp_of, dst_addr_of, ecn_of, fragment_offset, header_len, hop_limit_of, ident_of, ip_version_of, is_fragment, key_of, more_frags_of, next_header_of, packet_bytes, packet_slice, src_addr_of, total_len};
 ghost use Rattle.wire_ipv4.specs.Ipv4Text.{packet_text};
-ghost use Rattle.wire_ends.specs.Protocol.{protocol_of};
 ghost use Rattle.wire_checksum.specs.WordSum.{sum_of_bytes};
 
 use super::text::write_fields;
@@ -79,7 +78,7 @@ impl<B: Octets> Ipv4View<B> {
     /// The version, of 4 bits.
     pub fn version(&self) -> u8
         requires { 1 ≤ length (B.octets (packet_slice self.now)) }
-        ensures { result ≡ field (B.octets (packet_slice self.now)) 0 4 }
+        ensures { result ≡ ip_version_of (B.octets (packet_slice self.now)) }
     {
         self.as_bytes()[0] >> 4
     }
@@ -95,7 +94,7 @@ impl<B: Octets> Ipv4View<B> {
     /// The differentiated services code point, of 6 bits (RFC 2474, section 3).
     pub fn dscp(&self) -> u8
         requires { 2 ≤ length (B.octets (packet_slice self.now)) }
-        ensures { result ≡ field (B.octets (packet_slice self.now)) 8 6 }
+        ensures { result ≡ dscp_of (B.octets (packet_slice self.now)) }
     {
         self.as_bytes()[1] >> 2
     }
@@ -103,7 +102,7 @@ impl<B: Octets> Ipv4View<B> {
     /// The explicit congestion notification, of 2 bits (RFC 3168, section 5).
     pub fn ecn(&self) -> u8
         requires { 2 ≤ length (B.octets (packet_slice self.now)) }
-        ensures { result ≡ field (B.octets (packet_slice self.now)) 14 2 }
+        ensures { result ≡ ecn_of (B.octets (packet_slice self.now)) }
     {
         self.as_bytes()[1] & 0x03
     }
@@ -119,7 +118,7 @@ impl<B: Octets> Ipv4View<B> {
     /// The identification, which all fragments of a packet share.
     pub fn ident(&self) -> u16
         requires { 6 ≤ length (B.octets (packet_slice self.now)) }
-        ensures { result ≡ field (B.octets (packet_slice self.now)) 32 16 }
+        ensures { result ≡ ident_of (B.octets (packet_slice self.now)) }
     {
         NetworkEndian::read_u16(&self.as_bytes()[4..6])
     }
@@ -127,7 +126,7 @@ impl<B: Octets> Ipv4View<B> {
     /// Returns `true` if the flag DF (don't fragment) is set.
     pub fn dont_frag(&self) -> bool
         requires { 7 ≤ length (B.octets (packet_slice self.now)) }
-        ensures { IsTrue result ↔ (field (B.octets (packet_slice self.now)) 49 1 ≡ 1) }
+        ensures { IsTrue result ↔ (dont_frag_of (B.octets (packet_slice self.now)) ≡ 1) }
     {
         is_bit_set(self.as_bytes(), 49)
     }
@@ -135,7 +134,7 @@ impl<B: Octets> Ipv4View<B> {
     /// Returns `true` if the flag MF (more fragments) is set.
     pub fn more_frags(&self) -> bool
         requires { 7 ≤ length (B.octets (packet_slice self.now)) }
-        ensures { IsTrue result ↔ (field (B.octets (packet_slice self.now)) 50 1 ≡ 1) }
+        ensures { IsTrue result ↔ (more_frags_of (B.octets (packet_slice self.now)) ≡ 1) }
     {
         is_bit_set(self.as_bytes(), 50)
     }
@@ -160,7 +159,7 @@ impl<B: Octets> Ipv4View<B> {
     /// The hop limit: the number of hops that the packet may still take (the field "time to live").
     pub fn hop_limit(&self) -> u8
         requires { 9 ≤ length (B.octets (packet_slice self.now)) }
-        ensures { result ≡ field (B.octets (packet_slice self.now)) 64 8 }
+        ensures { result ≡ hop_limit_of (B.octets (packet_slice self.now)) }
     {
         self.as_bytes()[8]
     }
@@ -169,7 +168,7 @@ impl<B: Octets> Ipv4View<B> {
     #[inline(always)]
     pub fn next_header(&self) -> IpProtocol
         requires { 10 ≤ length (B.octets (packet_slice self.now)) }
-        ensures { result ≡ protocol_of (field (B.octets (packet_slice self.now)) 72 8) }
+        ensures { result ≡ next_header_of (B.octets (packet_slice self.now)) }
     {
         IpProtocol::from(self.as_bytes()[9])
     }
@@ -177,7 +176,7 @@ impl<B: Octets> Ipv4View<B> {
     /// The checksum field, of the header only.
     pub fn checksum(&self) -> u16
         requires { 12 ≤ length (B.octets (packet_slice self.now)) }
-        ensures { result ≡ field (B.octets (packet_slice self.now)) 80 16 }
+        ensures { result ≡ checksum_of (B.octets (packet_slice self.now)) }
     {
         NetworkEndian::read_u16(&self.as_bytes()[10..12])
     }
@@ -185,7 +184,7 @@ impl<B: Octets> Ipv4View<B> {
     /// The source address.
     pub fn src_addr(&self) -> Ipv4Address
         requires { 16 ≤ length (B.octets (packet_slice self.now)) }
-        ensures { result ≡ slice_range (B.octets (packet_slice self.now)) 12 16 }
+        ensures { result ≡ src_addr_of (B.octets (packet_slice self.now)) }
     {
         Ipv4Address::from_octets(array_at(self.as_bytes(), 12))
     }
@@ -193,7 +192,7 @@ impl<B: Octets> Ipv4View<B> {
     /// The destination address.
     pub fn dst_addr(&self) -> Ipv4Address
         requires { 20 ≤ length (B.octets (packet_slice self.now)) }
-        ensures { result ≡ slice_range (B.octets (packet_slice self.now)) 16 20 }
+        ensures { result ≡ dst_addr_of (B.octets (packet_slice self.now)) }
     {
         Ipv4Address::from_octets(array_at(self.as_bytes(), 16))
     }

@@ -4,7 +4,7 @@ ghost use Rattle.std.specs.Prelude.{◌≡◌, ◌↔◌, ◌≤◌, ◌<◌, �
 ghost use Rattle.std.specs.Borrow.{sem};
 ghost use Rattle.wire_field.specs.Field.{with_field, with_range};
 ghost use Rattle.wire_field.specs.Borrow.{Checks, Holds, Locates, StaysIfErr};
-ghost use Rattle.wire_ipv4.specs.Ipv4.{Becomes, HasLengths, header_len, packet_bytes_mut, packet_slice, total_len, with_checksum};
+ghost use Rattle.wire_ipv4.specs.Ipv4.{Becomes, HasLengths, header_len, packet_bytes_mut, packet_slice, total_len, with_checksum, with_checksum_field};
 ghost use Rattle.wire_ipv4.specs.Ipv4Borrow.{BorrowsPayload};
 ghost use Rattle.wire_ends.specs.Protocol.{number_of};
 
@@ -139,7 +139,7 @@ impl<'a> Ipv4PacketMut<'a> {
     /// Writes the checksum field.
     pub fn set_checksum(&mut self, value: u16)
         requires { 12 ≤ length (packet_bytes_mut self.old) }
-        ensures { Becomes self.old self.new (with_field (packet_bytes_mut self.old) 80 16 value) }
+        ensures { Becomes self.old self.new (with_checksum_field (packet_bytes_mut self.old) value) }
     {
         NetworkEndian::write_u16(&mut self.buffer[10..12], value);
     }

@@ -1,9 +1,9 @@
 //! Setters of IPv4 packets that update the checksum of the header too (RFC 1624).
 
-ghost use Rattle.std.specs.Prelude.{◌≡◌, ◌*◌, ◌%◌, ◌≤◌, Bool, length, slice_range};
+ghost use Rattle.std.specs.Prelude.{◌≡◌, ◌*◌, ◌%◌, ◌≤◌, Bool, length};
 ghost use Rattle.wire_checksum.specs.WordSum.{sum_of_bytes};
-ghost use Rattle.wire_field.specs.Field.{field, with_field, with_range};
-ghost use Rattle.wire_ipv4.specs.Ipv4.{Becomes, HasChecksum, Reads, header_len, packet_bytes_mut, with_updated_checksum};
+ghost use Rattle.wire_field.specs.Field.{with_field, with_range};
+ghost use Rattle.wire_ipv4.specs.Ipv4.{Becomes, HasChecksum, Reads, dscp_of, dst_addr_of, ecn_of, header_len, hop_limit_of, packet_bytes_mut, src_addr_of, with_updated_checksum};
 ghost use Rattle.wire_ipv4.specs.declared.ipv4.repr.Ipv4Repr.{Ipv4Repr};
 
 use super::Ipv4PacketMut;
@@ -25,7 +25,7 @@ impl<'a> Ipv4PacketMut<'a> {
     pub fn update_dscp(&mut self, value: u8)
         requires { 12 ≤ length (packet_bytes_mut self.old) }
         ensures value { let bytes = packet_bytes_mut self.old in
-            Becomes self.old self.new (with_updated_checksum (with_field bytes 8 6 value) (4 * field bytes 8 6) (4 * (value % 64))) }
+            Becomes self.old self.new (with_updated_checksum (with_field bytes 8 6 value) (4 * dscp_of bytes) (4 * (value % 64))) }
         ensures valid { 20 ≤ header_len (packet_bytes_mut self.old) → header_len (packet_bytes_mut self.old) ≤ length (packet_bytes_mut self.old)
             → HasChecksum (packet_bytes_mut self.old) → HasChecksum (packet_bytes_mut self.new) }
         ensures reads { (v : Ipv4Repr) (verified : Bool) → Reads (packet_bytes_mut self.old) verified v
@@ -41,7 +41,7 @@ impl<'a> Ipv4PacketMut<'a> {
     pub fn update_ecn(&mut self, value: u8)
         requires { 12 ≤ length (packet_bytes_mut self.old) }
         ensures value { let bytes = packet_bytes_mut self.old in
-            Becomes self.old self.new (with_updated_checksum (with_field bytes 14 2 value) (field bytes 14 2) (value % 4)) }
+            Becomes self.old self.new (with_updated_checksum (with_field bytes 14 2 value) (ecn_of bytes) (value % 4)) }
         ensures valid { 20 ≤ header_len (packet_bytes_mut self.old) → header_len (packet_bytes_mut self.old) ≤ length (packet_bytes_mut self.old)
             → HasChecksum (packet_bytes_mut self.old) → HasChecksum (packet_bytes_mut self.new) }
         ensures reads { (v : Ipv4Repr) (verified : Bool) → Reads (packet_bytes_mut self.old) verified v
@@ -57,7 +57,7 @@ impl<'a> Ipv4PacketMut<'a> {
     pub fn update_hop_limit(&mut self, value: u8)
         requires { 12 ≤ length (packet_bytes_mut self.old) }
         ensures value { let bytes = packet_bytes_mut self.old in
-            Becomes self.old self.new (with_updated_checksum (with_field bytes 64 8 value) (256 * field bytes 64 8) (256 * value)) }
+            Becomes self.old self.new (with_updated_checksum (with_field bytes 64 8 value) (256 * hop_limit_of bytes) (256 * value)) }
         ensures valid { 20 ≤ header_len (packet_bytes_mut self.old) → header_len (packet_bytes_mut self.old) ≤ length (packet_bytes_mut self.old)
             → HasChecksum (packet_bytes_mut self.old) → HasChecksum (packet_bytes_mut self.new) }
         ensures reads { (v : Ipv4Repr) (verified : Bool) → Reads (packet_bytes_mut self.old) verified v
@@ -74,7 +74,7 @@ impl<'a> Ipv4PacketMut<'a> {
     pub fn update_src_addr(&mut self, value: Ipv4Address)
         requires { 16 ≤ length (packet_bytes_mut self.old) }
         ensures value { let bytes = packet_bytes_mut self.old in
-            Becomes self.old self.new (with_updated_checksum (with_range bytes 12 16 value) (sum_of_bytes (slice_range bytes 12 16)) (sum_of_bytes value)) }
+            Becomes self.old self.new (with_updated_checksum (with_range bytes 12 16 value) (sum_of_bytes (src_addr_of bytes)) (sum_of_bytes value)) }
         ensures valid { 20 ≤ header_len (packet_bytes_mut self.old) → header_len (packet_bytes_mut self.old) ≤ length (packet_bytes_mut self.old)
             → HasChecksum (packet_bytes_mut self.old) → HasChecksum (packet_bytes_mut self.new) }
         ensures reads { (v : Ipv4Repr) (verified : Bool) → Reads (packet_bytes_mut self.old) verified v
@@ -91,7 +91,7 @@ impl<'a> Ipv4PacketMut<'a> {
     pub fn update_dst_addr(&mut self, value: Ipv4Address)
         requires { 20 ≤ length (packet_bytes_mut self.old) }
         ensures value { let bytes = packet_bytes_mut self.old in
-            Becomes self.old self.new (with_updated_checksum (with_range bytes 16 20 value) (sum_of_bytes (slice_range bytes 16 20)) (sum_of_bytes value)) }
+            Becomes self.old self.new (with_updated_checksum (with_range bytes 16 20 value) (sum_of_bytes (dst_addr_of bytes)) (sum_of_bytes value)) }
         ensures valid { 20 ≤ header_len (packet_bytes_mut self.old) → header_len (packet_bytes_mut self.old) ≤ length (packet_bytes_mut self.old)
             → HasChecksum (packet_bytes_mut self.old) → HasChecksum (packet_bytes_mut self.new) }
         ensures reads { (v : Ipv4Repr) (verified : Bool) → Reads (packet_bytes_mut self.old) verified v
