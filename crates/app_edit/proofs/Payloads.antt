@@ -1,12 +1,8 @@
 -- One part of a list replaced by another.
-use Rattle.std.proofs.Common.{ℕ, ◌≡◌, ◌≤◌, ◌+◌, ◌-◌, List, ◌++◌, length, drop, take, slice_range, sym, ap, subst, ◌∙◌, append_assoc, arith, length-append, length-drop}
-use Rattle.std.proofs.Math.Seq.{drop-append_seam, drop-append-add, take-append-add}
-use Rattle.std.proofs.lemmas.List.{drop-drop, length-take-le, take-append-drop, take_at}
+use Rattle.std.proofs.Common.{ℕ, ◌≡◌, ◌≤◌, ◌+◌, ◌-◌, List, ◌++◌, length, drop, take, slice_range, sym, ap, ◌∙◌, append_assoc, arith, length-append, length-drop}
+use Rattle.std.proofs.Math.Seq.{drop-append-add, take-append-add}
+use Rattle.std.proofs.lemmas.List.{drop-drop, drop_at, length-take-le, take-append-drop, take_at}
 use Rattle.ip_wire.specs.Field.{with_range}
-
--- dropping a front leaves the rest
-pub drop-front : (p q : List ℕ) (n : ℕ) → length p ≡ n → drop n (p ++ q) ≡ q
-drop-front p q n e = subst (λ (k : ℕ). drop k (p ++ q) ≡ q) e (drop-append_seam p q)
 
 -- ---- the elements from h up to n replaced by a part
 
@@ -24,14 +20,14 @@ range-front bytes part h n room =
 -- from it on
 range-from : (bytes part : List ℕ) (h n : ℕ) → h ≤ length bytes → drop h (with_range bytes h n part) ≡ part ++ drop n bytes
 range-from bytes part h n room =
-    ap (drop h) (append_assoc (take h bytes) part (drop n bytes)) ∙ drop-front (take h bytes) (part ++ drop n bytes) h (length-take-le h bytes room)
+    ap (drop h) (append_assoc (take h bytes) part (drop n bytes)) ∙ drop_at (take h bytes) (part ++ drop n bytes) h (length-take-le h bytes room)
 
 -- the elements after it
 pub range-following : (bytes part : List ℕ) (h n : ℕ) → h ≤ n → n ≤ length bytes → length part ≡ n - h → drop n (with_range bytes h n part) ≡ drop n bytes
 range-following bytes part h n order room e =
     let front : length (take h bytes) ≡ h = length-take-le h bytes (omega arith) in
     let whole : length (take h bytes ++ part) ≡ n = length-append (take h bytes) part ∙ omega (arith, front, e, order) in
-    drop-front (take h bytes ++ part) (drop n bytes) n whole
+    drop_at (take h bytes ++ part) (drop n bytes) n whole
 
 -- the part is read back
 pub range-part : (bytes part : List ℕ) (h n : ℕ) → h ≤ length bytes → length part ≡ n - h → slice_range (with_range bytes h n part) h n ≡ part

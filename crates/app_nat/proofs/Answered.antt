@@ -3,7 +3,7 @@ use Rattle.std.proofs.Common.{ℕ, ◌≡◌, ◌∙◌, ◌≢◌, inl, inr, Li
 use Rattle.std.proofs.Math.ListN.{set, length-set}
 use Rattle.std.proofs.lemmas.Bool.{cases_eq}
 use Rattle.app_nat.proofs.Calls.{after_inbound-inside}
-use Rattle.app_nat.proofs.Meaning.{opened-at}
+use Rattle.app_nat.proofs.Meaning.{chosen-exists, chosen-leads, opened-at}
 use Rattle.app_nat.proofs.Places.{other-at, place-apart, same-at}
 use Rattle.app_nat.proofs.Tables.{same-end}
 use Rattle.app_nat.specs.Mapping.{IsOf, after_inbound}
@@ -49,16 +49,6 @@ written nat old new a b p q m inside here is was own =
       | inr apart ↦ record { exists = exists; leads = subst (IsOf inside) (sym (at ∙ other-at nat old a b p q m apart)) was.leads }
     ]
 
-pub chosen-exists : (nat : Nat) (old : List Mapping) (now : ℕ) (event : Event) (inside remote : Ipv4Endpoint) (port : ℕ) (m : Mapping)
-    → Chooses nat old now event inside remote port m → HasPort nat (length old) port
-chosen-exists nat old now event inside remote port m (kept first) = first.holds.exists
-chosen-exists nat old now event inside remote port m (made free first) = first.holds.exists
-
-pub chosen-leads : (nat : Nat) (old : List Mapping) (now : ℕ) (event : Event) (inside remote : Ipv4Endpoint) (port : ℕ) (m : Mapping)
-    → Chooses nat old now event inside remote port m → IsOf inside m
-chosen-leads nat old now event inside remote port m (kept first) = first.holds.leads
-chosen-leads nat old now event inside remote port m (made free first) = (refl, refl)
-
 -- a live mapping that is chosen keeps its inside endpoint
 chosen-keeps : (nat : Nat) (old : List Mapping) (now : ℕ) (event : Event) (inside remote own : Ipv4Endpoint) (port : ℕ) (m : Mapping)
     → Chooses nat old now event inside remote port m → IsLive nat old now (protocol_of event) port → IsOf own (mapping_at nat old (protocol_of event) port) → IsOf own m
@@ -97,7 +87,7 @@ passed nat protocol port last first inside (bounces old new now frame live g res
 
 -- ---- the packet in a frame
 
-packet-once : (frame : List ℕ) (p q : Packet) → IsPacket frame p → IsPacket frame q → p ≡ q
+pub packet-once : (frame : List ℕ) (p q : Packet) → IsPacket frame p → IsPacket frame q → p ≡ q
 packet-once frame p q a b =
     let header = header-of-one frame a.link b.link p.header q.header a.transport b.transport a.carries b.carries in
     let transport = transport-of-one frame a.link b.link p.header q.header a.transport b.transport a.carries b.carries in

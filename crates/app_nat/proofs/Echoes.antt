@@ -131,7 +131,8 @@ reply-renamed v w old new payload ident port seq_no named is r = (
       (reply-word (field old 0 8) (field old 8 8) (field old 32 32) (field new 32 32) ident seq_no is.lower r.1.message) r.1,
 )
 
-same-protocol : (side : Side) (addr : List ℕ) (v : Ipv4Repr) → (with_addr side addr v).next_header ≡ v.next_header
+-- another address leaves the protocol of a header
+pub same-protocol : (side : Side) (addr : List ℕ) (v : Ipv4Repr) → (with_addr side addr v).next_header ≡ v.next_header
 same-protocol Source addr v = refl
 same-protocol Destination addr v = refl
 

@@ -3,13 +3,14 @@ use Rattle.std.proofs.Common.{ℕ, ◌≡◌, ◌≢◌, ◌∙◌, ◌⊎◌, �
 use Rattle.std.proofs.lemmas.Bool.Decides.{nat_tests}
 use Rattle.std.proofs.lemmas.Option.{none-some, same_Some}
 use Rattle.app_nat.proofs.Answered.{answered-port}
+pub use Rattle.app_nat.proofs.Answered.{packet-once}
 use Rattle.app_nat.proofs.Faults.{by-icmp, carries-unrejected, payload-fault}
 use Rattle.app_nat.proofs.Meaning.{port_once, room, table_once}
-use Rattle.app_nat.proofs.NatOnce.{header-of-one, translated-allowed, transport-of-one}
+use Rattle.app_nat.proofs.NatOnce.{translated-allowed, transport-of-one}
 use Rattle.app_nat.proofs.Tables.{same-end}
 use Rattle.app_nat.specs.Errors.{CarriesError, ErrorComesIn, ErrorGoesOut, IsErrorKeptInside, IsErrorKeptOutside, IsRejectedError, Quotes, Reports, after_header, end_bit, icmp_fault, message_fault, quoted_fault, quotes_enough, quotes_port, translated_error}
 use Rattle.app_nat.specs.Flows.{AnswerReaches, ComesIn, GoesOut, IsAnswerable, IsKeptInside, IsKeptOutside, IsPacketKeptInside, IsPacketKeptOutside, IsUnanswerable, IsUnmappedFrame, LeadsToZero, PacketComesIn, PacketGoesOut, destination_of, event_by, event_of, flow_protocol, source_of}
-use Rattle.app_nat.specs.Nat.{AllowsPort, IsPacket, IsRejected, Transport, datagram, is_message, kind_of, port_of, reply, request, segment, translated}
+use Rattle.app_nat.specs.Nat.{AllowsPort, IsPacket, IsRejected, Transport, datagram, is_message, kind_of, reply, request, segment, translated}
 use Rattle.app_nat.specs.State.{protocol_of}
 use Rattle.app_nat.specs.Table.{Finds, IsFull, IsTable, IsUnmapped, MapsTo, Opens, mapping_at}
 use Rattle.app_nat.specs.declared.mapping.Ipv4Endpoint.{Ipv4Endpoint}
@@ -30,15 +31,6 @@ use Rattle.ip_wire.specs.Frame.{ipv4_payload}
 use Rattle.ip_wire.specs.Types.{Ipv4Repr}
 
 -- ---- what a frame carries
-
-pub packet-once : (frame : List ℕ) (p q : Packet) → IsPacket frame p → IsPacket frame q → p ≡ q
-packet-once frame p q a b =
-    let header = header-of-one frame a.link b.link p.header q.header a.transport b.transport a.carries b.carries in
-    let t = transport-of-one frame a.link b.link p.header q.header a.transport b.transport a.carries b.carries in
-    let src : p.src_port ≡ q.src_port = a.described.src_port ∙ ap (port_of Source) t ∙ sym b.described.src_port in
-    let dst : p.dst_port ≡ q.dst_port = a.described.dst_port ∙ ap (port_of Destination) t ∙ sym b.described.dst_port in
-    let sort : p.kind ≡ q.kind = a.described.kind ∙ ap kind_of t ∙ sym b.described.kind in
-    λ i. record { header = header i; src_port = src i; dst_port = dst i; kind = sort i }
 
 pub packet-unrejected : (frame : List ℕ) (p : Packet) (r : Rejection) → IsPacket frame p → ¬ IsRejected frame r
 packet-unrejected frame p r a why = carries-unrejected frame a.link p.header a.transport r a.carries why

@@ -17,16 +17,16 @@ use Rattle.app_nat.specs.declared.state.TcpState.TheVariants.{Opening, Establish
 
 -- ---- the choice of a port
 
-exists-chosen : (nat : Nat) (old : List Mapping) (now : ℕ) (event : Event) (inside remote : Ipv4Endpoint) (port : ℕ) (m : Mapping)
+pub chosen-exists : (nat : Nat) (old : List Mapping) (now : ℕ) (event : Event) (inside remote : Ipv4Endpoint) (port : ℕ) (m : Mapping)
     → Chooses nat old now event inside remote port m → HasPort nat (length old) port
-exists-chosen nat old now event inside remote port m (kept first) = first.holds.exists
-exists-chosen nat old now event inside remote port m (made none first) = first.holds.exists
+chosen-exists nat old now event inside remote port m (kept first) = first.holds.exists
+chosen-exists nat old now event inside remote port m (made none first) = first.holds.exists
 
 -- the mapping that is written leads to the endpoint
-leads-chosen : (nat : Nat) (old : List Mapping) (now : ℕ) (event : Event) (inside remote : Ipv4Endpoint) (port : ℕ) (m : Mapping)
+pub chosen-leads : (nat : Nat) (old : List Mapping) (now : ℕ) (event : Event) (inside remote : Ipv4Endpoint) (port : ℕ) (m : Mapping)
     → Chooses nat old now event inside remote port m → IsOf inside m
-leads-chosen nat old now event inside remote port m (kept first) = first.holds.leads
-leads-chosen nat old now event inside remote port m (made none first) = (refl, refl)
+chosen-leads nat old now event inside remote port m (kept first) = first.holds.leads
+chosen-leads nat old now event inside remote port m (made none first) = (refl, refl)
 
 state-byte : (s : TcpState) → state_of (byte_of s) ≡ s
 state-byte Opening = refl
@@ -57,7 +57,7 @@ pub opened-at : (nat : Nat) (old new : List Mapping) (now : ℕ) (event : Event)
     → mapping_at nat new (protocol_of event) port ≡ o.mapping
 opened-at nat old new now event inside remote port o =
     ap (λ l. mapping_at nat l (protocol_of event) port) o.becomes
-    ∙ same-at nat old (protocol_of event) port o.mapping (exists-chosen nat old now event inside remote port o.mapping o.chosen)
+    ∙ same-at nat old (protocol_of event) port o.mapping (chosen-exists nat old now event inside remote port o.mapping o.chosen)
 
 pub opened-restarts : (nat : Nat) (old new : List Mapping) (now : ℕ) (event : Event) (inside remote : Ipv4Endpoint) (port : ℕ) → Opens nat old new now event inside remote port
     → (mapping_at nat new (protocol_of event) port).expires ≡ expiry now (timeout_of nat (protocol_of event) (state_of (mapping_at nat new (protocol_of event) port).state))
@@ -73,9 +73,9 @@ opened-leads nat old new now later event inside remote port o before =
     let least = shortest nat (protocol_of event) (state_of m.state) in
     let ends = opened-restarts nat old new now event inside remote port o in
     record {
-      exists = subst (λ n. HasPort nat n port) (sym len) (exists-chosen nat old now event inside remote port o.mapping o.chosen);
+      exists = subst (λ n. HasPort nat n port) (sym len) (chosen-exists nat old now event inside remote port o.mapping o.chosen);
       live = omega (arith, before, least, ends);
-      leads = subst (IsOf inside) (sym (opened-at nat old new now event inside remote port o)) (leads-chosen nat old now event inside remote port o.mapping o.chosen);
+      leads = subst (IsOf inside) (sym (opened-at nat old new now event inside remote port o)) (chosen-leads nat old now event inside remote port o.mapping o.chosen);
     }
 
 pub all_restart : (nat : Nat) (old new : List Mapping) (now : ℕ) (event : Event) (inside remote : Ipv4Endpoint) (r : Option ℕ) → IfSome r (Opens nat old new now event inside remote)
@@ -144,7 +144,7 @@ opened-other : (nat : Nat) (old new : List Mapping) (now : ℕ) (event : Event) 
 opened-other nat old new now event inside remote other port q b o mapped apart =
     ap (λ l. mapping_at nat l b q) o.becomes
     ∙ other-at nat old (protocol_of event) b port q o.mapping (λ same.
-    (let both = place-apart nat (length old) b (protocol_of event) q port mapped.exists (exists-chosen nat old now event inside remote port o.mapping o.chosen) same in
+    (let both = place-apart nat (length old) b (protocol_of event) q port mapped.exists (chosen-exists nat old now event inside remote port o.mapping o.chosen) same in
     let first : MapsTo nat old now (protocol_of event) q other = subst (λ x. MapsTo nat old now x q other) both.0 mapped in
     let second : MapsTo nat old now (protocol_of event) port other = subst (λ x. MapsTo nat old now (protocol_of event) x other) both.1 first in
     apart (both.0, not-other nat old now event inside remote other port o.mapping o.chosen second)))

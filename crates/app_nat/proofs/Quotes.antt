@@ -1,7 +1,7 @@
 -- A quoted packet with another address and port.
 use Rattle.std.proofs.Common.{ℕ, ◌≡◌, ◌↔◌, ◌≤◌, ◌<◌, ◌+◌, ◌-◌, ◌*◌, ◌/◌, ◌%◌, ◌==◌, if◌then◌else◌, Bool, true, false, Some, None, List, ◌∷◌, ◌++◌, length, drop, take, slice_index, sum, refl, sym, ap, subst, ◌∙◌, append_assoc, arith, length-append, length-drop}
 use Rattle.std.proofs.Math.Seq.{take-append-add}
-use Rattle.std.proofs.lemmas.List.{drop-drop, length-take-le, take-append-drop, take_at}
+use Rattle.std.proofs.lemmas.List.{drop-drop, drop_at, length-take-le, take-append-drop, take_at}
 use Rattle.ip_wire.proofs.Cells.{cells, cells-all, cells-drop, word_high, word_low}
 use Rattle.ip_wire.proofs.Spelled.{AreBytes}
 use Rattle.ip_wire.specs.Field.{field, with_field, with_range, word_at}
@@ -14,6 +14,7 @@ use Rattle.ip_wire.specs.Frame.{ReadsPacket, all_checked, ipv4_payload}
 use Rattle.ip_wire.proofs.Residues.{residue-complement}
 use Rattle.wire_icmp.proofs.WordLists.{sum-words-cons}
 use Rattle.app_edit.proofs.OtherPayloads.{front-len, inner-payload, link-stays, payload-len, reads-inner, same-inner}
+use Rattle.app_nat.proofs.Echoes.{same-protocol}
 use Rattle.ip_wire.specs.Udp as udp
 use Rattle.ip_wire.specs.Tcp as tcp
 use Rattle.ip_wire.specs.WordSum.{residue, sum_of_bytes, updated, words}
@@ -22,7 +23,7 @@ use Rattle.app_nat.specs.declared.state.Protocol.{Protocol}
 use Rattle.app_nat.specs.declared.state.Protocol.TheVariants as flow
 use Rattle.app_nat.proofs.Ends.{ended, has-both, port-fits, with_both}
 use Rattle.app_nat.proofs.Headers.{addressed, keeps}
-use Rattle.app_edit.proofs.Payloads.{drop-front, range-len}
+use Rattle.app_edit.proofs.Payloads.{range-len}
 use Rattle.app_nat.proofs.TcpEnds.{tcp-ported, tcp-whole}
 use Rattle.app_nat.proofs.UdpEnds.{udp-ported, udp_next, whole}
 use Rattle.app_nat.proofs.Words.{spelled, spelled-fits, spelled-word, word}
@@ -192,7 +193,7 @@ requoted side bytes part new addr port p q four named at e written type r =
     let offset : fragment_offset new ≡ fragment_offset bytes = ap fragment_offset at ∙ same-offset side inner addr twenty four ∙ same.offset in
     let proto : field new 72 8 ≡ field bytes 72 8 = ap (λ (l : List ℕ). field l 72 8) at ∙ k.shape.protocol ∙ same.protocol in
     let back : after_header new ≡ part =
-    (λ i. drop (header i) (at i)) ∙ same-following side inner addr h twenty r.header four ∙ drop-front (take h bytes) part h (length-take-le h bytes room) in
+    (λ i. drop (header i) (at i)) ∙ same-following side inner addr h twenty r.header four ∙ drop_at (take h bytes) part h (length-take-le h bytes room) in
     let kept = flow-kept side (protocol_of (field bytes 72 8)) (field (after_header bytes) 0 8) (field part 0 8) q.protocol (λ is. type (sym named ∙ is)) r.flow in
     record {
       version = ap (λ (l : List ℕ). field l 0 4) at ∙ k.shape.version ∙ same.version ∙ r.version;
@@ -258,11 +259,6 @@ reported side bytes part new q other room at quotes r =
 
 -- ---- the packet and the frame
 
--- another address leaves the protocol of a header
-same-protocol : (side : Side) (addr : List ℕ) (v : Ipv4Repr) → (with_addr side addr v).next_header ≡ v.next_header
-same-protocol Source addr v = refl
-same-protocol Destination addr v = refl
-
 -- a packet with another payload of the same length, then with another address
 pub packet-with : (bytes part new : List ℕ) (v : Ipv4Repr) (side : Side) (addr : List ℕ) → length addr ≡ 4 → ReadsPacket all_checked bytes (Ipv4 v)
     → length part ≡ length (ipv4_payload bytes) → new ≡ with_address side addr (with_range bytes (header_len bytes) (total_len bytes) part)
@@ -288,7 +284,7 @@ pub error-translated : (frame new body : List ℕ) (side : Side) (v : Ipv4Repr) 
     → IsErrorTranslated frame new side v q addr port
 error-translated frame new body side v q addr port was at is after =
     let front : length (take 14 frame) ≡ 14 = length-take-le 14 frame was.is.reads.whole in
-    let back : drop 14 new ≡ body = ap (drop 14) at ∙ drop-front (take 14 frame) body 14 front in
+    let back : drop 14 new ≡ body = ap (drop 14) at ∙ drop_at (take 14 frame) body 14 front in
     record {
       before = was;
       after = record {

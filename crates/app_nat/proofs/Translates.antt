@@ -1,6 +1,6 @@
 -- A frame is translated exactly as its packet, and rejected for the same reason.
 use Rattle.std.proofs.Common.{IfErr, ℕ, ◌≡◌, ◌≤◌, ◌%◌, ◌++◌, ◌↔◌, Bool, true, false, List, inl, inr, Result, Ok, Err, length, drop, take, sym, ap, subst, ◌∙◌, arith}
-use Rattle.std.proofs.lemmas.List.{length-take-le}
+use Rattle.std.proofs.lemmas.List.{drop_at, length-take-le}
 use Rattle.ip_wire.proofs.ByteLists.{AreBytes-drop, AreBytes-slice_range}
 use Rattle.ip_wire.proofs.Spelled.{AreBytes}
 use Rattle.ip_wire.specs.Ethernet as ethernet
@@ -18,7 +18,7 @@ use Rattle.app_nat.proofs.EchoEnds.{echo-len}
 use Rattle.app_nat.proofs.Echoes.{plain-other}
 use Rattle.app_edit.proofs.OtherPayloads.{inner-payload, link-stays, payload-len, reads-inner, same-inner}
 use Rattle.app_nat.proofs.Headers.{keeps}
-use Rattle.app_edit.proofs.Payloads.{drop-front, range-len}
+use Rattle.app_edit.proofs.Payloads.{range-len}
 use Rattle.app_nat.proofs.TcpEnds.{tcp-len}
 use Rattle.app_nat.proofs.UdpEnds.{udp-ended}
 use Rattle.app_nat.specs.Nat.{AllowsPort, Carries, CarriesPorts, IsRejected, IsTranslated, IsUntranslated, LacksChecksum, ReadsPorts, RejectsPort, Rewrites, Transport, addr_at, addr_of, translated_packet, with_addr, with_address, with_end, with_port, datagram, segment, request, reply, plain}
@@ -48,7 +48,8 @@ ended-len v side old new port bytes (request ident seq_no payload) are r =
 ended-len v side old new port bytes (reply ident seq_no payload) are r =
     ap (λ (p : IpProtocol). length (with_end p side old new port bytes)) r.0 ∙ echo-len new port bytes r.1.least
 
-even : (a : List ℕ) → length a ≡ 4 → length a % 2 ≡ 0
+-- the address has whole words
+pub even : (a : List ℕ) → length a ≡ 4 → length a % 2 ≡ 0
 even a e = omega (arith, e)
 
 -- the address on a side has four bytes
@@ -201,7 +202,7 @@ pub translates : (frame new body : List ℕ) (link : EthernetRepr) (v : Ipv4Repr
     → body ≡ translated_packet side addr port (drop 14 frame) → new ≡ take 14 frame ++ body → IsTranslated frame new side addr port
 translates frame new body link v t side addr port four are c after is at =
     let front : length (take 14 frame) ≡ 14 = length-take-le 14 frame c.reads.reads_header.whole in
-    let after_header : drop 14 new ≡ body = ap (drop 14) at ∙ drop-front (take 14 frame) body 14 front in
+    let after_header : drop 14 new ≡ body = ap (drop 14) at ∙ drop_at (take 14 frame) body 14 front in
     let reads : ethernet.Reads new link = subst (λ (l : List ℕ). ethernet.Reads l link) (sym at) (link-stays frame body link c.reads.reads_header) in
     let whole : CarriesPorts (drop 14 new) (with_addr side addr v) (with_port side port t) = subst (λ (l : List ℕ). CarriesPorts l (with_addr side addr v) (with_port side port t)) (sym after_header) after in
     let lacks = unsummed (drop 14 frame) v t side addr port four (AreBytes-drop 14 frame are) (carried frame link v t c) in

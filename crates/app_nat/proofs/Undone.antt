@@ -1,6 +1,6 @@
 -- A translation that is undone.
 use Rattle.std.proofs.Common.{ℕ, ◌≡◌, ◌≢◌, ◌≤◌, ◌<◌, ◌-◌, ◌++◌, List, ◌∷◌, length, drop, take, slice_index, refl, sym, ap, subst, ◌∙◌, arith}
-use Rattle.std.proofs.lemmas.List.{length-take-le, take-append-drop, take_at}
+use Rattle.std.proofs.lemmas.List.{drop_at, length-take-le, take-append-drop, take_at}
 use Rattle.ip_wire.proofs.ByteLists.{AreBytes-drop, AreBytes-slice_range}
 use Rattle.ip_wire.proofs.Spelled.{AreBytes}
 use Rattle.ip_wire.specs.Field.{field, with_field, with_range, word_at}
@@ -15,7 +15,7 @@ use Rattle.ip_wire.proofs.Cells.{cells, cells-all, cells-drop, word_high, word_l
 use Rattle.app_nat.proofs.EchoEnds.{echo-back}
 use Rattle.app_nat.proofs.Echoes.{reply-ident, request-ident}
 use Rattle.app_nat.proofs.Headers.{addressed, keeps}
-use Rattle.app_edit.proofs.Payloads.{drop-front, range-len, range-past, range-same, range-twice}
+use Rattle.app_edit.proofs.Payloads.{range-len, range-past, range-same, range-twice}
 use Rattle.app_nat.proofs.Residues.{sum-fits, updated-back}
 use Rattle.app_nat.proofs.TcpEnds.{tcp-back}
 use Rattle.app_nat.proofs.Translates.{addr-read, carried, ended-len}
@@ -182,7 +182,7 @@ undone frame there back side addr port was are four fits usual again =
     let front : length (take 14 frame) ≡ 14 = length-take-le 14 frame was.before.reads.reads_header.whole in
     let Q = translated_packet side addr port (drop 14 frame) in
     let first : take 14 there ≡ take 14 frame = ap (take 14) was.bytes ∙ take_at (take 14 frame) Q 14 front in
-    let after_header : drop 14 there ≡ Q = ap (drop 14) was.bytes ∙ drop-front (take 14 frame) Q 14 front in
+    let after_header : drop 14 there ≡ Q = ap (drop 14) was.bytes ∙ drop_at (take 14 frame) Q 14 front in
     again.bytes
     ∙ (λ i. first i ++ translated_packet side (addr_of side was.header) (port_of side was.transport) (after_header i))
     ∙ ap (λ (l : List ℕ). take 14 frame ++ l)

@@ -2,6 +2,7 @@
 use Rattle.std.proofs.Common.{ℕ, ◌≡◌, ◌≢◌, ◌∙◌, inl, inr, List, Some, Result, Ok, Err, IfErr, IfOk, length, sym, ap, subst}
 use Rattle.std.proofs.Math.ListN.{set}
 use Rattle.app_nat.proofs.Calls.{after_inbound-inside}
+use Rattle.app_nat.proofs.Meaning.{chosen-exists, chosen-leads}
 use Rattle.app_nat.proofs.Places.{changed}
 use Rattle.app_nat.proofs.Tables.{same-end}
 use Rattle.app_nat.specs.Mapping.{IsOf, after_inbound}
@@ -12,7 +13,7 @@ use Rattle.app_nat.specs.declared.mapping.Mapping.{Mapping}
 use Rattle.app_nat.specs.declared.nat.Nat.{Nat}
 use Rattle.app_nat.specs.declared.state.Protocol.{Protocol}
 use Rattle.app_nat.specs.declared.state.Protocol.TheVariants.{Icmp}
-use Rattle.app_nat.proofs.Answered.{answered-port, chosen-exists, chosen-leads}
+use Rattle.app_nat.proofs.Answered.{answered-port}
 use Rattle.app_nat.proofs.Faults.{message-not_zero, not-zero, transport-not_zero}
 use Rattle.app_nat.specs.Errors.{message_fault}
 use Rattle.app_nat.specs.Nat.{transport_fault}

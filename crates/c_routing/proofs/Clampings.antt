@@ -1,10 +1,10 @@
 -- A packet with another TCP segment, a frame with such a packet, and what C gets for it.
 use Rattle.std.proofs.Common.{ℕ, ℤ, pos, ◌≡◌, ◌≢◌, ◌≤◌, ◌<◌, ◌+◌, ◌-◌, ◌%◌, ◌↔◌, ◌++◌, ◌∙◌, Bool, true, false, if◌then◌else◌, List, [], Some, Result, Ok, Err, ap, append_assoc, arith, drop, inl, inr, length, length-drop, refl, slice_range, subst, sym, take}
 use Rattle.std.proofs.lemmas.Bool.Decides.{nat_tests}
-use Rattle.std.proofs.lemmas.List.{length-take-le, take-append-drop}
+use Rattle.std.proofs.lemmas.List.{drop_at, length-take-le, take-append-drop}
 use Rattle.c_structs.specs.Written.{max_len}
 use Rattle.app_edit.proofs.OtherPayloads.{inner-payload, link-stays, reads-inner, same-inner}
-use Rattle.app_edit.proofs.Payloads.{drop-front, range-len, range-part, range-same}
+use Rattle.app_edit.proofs.Payloads.{range-len, range-part, range-same}
 use Rattle.app_edit.specs.Layout.{payload_end, payload_start, with_payload}
 use Rattle.app_edit.specs.declared.replace.Offload.{Offload}
 use Rattle.app_edit.specs.declared.replace.Offload.TheVariants as offload
@@ -214,7 +214,7 @@ carries : (choice : Checksum) (old new body : List ℕ) (link : EthernetRepr) (h
     → ethernet.Reads old link → link.ethertype ≡ type_of header → ReadsSegment choice body header v payload → CarriesSegment choice new link header v payload
 carries choice old new body link header v payload at reads named inner =
     let front : length (take 14 old) ≡ 14 = length-take-le 14 old reads.whole in
-    let following : drop 14 new ≡ body = ap (drop 14) at ∙ drop-front (take 14 old) body 14 front in
+    let following : drop 14 new ≡ body = ap (drop 14) at ∙ drop_at (take 14 old) body 14 front in
     let there : ReadsSegment choice (drop 14 new) header v payload = subst (λ (l : List ℕ). ReadsSegment choice l header v payload) (sym following) inner in
     record {
       reads_header = subst (λ (l : List ℕ). ethernet.Reads l link) (sym at) (link-stays old body link reads);

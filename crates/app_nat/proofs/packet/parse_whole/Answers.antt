@@ -1,14 +1,10 @@
-use Rattle.std.proofs.Common.{List, ℕ, ◌≡◌, ◌∙◌, ◌-◌, arith, drop, length, length-drop, rules, take}
-use Rattle.std.proofs.lemmas.List.{take_all}
+use Rattle.std.proofs.Common.{◌≡◌, ◌∙◌, drop, rules}
+use Rattle.std.proofs.lemmas.List.{take_rest}
 use Rattle.std.proofs.lemmas.Result.{IfErr-weaker, IfOk-weaker}
 use Rattle.app_nat.proofs.Faults.{by-type, named-type, other-type, unread}
 use Rattle.ip_wire.specs.Ethernet.{frame_bytes}
 use Rattle.ip_wire.specs.declared.EthernetProtocol.TheVariants as ethertype
 use Rattle.app_nat.proofs.packet.parse_whole.Goals as goal
-
--- the bytes after the header
-tail : (frame : List ℕ) → take (length frame - 14) (drop 14 frame) ≡ drop 14 frame
-tail frame = take_all (length frame - 14) (drop 14 frame) (omega (arith, length-drop 14 frame))
 
 pub returns-in_default-clause-rejected : goal.returns-in_default-clause-rejected
 returns-in_default-clause-rejected c =
@@ -26,13 +22,13 @@ returns-in-Ipv4-clause-whole c =
       reads = h.0;
       inner = h.1;
     })
-    (rw (tail c.args.frame.now) at c.parse_unfragmented.ensures.whole)
+    (rw (take_rest c.args.frame.now 14) at c.parse_unfragmented.ensures.whole)
 
 pub returns-in-Ipv4-clause-rejected : goal.returns-in-Ipv4-clause-rejected
 returns-in-Ipv4-clause-rejected c =
     let view : frame_bytes c.new_unchecked.result ≡ c.args.frame.now = search rules in
     let named = named-type c.args.frame.now c.parse.result c.in-Ok.link ethertype.Ipv4 (rw view at c.parse.ensures.value) c.in-Ok.is (search rules) in
-    IfErr-weaker c.parse_unfragmented.result _ _ (λ reason why. named ∙ why) (rw (tail c.args.frame.now) at c.parse_unfragmented.ensures.rejected)
+    IfErr-weaker c.parse_unfragmented.result _ _ (λ reason why. named ∙ why) (rw (take_rest c.args.frame.now 14) at c.parse_unfragmented.ensures.rejected)
 
 pub returns-in_default-ethertype : goal.returns-in_default-ethertype
 returns-in_default-ethertype c =
