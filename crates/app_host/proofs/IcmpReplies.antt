@@ -9,7 +9,7 @@ use Rattle.ip_wire.specs.Types.{EthernetRepr, IpRepr, Ipv4, Ipv6}
 use Rattle.ip_wire.proofs.Parsed.{ToFrame}
 use Rattle.ip_wire.specs.IpAddress as address
 use Rattle.ip_wire.specs.declared.Frame.{Frame}
-use Rattle.net_base.specs.Checksum.{verifies}
+use Rattle.ip_wire.specs.Checksum.{verifies}
 use Rattle.wire_icmp.specs.Icmp.{Reads, bytes_of, choice_of, payload_of, protocol_of}
 use Rattle.wire_icmp.specs.declared.IcmpRepr.{IcmpRepr}
 use Rattle.wire_icmp.specs.declared.IcmpRepr.TheVariants.{EchoReply, EchoRequest}

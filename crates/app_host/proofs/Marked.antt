@@ -17,9 +17,9 @@ use Rattle.ip_wire.specs.Ipv4 as ipv4
 use Rattle.ip_wire.specs.Ipv6 as ipv6
 use Rattle.ip_wire.specs.Types.{EthernetRepr, IpRepr, IpVersion, Ipv4, Ipv4Repr, Ipv6, Ipv6Repr}
 use Rattle.ip_wire.specs.declared.IpVersion.TheVariants as version
-use Rattle.wire_field.proofs.Following.{drop-with_field}
-use Rattle.wire_field.proofs.Written.{AreBytes-with_field, field_with_field_other, field_with_field_same, length_with_field}
-use Rattle.wire_ipv6.proofs.Ipv6Changed.{reads-unread}
+use Rattle.ip_wire.proofs.Following.{drop-with_field}
+use Rattle.ip_wire.proofs.Written.{AreBytes-with_field, field_with_field_other, field_with_field_same, length_with_field}
+use Rattle.ip_wire.proofs.Ipv6Changed.{reads-unread}
 
 -- what is after the first k bytes follows from what is after fewer
 pub drop-later : (old new : List ℕ) (n k : ℕ) → n ≤ k → drop n new ≡ drop n old → drop k new ≡ drop k old

@@ -11,7 +11,7 @@ use Rattle.ip_wire.specs.Protocol.{known}
 use Rattle.ip_wire.specs.Reply.{reply_len}
 use Rattle.ip_wire.specs.Types.{EthernetAddress, EthernetRepr, IpAddress, IpRepr, Ipv4, Ipv6}
 use Rattle.ip_wire.specs.declared.IpProtocol.TheVariants as protocol
-use Rattle.net_base.specs.Checksum.{computes}
+use Rattle.ip_wire.specs.Checksum.{computes}
 use Rattle.wire_icmp.specs.Icmp.{bytes_of, choice_of, protocol_of}
 use Rattle.wire_icmp.specs.declared.IcmpRepr.{IcmpRepr}
 use Rattle.app_host.specs.Message.{Composes, IsOfVersion, IsSendable, IsSent, frame_bytes, message_bytes, message_frame, message_len, values_of}

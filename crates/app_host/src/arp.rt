@@ -6,8 +6,10 @@ ghost use Rattle.ip_wire.specs.Reply.{Gives, Sends};
 ghost use Rattle.ip_wire.specs.declared.ArpRepr.{ArpRepr};
 
 use crate::interface::Interface;
-use ip_wire::{ArpOperation, ArpRepr, Carried, EthernetAddress, Frame, IpAddress, send_reply};
-use net_base::ChecksumCapabilities;
+use ip_wire::{
+    ArpOperation, ArpRepr, Carried, ChecksumCapabilities, EthernetAddress, Frame, IpAddress,
+    send_reply,
+};
 
 /// The reply to a request for the IPv4 address, sent to the host that asks. `None` for any other frame,
 /// if the hardware address of the sender is not unicast, and if its IPv4 address is neither a valid source nor 0.0.0.0.

@@ -16,8 +16,10 @@ use crate::tcp_reply::Offer;
 use crate::{
     Interface, MessageFrame, Reply, arp, icmp_echo, icmp_error, neighbour, tcp_answer, udp_echo,
 };
-use ip_wire::{Carried, ETHERNET_HEADER_LEN, Frame, IpVersion, Ipv4Packet, Ipv6Packet, Transport};
-use net_base::ChecksumCapabilities;
+use ip_wire::{
+    Carried, ChecksumCapabilities, ETHERNET_HEADER_LEN, Frame, IpVersion, Ipv4Packet, Ipv6Packet,
+    Transport,
+};
 use wire_icmp::{IcmpRepr, Unreachable};
 
 /// A host with one interface, and no connections.

@@ -7,8 +7,7 @@ ghost use Rattle.ip_wire.specs.Frame.{other, packet};
 
 use crate::interface::{Interface, header_back};
 use crate::message::MessageFrame;
-use ip_wire::{Carried, EthernetRepr, Frame, IpRepr, Transport};
-use net_base::ChecksumCapabilities;
+use ip_wire::{Carried, ChecksumCapabilities, EthernetRepr, Frame, IpRepr, Transport};
 use wire_icmp::{IcmpPacket, IcmpRepr, protocol_of};
 
 /// The reply to an echo request for this interface, with the same identifier, sequence number and data.

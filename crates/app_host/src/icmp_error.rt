@@ -10,10 +10,9 @@ ghost use Rattle.ip_wire.specs.Ip.{Reads, payload_of, version_of};
 use crate::interface::{Interface, header_back, is_host_addr};
 use crate::message::{MessageFrame, ethertype_of};
 use ip_wire::{
-    EthernetFrame, EthernetRepr, IpPacket, IpProtocol, IpRepr, Ipv4Packet, Ipv4Repr, Ipv6Packet,
-    Ipv6Repr,
+    ChecksumCapabilities, EthernetFrame, EthernetRepr, IpPacket, IpProtocol, IpRepr, Ipv4Packet,
+    Ipv4Repr, Ipv6Packet, Ipv6Repr,
 };
-use net_base::ChecksumCapabilities;
 use wire_icmp::{IcmpPacket, IcmpRepr, protocol_of};
 
 /// The most bytes that an error of IPv4 quotes, so that its packet has at most 576 bytes (RFC 1812,

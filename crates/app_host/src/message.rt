@@ -13,10 +13,9 @@ ghost use Rattle.wire_icmp.specs.Ndisc as ndisc;
 
 use ip_wire::laws::field::bytes_fit;
 use ip_wire::{
-    ETHERNET_HEADER_LEN, EthernetAddress, EthernetFrameMut, EthernetProtocol, EthernetRepr, Frame,
-    IpRepr, IpVersion, Ipv4PacketMut, Ipv6PacketMut, Ipv6Repr, send,
+    ChecksumCapabilities, ETHERNET_HEADER_LEN, EthernetAddress, EthernetFrameMut, EthernetProtocol,
+    EthernetRepr, Frame, IpRepr, IpVersion, Ipv4PacketMut, Ipv6PacketMut, Ipv6Repr, send,
 };
-use net_base::ChecksumCapabilities;
 use wire_icmp::{ICMP_HEADER_LEN, IcmpRepr, NdiscRepr, protocol_of};
 
 /// What a packet of the protocol ICMP or ICMPv6 carries.

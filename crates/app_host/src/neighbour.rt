@@ -13,10 +13,9 @@ ghost use Rattle.ip_wire.specs.declared.IpRepr.TheVariants.{Ipv6};
 use crate::interface::{Interface, is_host_addr};
 use crate::message::MessageFrame;
 use ip_wire::{
-    Carried, EthernetAddress, EthernetRepr, Frame, IPV6_LINK_LOCAL_ALL_NODES, IpAddress,
-    IpProtocol, IpRepr, Ipv6Address, Ipv6Repr, Transport,
+    Carried, ChecksumCapabilities, EthernetAddress, EthernetRepr, Frame, IPV6_LINK_LOCAL_ALL_NODES,
+    IpAddress, IpProtocol, IpRepr, Ipv6Address, Ipv6Repr, Transport,
 };
-use net_base::ChecksumCapabilities;
 use wire_icmp::{IcmpPacket, NDISC_HOP_LIMIT, NdiscNeighborFlags, NdiscRepr};
 
 /// The advertisement to a solicitation for the IPv6 address, with the hardware address. The solicitation

@@ -6,8 +6,7 @@ ghost use Rattle.ip_wire.specs.FrameValue.{Fits};
 
 use crate::interface::{Interface, header_back};
 use crate::tcp_reply::{Offer, reply_to};
-use ip_wire::{Carried, Frame, Transport, send_reply};
-use net_base::ChecksumCapabilities;
+use ip_wire::{Carried, ChecksumCapabilities, Frame, Transport, send_reply};
 
 /// The reply to a TCP segment for this interface, if these ports are open: SYN and ACK, or RST. `None`
 /// for any other frame, and if `reply_to` returns `None`.

@@ -4,8 +4,7 @@ ghost use Rattle.ip_wire.specs.Reply.{Gives, Sends};
 ghost use Rattle.app_host.specs.UdpEcho.{EchoesBytes, EchoesFrame};
 
 use crate::interface::{Interface, header_back};
-use ip_wire::{Carried, Frame, Transport, UdpRepr, send_reply};
-use net_base::ChecksumCapabilities;
+use ip_wire::{Carried, ChecksumCapabilities, Frame, Transport, UdpRepr, send_reply};
 
 // The first port that is of no well-known service (RFC 6335, section 6).
 const FIRST_USER_PORT: u16 = 1024;

@@ -10,9 +10,9 @@ use Rattle.ip_wire.specs.Types.{Ipv4Repr, UdpRepr}
 use Rattle.ip_wire.specs.Udp as udp
 use Rattle.ip_wire.specs.WordSum.{sum_of_bytes, updated}
 use Rattle.ip_wire.specs.declared.IpAddress.TheVariants as address
-use Rattle.wire_field.proofs.Written.{AreBytes-with_field, length_with_field}
-use Rattle.wire_tcp.proofs.Sums.{valid-dst_addr, valid-src_addr, valid_word}
-use Rattle.wire_udp.proofs.UdpUpdated.{reads-updated, valid-addresses, valid-port}
+use Rattle.ip_wire.proofs.Written.{AreBytes-with_field, length_with_field}
+use Rattle.ip_wire.proofs.Sums.{valid-dst_addr, valid-src_addr, valid_word}
+use Rattle.ip_wire.proofs.UdpUpdated.{reads-updated, valid-addresses, valid-port}
 use Rattle.app_nat.proofs.Translates.{even, moved-end}
 use Rattle.app_edit.specs.Sides.{opposite}
 use Rattle.app_nat.specs.Nat.{Rewrites, addr_of, datagram, segment, with_tcp_end, with_tcp_port, with_udp_end, with_udp_port}

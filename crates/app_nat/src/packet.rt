@@ -13,10 +13,9 @@ use crate::{Event, Ipv4Endpoint};
 use app_edit::Side;
 use ip_wire::laws::field::bytes_fit;
 use ip_wire::{
-    ETHERNET_HEADER_LEN, EthernetFrame, EthernetProtocol, EthernetRepr, IpAddress, IpProtocol,
-    IpRepr, Ipv4Packet, Ipv4Repr, TcpControl, Transport, parse_ipv4,
+    ChecksumCapabilities, ETHERNET_HEADER_LEN, EthernetFrame, EthernetProtocol, EthernetRepr,
+    IpAddress, IpProtocol, IpRepr, Ipv4Packet, Ipv4Repr, TcpControl, Transport, parse_ipv4,
 };
-use net_base::ChecksumCapabilities;
 use wire_icmp::IcmpPacket;
 
 /// What a packet carries, with the control flag of a TCP segment.

@@ -6,8 +6,10 @@ ghost use Rattle.app_host.specs.Message.{Gives};
 ghost use Rattle.ip_wire.specs.Ip.{Reads};
 
 use app_host::{Interface, MessageFrame, icmp_error};
-use ip_wire::{ETHERNET_HEADER_LEN, EthernetFrame, IpPacket, IpRepr, Ipv4Packet, Ipv6Packet};
-use net_base::ChecksumCapabilities;
+use ip_wire::{
+    ChecksumCapabilities, ETHERNET_HEADER_LEN, EthernetFrame, IpPacket, IpRepr, Ipv4Packet,
+    Ipv6Packet,
+};
 use wire_icmp::{Exceeded, IcmpRepr, Unreachable};
 
 /// Why a packet is not forwarded, for its sender.

@@ -3,8 +3,7 @@
 ghost use Rattle.std.specs.Prelude.{◌↔◌, IsTrue};
 ghost use Rattle.app_short.specs.Hops.{IsNear};
 
-use ip_wire::Frame;
-use net_base::ChecksumCapabilities;
+use ip_wire::{ChecksumCapabilities, Frame};
 
 /// The hop limit that a neighbour sends with.
 const SENT: u8 = 255;

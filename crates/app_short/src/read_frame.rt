@@ -4,8 +4,7 @@ ghost use Rattle.std.specs.Prelude.{ℕ, ◌≡◌, IfSome, List, None};
 ghost use Rattle.ip_wire.specs.Frame.{IsReadWhole, datagram, packet};
 ghost use Rattle.ip_wire.specs.Types.{EthernetRepr, IpRepr, UdpRepr};
 
-use ip_wire::{Carried, Frame, IpRepr, Transport, UdpRepr};
-use net_base::ChecksumCapabilities;
+use ip_wire::{Carried, ChecksumCapabilities, Frame, IpRepr, Transport, UdpRepr};
 
 /// The IP header, UDP header and payload. `None` unless it is a UDP packet with valid checksums.
 pub fn udp_packet(bytes: &[u8]) -> Option<(IpRepr, UdpRepr, &[u8])>

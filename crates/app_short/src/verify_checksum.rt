@@ -4,10 +4,9 @@ ghost use Rattle.std.specs.Prelude.{◌≡◌, ◌≢◌, ◌↔◌, IsErr, IsTr
 ghost use Rattle.ip_wire.specs.Field.{field};
 ghost use Rattle.ip_wire.specs.Udp.{HasChecksum, HasLengths, Reads, payload_of};
 ghost use Rattle.ip_wire.specs.declared.UdpRepr.{UdpRepr};
-ghost use Rattle.net_base.specs.Checksum.{all_are, verifies};
+ghost use Rattle.ip_wire.specs.Checksum.{all_are, verifies};
 
-use ip_wire::{IpAddress, Ipv4Address, Result, UdpPacket, UdpRepr};
-use net_base::{Checksum, ChecksumCapabilities};
+use ip_wire::{Checksum, ChecksumCapabilities, IpAddress, Ipv4Address, Result, UdpPacket, UdpRepr};
 
 /// The ports of a UDP packet between two addresses. If `caps` asks to verify the checksum, packets with
 /// an invalid one are rejected. A checksum of 0 is valid over IPv4: the sender computed none. Packets with

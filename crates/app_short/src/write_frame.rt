@@ -5,8 +5,7 @@ ghost use Rattle.ip_wire.specs.Frame.{all_checked};
 ghost use Rattle.ip_wire.specs.FrameValue.{Agrees, Fits, ReadsNormalOf, frame_around, frame_bytes, frame_len};
 ghost use Rattle.ip_wire.specs.declared.Transport.TheVariants as transport;
 
-use ip_wire::{EthernetAddress, Frame, IpRepr, UdpRepr, laws};
-use net_base::ChecksumCapabilities;
+use ip_wire::{ChecksumCapabilities, EthernetAddress, Frame, IpRepr, UdpRepr, laws};
 
 /// Writes the frame to the front of `buffer` with its checksums, and returns its length. `None` if it
 /// does not fit, if the payload is too long, or if the destination port is 0.

@@ -5,7 +5,7 @@ use Rattle.ip_wire.proofs.Parsed.{IsParsed}
 use Rattle.ip_wire.specs.Frame.{other, packet}
 use Rattle.ip_wire.specs.FrameValue.{carried_of}
 use Rattle.ip_wire.specs.Types.{IpRepr}
-use Rattle.ip_wire.specs.declared.frame.Frame.{Frame}
+use Rattle.ip_wire.specs.declared.Frame.{Frame}
 use Rattle.wire_icmp.specs.declared.ndisc.repr.NdiscRepr.{NdiscRepr}
 use Rattle.c_icmp.specs.Neighbours.{CarriesNdisc, ReadsNdisc}
 

@@ -1,7 +1,7 @@
 //! Writes ICMP messages, by themselves and in whole frames.
 
 ghost use Rattle.std.specs.Prelude.{◌≡◌};
-ghost use Rattle.net_base.specs.Checksum.{computes};
+ghost use Rattle.ip_wire.specs.Checksum.{computes};
 ghost use Rattle.wire_ends.specs.declared.ip_version.IpVersion.{IpVersion};
 ghost use Rattle.wire_icmp.specs.Icmp.{choice_of};
 ghost use Rattle.c_structs.specs.Written.{Fills};
@@ -9,7 +9,7 @@ ghost use Rattle.c_icmp.specs.Frames.{icmp_failure, icmp_frame, icmp_frame_failu
 ghost use Rattle.c_icmp.specs.Messages.{header_value, icmp_bytes};
 
 use c_structs::{Addr, Failure, FrameFields, Icmp, most_payload, pair_failure};
-use net_base::ChecksumCapabilities;
+use ip_wire::ChecksumCapabilities;
 use wire_icmp::{ICMP_HEADER_LEN, IcmpHeader};
 
 // The protocols of IPv4 and of IPv6.

@@ -10,9 +10,9 @@ use crate::emit::ICMPV6;
 use crate::types::Ndisc;
 use c_structs::{Addr, Failure, FrameFields, Ip};
 use ip_wire::{
-    Carried, EthernetAddress, Frame, IpAddress, IpProtocol, IpRepr, Ipv6Repr, Transport,
+    Carried, ChecksumCapabilities, EthernetAddress, Frame, IpAddress, IpProtocol, IpRepr, Ipv6Repr,
+    Transport,
 };
-use net_base::ChecksumCapabilities;
 use wire_icmp::{IcmpPacket, NDISC_HOP_LIMIT, NdiscNeighborFlags, NdiscRepr};
 
 impl Ndisc {

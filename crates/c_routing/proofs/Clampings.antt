@@ -31,10 +31,10 @@ use Rattle.ip_wire.specs.declared.TcpControl.TheVariants as control
 use Rattle.ip_wire.specs.declared.TcpRepr.{TcpRepr}
 use Rattle.ip_wire.specs.declared.frame.transport.Transport as value
 use Rattle.ip_wire.specs.declared.frame.transport.Transport.TheVariants as transport
-use Rattle.net_base.specs.Checksum.{verifies}
-use Rattle.net_base.specs.declared.Checksum.{Checksum}
-use Rattle.net_base.specs.declared.Checksum.TheVariants as checksum
-use Rattle.net_base.specs.declared.ChecksumCapabilities.{ChecksumCapabilities}
+use Rattle.ip_wire.specs.Checksum.{verifies}
+use Rattle.ip_wire.specs.declared.Checksum.{Checksum}
+use Rattle.ip_wire.specs.declared.Checksum.TheVariants as checksum
+use Rattle.ip_wire.specs.declared.ChecksumCapabilities.{ChecksumCapabilities}
 use Rattle.c_routing.proofs.Within.{within-itself, within-nothing}
 use Rattle.c_routing.specs.Clamped.{CarriesSegment, Clamps, IsClamped, IsTooLarge, ReadsSegment, clamped, is_left_to_device, resized, tcp_as, with_size}
 

@@ -11,10 +11,10 @@ use Rattle.ip_wire.specs.Ip.{dst_addr_of, src_addr_of, version_of}
 use Rattle.ip_wire.specs.TcpRepr.{TcpHeader}
 use Rattle.ip_wire.specs.TcpSegmentSize.{with_max_seg_size}
 use Rattle.ip_wire.specs.Types.{EthernetRepr, IpAddress, IpRepr}
-use Rattle.net_base.specs.Checksum.{verifies}
-use Rattle.net_base.specs.declared.Checksum.{Checksum}
-use Rattle.net_base.specs.declared.Checksum.TheVariants as checksum
-use Rattle.net_base.specs.declared.ChecksumCapabilities.{ChecksumCapabilities}
+use Rattle.ip_wire.specs.Checksum.{verifies}
+use Rattle.ip_wire.specs.declared.Checksum.{Checksum}
+use Rattle.ip_wire.specs.declared.Checksum.TheVariants as checksum
+use Rattle.ip_wire.specs.declared.ChecksumCapabilities.{ChecksumCapabilities}
 use Rattle.c_structs.specs.Codes.{verdict_code}
 use Rattle.c_structs.specs.FrameFields.{tcp_verdict}
 use Rattle.c_structs.specs.Written.{max_len, within}

@@ -9,14 +9,13 @@ ghost use Rattle.ip_wire.specs.Ip.{dst_addr_of, src_addr_of};
 ghost use Rattle.ip_wire.specs.IpAddress.{address_bytes};
 ghost use Rattle.ip_wire.specs.TcpRepr.{Reads, TcpHeader};
 ghost use Rattle.ip_wire.specs.Types.{EthernetRepr, IpRepr};
-ghost use Rattle.net_base.specs.Checksum.{verifies};
-ghost use Rattle.net_base.specs.declared.Checksum.{Checksum};
+ghost use Rattle.ip_wire.specs.Checksum.{verifies};
+ghost use Rattle.ip_wire.specs.declared.Checksum.{Checksum};
 
 use app_edit::{Layout, Offload};
 use app_short::mss_clamp::clamp;
 use c_structs::MAX_LEN;
-use ip_wire::{ETHERNET_HEADER_LEN, Frame, IpRepr, TcpPacket, TcpPacketMut, Transport};
-use net_base::{Checksum, ChecksumCapabilities};
+use ip_wire::{Checksum, ChecksumCapabilities, ETHERNET_HEADER_LEN, Frame, IpRepr, TcpPacket, TcpPacketMut, Transport};
 
 /// Lowers the maximum segment size of a SYN in a frame to `limit`, and updates the TCP checksum, in place. A checksum that
 /// counts as left to the device stays. Returns 1 if the size was larger, else 0; then the frame is unchanged.

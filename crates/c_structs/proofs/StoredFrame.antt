@@ -30,8 +30,8 @@ use Rattle.ip_wire.specs.Field.{field}
 use Rattle.c_structs.specs.Stored.{HasVerdicts, Stores, headed, linked, struct_of, transported, unchecked}
 use Rattle.c_structs.specs.declared.types.FrameFields.{FrameFields}
 use Rattle.c_structs.specs.declared.types.Ip.{Ip}
-use Rattle.net_base.specs.Checksum.{verifies}
-use Rattle.net_base.specs.declared.ChecksumCapabilities.{ChecksumCapabilities}
+use Rattle.ip_wire.specs.Checksum.{verifies}
+use Rattle.ip_wire.specs.declared.ChecksumCapabilities.{ChecksumCapabilities}
 
 -- ---- the whole frame
 

@@ -21,9 +21,9 @@ use Rattle.c_structs.specs.declared.codes.Reason.TheVariants as reason
 use Rattle.c_structs.specs.declared.codes.TransportKind.TheVariants as transport
 use Rattle.c_structs.specs.declared.codes.Verdict.TheVariants as verdict
 use Rattle.c_structs.specs.declared.types.FrameFields.{FrameFields}
-use Rattle.net_base.specs.Checksum.{all_are, verifies}
-use Rattle.net_base.specs.declared.Checksum.TheVariants as checksum
-use Rattle.net_base.specs.declared.ChecksumCapabilities.{ChecksumCapabilities}
+use Rattle.ip_wire.specs.Checksum.{all_are, verifies}
+use Rattle.ip_wire.specs.declared.Checksum.TheVariants as checksum
+use Rattle.ip_wire.specs.declared.ChecksumCapabilities.{ChecksumCapabilities}
 
 -- no checksum is verified
 abbrev pub unchecked : ChecksumCapabilities

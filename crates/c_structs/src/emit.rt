@@ -7,8 +7,7 @@ ghost use Rattle.c_structs.specs.Headers.{only_if, tcp_bytes, udp_bytes};
 ghost use Rattle.c_structs.specs.Written.{Fills};
 
 use crate::types::{Endpoint, Tcp, TcpOptions};
-use ip_wire::{IpAddress, UDP_MAX_PAYLOAD_LEN, UdpRepr};
-use net_base::ChecksumCapabilities;
+use ip_wire::{ChecksumCapabilities, IpAddress, UDP_MAX_PAYLOAD_LEN, UdpRepr};
 use wire_field::write_at;
 
 /// Writes a UDP packet to the front of `out` and returns its length. `None` if it does not fit, or if there is an

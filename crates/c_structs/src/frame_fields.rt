@@ -16,11 +16,10 @@ use crate::types::{Addr, Arp, Endpoint, Ethernet, FrameFields, Icmp, Ip, Tcp};
 use crate::verdicts::ipv4_verdict;
 use byteorder::{ByteOrder, NetworkEndian};
 use ip_wire::{
-    ArpPacket, ArpRepr, ETHERNET_HEADER_LEN, EthernetAddress, EthernetFrame, EthernetProtocol,
-    IPV6_HEADER_LEN, IpAddress, IpProtocol, Ipv4Address, Ipv4Packet, Ipv4Repr, Ipv6FragmentHeader,
-    Ipv6Packet, Ipv6Repr,
+    ArpPacket, ArpRepr, ChecksumCapabilities, ETHERNET_HEADER_LEN, EthernetAddress, EthernetFrame,
+    EthernetProtocol, IPV6_HEADER_LEN, IpAddress, IpProtocol, Ipv4Address, Ipv4Packet, Ipv4Repr,
+    Ipv6FragmentHeader, Ipv6Packet, Ipv6Repr,
 };
-use net_base::ChecksumCapabilities;
 use wire_field::array_at;
 
 // The byte of the EtherType in an Ethernet header.

@@ -15,9 +15,8 @@ mod messages;
 
 use crate::types::FrameFields;
 pub use failures::failures_are_exact;
-use ip_wire::ETHERNET_HEADER_LEN;
+use ip_wire::{ChecksumCapabilities, ETHERNET_HEADER_LEN};
 pub use messages::{messages_are_stored, only_messages_have_icmp, other_frames_have_no_icmp};
-use net_base::ChecksumCapabilities;
 
 /// The struct of a frame that is parsed whole stores each value of its headers under the name of the
 /// value, and locates the innermost payload. The verified checksums are valid exactly if their fields

@@ -17,11 +17,10 @@ ghost use Rattle.c_structs.specs.Written.{Fills};
 use crate::{tcp, tcp_kept};
 use byteorder::{ByteOrder, NetworkEndian};
 use ip_wire::{
-    ArpPacket, ArpRepr, ETHERNET_HEADER_LEN, EthernetFrame, EthernetProtocol, IPV4_HEADER_LEN,
-    IPV6_HEADER_LEN, IpAddress, IpProtocol, IpRepr, Ipv4Packet, Ipv4Repr, Ipv6Packet, Ipv6Repr,
-    TcpPacket, TcpRepr, UDP_HEADER_LEN, UdpPacket, UdpRepr,
+    ArpPacket, ArpRepr, ChecksumCapabilities, ETHERNET_HEADER_LEN, EthernetFrame, EthernetProtocol,
+    IPV4_HEADER_LEN, IPV6_HEADER_LEN, IpAddress, IpProtocol, IpRepr, Ipv4Packet, Ipv4Repr,
+    Ipv6Packet, Ipv6Repr, TcpPacket, TcpRepr, UDP_HEADER_LEN, UdpPacket, UdpRepr,
 };
-use net_base::ChecksumCapabilities;
 use wire_field::{array_at, try_copy, write_at, write_front};
 
 // The length of an ARP packet for Ethernet and IPv4.

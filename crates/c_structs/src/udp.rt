@@ -4,8 +4,7 @@ ghost use Rattle.std.specs.Prelude.{◌≡◌, ◌≤◌, ◌+◌, ◌++◌, dro
 ghost use Rattle.ip_wire.specs.IpAddress.{version_of};
 ghost use Rattle.ip_wire.specs.Udp.{bytes_of, max_payload_len};
 
-use ip_wire::{IpAddress, UDP_HEADER_LEN, UdpPacketMut, UdpRepr};
-use net_base::ChecksumCapabilities;
+use ip_wire::{ChecksumCapabilities, IpAddress, UDP_HEADER_LEN, UdpPacketMut, UdpRepr};
 
 /// Writes the header of a packet between two addresses around a payload that is in `out` after it.
 #[inline(always)]

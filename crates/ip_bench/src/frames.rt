@@ -5,11 +5,10 @@ ghost use Rattle.ip_wire.specs.FrameValue.{Fits};
 
 use crate::random::Random;
 use ip_wire::{
-    ArpOperation, ArpRepr, EthernetAddress, Frame, IpProtocol, IpRepr, Ipv4Address, Ipv4Repr,
-    Ipv6Address, Ipv6Repr, Result, TcpControl, TcpRepr, TcpSeqNumber, TcpTimestampRepr, Transport,
-    UdpRepr,
+    ArpOperation, ArpRepr, ChecksumCapabilities, EthernetAddress, Frame, IpProtocol, IpRepr,
+    Ipv4Address, Ipv4Repr, Ipv6Address, Ipv6Repr, Result, TcpControl, TcpRepr, TcpSeqNumber,
+    TcpTimestampRepr, Transport, UdpRepr,
 };
-use net_base::ChecksumCapabilities;
 use std::alloc::{AllocError, Global};
 
 /// Room for each frame that is made here.

@@ -4,8 +4,7 @@ use crate::derived::Frames;
 use crate::digest::Digest;
 use crate::frames::{Kind, pool};
 use crate::random::Random;
-use ip_wire::Frame;
-use net_base::ChecksumCapabilities;
+use ip_wire::{ChecksumCapabilities, Frame};
 use std::alloc::{AllocError, Global};
 
 /// Prints this many frames.

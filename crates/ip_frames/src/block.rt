@@ -10,8 +10,7 @@ ghost use Rattle.ip_wire.specs.FrameValue.{Finds, Fits, frame_bytes, frame_len};
 use crate::payload::push_payload;
 use hex::FromHexError;
 use hex_digits::{Digits, write_digits};
-use ip_wire::{EthernetFrame, Frame, laws};
-use net_base::ChecksumCapabilities;
+use ip_wire::{ChecksumCapabilities, EthernetFrame, Frame, laws};
 use std::alloc::{AllocError, Global};
 
 /// The buffers for a block. They are reused from line to line, so memory grows only if a line needs

@@ -11,10 +11,9 @@ ghost use Rattle.ip_wire.specs.Ipv4Text.{packet_text};
 
 use crate::transport::push_transport;
 use ip_wire::{
-    ArpPacket, ArpRepr, Carried, EthernetProtocol, Frame, IpProtocol, IpRepr, Ipv4Packet, Ipv4Repr,
-    Ipv6FragmentHeader, Ipv6Packet, Transport,
+    ArpPacket, ArpRepr, Carried, ChecksumCapabilities, EthernetProtocol, Frame, IpProtocol, IpRepr,
+    Ipv4Packet, Ipv4Repr, Ipv6FragmentHeader, Ipv6Packet, Transport,
 };
-use net_base::ChecksumCapabilities;
 use std::alloc::AllocError;
 
 /// Appends the lines of a frame's payload to `text`. The value says what was parsed of `bytes`, and

@@ -10,8 +10,9 @@ ghost use Rattle.ip_wire.specs.TcpText as tcp_texts;
 ghost use Rattle.ip_wire.specs.Udp as udp;
 ghost use Rattle.ip_wire.specs.UdpText as udp_texts;
 
-use ip_wire::{IpProtocol, IpRepr, TcpPacket, TcpRepr, Transport, UdpPacket, UdpRepr};
-use net_base::ChecksumCapabilities;
+use ip_wire::{
+    ChecksumCapabilities, IpProtocol, IpRepr, TcpPacket, TcpRepr, Transport, UdpPacket, UdpRepr,
+};
 use std::alloc::AllocError;
 
 /// Appends the line of the payload of an IP packet to `text`. The value says what was parsed of

@@ -12,7 +12,7 @@ use Rattle.ip_wire.specs.Types.{UdpRepr}
 use Rattle.ip_wire.specs.declared.IpAddress.{IpAddress}
 use Rattle.ip_wire.specs.declared.IpAddress.TheVariants.{Ipv4}
 use Rattle.ip_wire.specs.declared.TcpControl.TheVariants as control
-use Rattle.net_base.specs.declared.Error.{Error}
+use Rattle.ip_wire.specs.declared.Error.{Error}
 use Rattle.test_app_needs.proofs.RouterOnce.{one_verdict}
 
 pub one_flow : (flow other : Flow) (a b : FlowKey) → ((o : Flow) → (key_of o ≡ a) ↔ IsOneFlow o flow) → b ≡ key_of other → (b ≡ a) ↔ IsOneFlow other flow

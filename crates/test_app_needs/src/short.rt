@@ -20,8 +20,10 @@ use app_short::mss_clamp::clamp;
 use app_short::read_frame::udp_packet;
 use app_short::verify_checksum::{parse_udp_ports, verified_by_the_device};
 use app_short::write_frame::write_udp;
-use ip_wire::{EthernetAddress, Frame, IpAddress, IpCidr, IpRepr, Ipv4Address, Result, UdpRepr};
-use net_base::{Checksum, ChecksumCapabilities};
+use ip_wire::{
+    Checksum, ChecksumCapabilities, EthernetAddress, Frame, IpAddress, IpCidr, IpRepr, Ipv4Address,
+    Result, UdpRepr,
+};
 
 /// An address is allowed, or it is not.
 #[tactic(auto, using(crate::proofs::RouterOnce::one_verdict))]

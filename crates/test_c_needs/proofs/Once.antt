@@ -19,11 +19,11 @@ use Rattle.ip_wire.specs.Types.{EthernetAddress, IpRepr, Ipv4, Ipv6}
 use Rattle.ip_wire.specs.declared.IpAddress.{IpAddress}
 use Rattle.ip_wire.specs.declared.IpCidr.{IpCidr}
 use Rattle.ip_wire.specs.declared.IpEndpoint.{IpEndpoint}
-use Rattle.wire_ends.proofs.EndTexts.{address_once, cidr_once, endpoint_once}
+use Rattle.ip_wire.proofs.EndTexts.{address_once, cidr_once, endpoint_once}
 use Rattle.wire_icmp.proofs.NdiscComputed.{ndisc_of_Reads}
 use Rattle.wire_icmp.specs.Ndisc as ndisc
 use Rattle.wire_icmp.specs.declared.NdiscRepr.{NdiscRepr}
-use Rattle.wire_addr.proofs.Readers.{hex_text_once}
+use Rattle.ip_wire.proofs.Readers.{hex_text_once}
 use Rattle.c_icmp.specs.Neighbours.{CarriesNdisc, ReadsNdisc}
 use Rattle.c_structs.specs.TcpOptions.{ReadsItems}
 use Rattle.c_structs.specs.Written.{IsRead, Writes, WritesBytes, max_len, usable, within}

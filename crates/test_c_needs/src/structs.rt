@@ -14,7 +14,7 @@ ghost use Rattle.c_structs.specs.Headers.{arp_bytes, ip_bytes, tcp_bytes, tcp_he
 ghost use Rattle.c_structs.specs.Stored.{HasVerdicts, IsTypeOf, Stores, unchecked};
 
 use c_structs::{Addr, Arp, Block, Endpoint, FrameFields, Ip, Tcp, TcpOptions, laws};
-use net_base::ChecksumCapabilities;
+use ip_wire::ChecksumCapabilities;
 
 /// The fields of a frame with a UDP packet: both ports, and the place of the payload.
 fn fields_are_parsed(frame: &[u8], caps: ChecksumCapabilities, fields: &mut FrameFields)

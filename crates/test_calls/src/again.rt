@@ -4,10 +4,9 @@ ghost use Rattle.std.specs.Prelude.{◌≡◌};
 
 use crate::operands::Operands;
 use ip_wire::{
-    Frame, IPV4_MAX_PAYLOAD_LEN, IpAddress, IpPacket, IpProtocol, IpRepr, Ipv4Packet,
-    Ipv4PacketMut, Ipv4Repr, Transport,
+    ChecksumCapabilities, Frame, IPV4_MAX_PAYLOAD_LEN, IpAddress, IpPacket, IpProtocol, IpRepr,
+    Ipv4Packet, Ipv4PacketMut, Ipv4Repr, Transport,
 };
-use net_base::ChecksumCapabilities;
 use std::alloc::{AllocError, Global};
 
 /// The bytes that are emitted: an IP header, a packet of UDP or TCP, or a frame. `err` if none is parsed.

@@ -4,8 +4,10 @@ ghost use Rattle.std.specs.Prelude.{◌≡◌};
 ghost use Rattle.ip_wire.specs.IpAddress.{version_of};
 
 use hex_digits::Digits;
-use ip_wire::{EthernetAddress, IpAddress, Ipv4Address, Ipv6Address, TcpSeqNumber};
-use net_base::{Checksum, ChecksumCapabilities};
+use ip_wire::{
+    Checksum, ChecksumCapabilities, EthernetAddress, IpAddress, Ipv4Address, Ipv6Address,
+    TcpSeqNumber,
+};
 use std::alloc::{AllocError, Global};
 use std::str::FromStr;
 

@@ -1,8 +1,9 @@
 //! The values of the options of a TCP header.
 
 use crate::operands::Operands;
-use ip_wire::{SACK_BLOCKS, TCP_HEADER_LEN, TcpOption, TcpOptionSummary, TcpPacket};
-use net_base::Result as Parsed;
+use ip_wire::{
+    Result as Parsed, SACK_BLOCKS, TCP_HEADER_LEN, TcpOption, TcpOptionSummary, TcpPacket,
+};
 use std::alloc::{AllocError, Global};
 use std::fmt::Debug;
 

@@ -6,7 +6,7 @@ use Rattle.std.proofs.lemmas.List.{get_or-append_right, get_or-take, length-take
 use Rattle.std.proofs.lemmas.Slice.Eq.{text_from_reads}
 use Rattle.std.specs.Int.{bit_at}
 use Rattle.std.specs.Prelude.{IsErr, None, Ok, Err, Result, Some}
-use Rattle.net_base.specs.declared.error.Error.{Error}
+use Rattle.ip_wire.specs.declared.Error.{Error}
 use Rattle.ip_wire.specs.Block.{Block, IsIn}
 use Rattle.ip_wire.specs.IpCidr.{IsIn as IsInEither, block_address}
 use Rattle.ip_wire.specs.declared.IpCidr.{IpCidr}

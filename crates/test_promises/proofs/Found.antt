@@ -8,7 +8,7 @@ use Rattle.ip_wire.specs.FrameValue.{FindsCarried, FindsTransport, GivesCarried,
 use Rattle.ip_wire.specs.Types.{EthernetProtocol, IpRepr}
 use Rattle.ip_wire.specs.declared.frame.carried.Carried.{Carried}
 use Rattle.ip_wire.specs.declared.frame.transport.Transport.{Transport}
-use Rattle.net_base.specs.declared.ChecksumCapabilities.{ChecksumCapabilities}
+use Rattle.ip_wire.specs.declared.ChecksumCapabilities.{ChecksumCapabilities}
 
 -- what has no value is none
 empty : {A : Type 0} (o : Option A) → ((a : A) → ¬ (o ≡ Some a)) → is_some o ≡ false

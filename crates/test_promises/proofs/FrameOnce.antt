@@ -16,7 +16,7 @@ use Rattle.ip_wire.specs.declared.EthernetProtocol.TheVariants as ethertype
 use Rattle.ip_wire.specs.declared.Frame.{Frame}
 use Rattle.ip_wire.specs.declared.Transport.{Transport}
 use Rattle.ip_wire.specs.declared.Transport.TheVariants as transport
-use Rattle.net_base.specs.declared.ChecksumCapabilities.{ChecksumCapabilities}
+use Rattle.ip_wire.specs.declared.ChecksumCapabilities.{ChecksumCapabilities}
 
 -- ---- a frame that is emitted
 

@@ -4,7 +4,7 @@ use Rattle.std.specs.List.{AllByRecursion, flat_map}
 use Rattle.std.specs.Option.{option_map_or}
 use Rattle.std.specs.Prelude.{Err, IfOk, Ok, Result}
 use Rattle.std.proofs.lemmas.Bool.{cases_Bool}
-use Rattle.net_base.specs.declared.Error.{Error}
+use Rattle.ip_wire.specs.declared.Error.{Error}
 use Rattle.ip_wire.proofs.One.{one_answer}
 use Rattle.ip_wire.proofs.OptionLists.{one_list}
 use Rattle.ip_wire.proofs.Walks.{Marks, first_of-append, long, long_on, one_long_walk, stuck_walk}

@@ -2,7 +2,7 @@
 //! gone afterwards, and its buffer holds what was written.
 
 ghost use Rattle.std.specs.Prelude.{◌≡◌, ◌+◌, ◌≤◌, ◌++◌, [], drop, length};
-ghost use Rattle.net_base.specs.Checksum.{computes};
+ghost use Rattle.ip_wire.specs.Checksum.{computes};
 ghost use Rattle.ip_wire.specs.Arp as arp;
 ghost use Rattle.ip_wire.specs.Ethernet as ethernet;
 ghost use Rattle.ip_wire.specs.IpAddress.{version_of};
@@ -13,11 +13,11 @@ ghost use Rattle.ip_wire.specs.TcpRepr as tcp;
 ghost use Rattle.ip_wire.specs.Udp as udp;
 
 use ip_wire::{
-    ArpPacketMut, ArpRepr, ETHERNET_HEADER_LEN, EthernetFrameMut, EthernetRepr, IPV4_HEADER_LEN,
-    IPV6_HEADER_LEN, IpAddress, Ipv4PacketMut, Ipv4Repr, Ipv6FragmentHeaderMut, Ipv6FragmentRepr,
-    Ipv6PacketMut, Ipv6Repr, TcpPacketMut, TcpRepr, UDP_HEADER_LEN, UdpPacketMut, UdpRepr,
+    ArpPacketMut, ArpRepr, ChecksumCapabilities, ETHERNET_HEADER_LEN, EthernetFrameMut,
+    EthernetRepr, IPV4_HEADER_LEN, IPV6_HEADER_LEN, IpAddress, Ipv4PacketMut, Ipv4Repr,
+    Ipv6FragmentHeaderMut, Ipv6FragmentRepr, Ipv6PacketMut, Ipv6Repr, TcpPacketMut, TcpRepr,
+    UDP_HEADER_LEN, UdpPacketMut, UdpRepr,
 };
-use net_base::ChecksumCapabilities;
 
 /// Writes an Ethernet header.
 pub fn emit_ethernet(value: &EthernetRepr, buffer: &mut [u8])

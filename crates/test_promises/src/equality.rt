@@ -17,11 +17,10 @@ mod comparisons;
 
 use crate::emit::emit_only_tcp;
 use ip_wire::{
-    ArpPacket, Carried, EthernetFrame, Frame, IpAddress, IpPacket, Ipv4Packet, Ipv6FragmentHeader,
-    Ipv6Packet, TcpOption, TcpOptionSummary, TcpPacket, TcpRepr, Transport, UdpPacket, UdpRepr,
-    laws,
+    ArpPacket, Carried, ChecksumCapabilities, EthernetFrame, Frame, IpAddress, IpPacket,
+    Ipv4Packet, Ipv6FragmentHeader, Ipv6Packet, TcpOption, TcpOptionSummary, TcpPacket, TcpRepr,
+    Transport, UdpPacket, UdpRepr, laws,
 };
-use net_base::ChecksumCapabilities;
 
 /// `==` of two UDP headers returns `true` exactly if they are equal.
 pub fn equal_values_udp(a: UdpRepr, b: UdpRepr) -> bool

@@ -3,8 +3,7 @@
 ghost use Rattle.std.specs.Prelude.{◌≡◌, ◌≤◌, ◌++◌, drop, length, take};
 ghost use Rattle.ip_wire.specs.Frame.{meaning_of, rebuilt};
 
-use ip_wire::{Frame, laws};
-use net_base::ChecksumCapabilities;
+use ip_wire::{ChecksumCapabilities, Frame, laws};
 
 /// Writes the rebuilt frame to the front of `out`, and returns its length. It is no longer than the
 /// frame.

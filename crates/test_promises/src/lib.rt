@@ -1,5 +1,5 @@
 //! What the library promises across two or more calls, one function per sentence. Each is proved
-//! only from the public contracts and laws of `ip_wire` and `net_base`, so it also shows how a user
+//! only from the public contracts and laws of `ip_wire`, so it also shows how a user
 //! combines them.
 #![tactic(auto)]
 

@@ -1,14 +1,15 @@
 //! What was parsed is emitted in no more bytes.
 
 ghost use Rattle.std.specs.Prelude.{◌≡◌, ◌+◌, ◌≤◌, ◌++◌, IfOk, drop, length};
-ghost use Rattle.net_base.specs.Checksum.{computes, verifies};
+ghost use Rattle.ip_wire.specs.Checksum.{computes, verifies};
 ghost use Rattle.ip_wire.specs.IpAddress.{version_of};
 ghost use Rattle.ip_wire.specs.Tcp.{header_len};
 ghost use Rattle.ip_wire.specs.Udp as udp;
 
 use crate::emit::{emit_tcp, emit_udp};
-use ip_wire::{IpAddress, Result, TcpPacket, TcpRepr, UDP_HEADER_LEN, UdpPacket, UdpRepr};
-use net_base::ChecksumCapabilities;
+use ip_wire::{
+    ChecksumCapabilities, IpAddress, Result, TcpPacket, TcpRepr, UDP_HEADER_LEN, UdpPacket, UdpRepr,
+};
 
 /// A UDP packet that parses is written again with its payload, in no more bytes. Returns their
 /// number.

@@ -1,7 +1,7 @@
 //! A value that is emitted over any old bytes and parsed again is its normal form.
 
 ghost use Rattle.std.specs.Prelude.{◌≡◌, ◌≢◌, ◌+◌, ◌≤◌, ◌++◌, IsOkAnd, IsTrue, Ok, drop, length};
-ghost use Rattle.net_base.specs.Checksum.{computes, verifies};
+ghost use Rattle.ip_wire.specs.Checksum.{computes, verifies};
 ghost use Rattle.ip_wire.specs.Arp as arp;
 ghost use Rattle.ip_wire.specs.Ethernet as ethernet;
 ghost use Rattle.ip_wire.specs.Ip as ip;
@@ -16,12 +16,11 @@ use crate::emit::{
     emit_arp, emit_ethernet, emit_ipv4, emit_ipv6, emit_ipv6_fragment, emit_only_tcp, emit_udp,
 };
 use ip_wire::{
-    ArpPacket, ArpRepr, ETHERNET_HEADER_LEN, EthernetFrame, EthernetRepr, IPV4_HEADER_LEN,
-    IPV6_HEADER_LEN, IpAddress, IpPacket, IpRepr, Ipv4Packet, Ipv4Repr, Ipv6FragmentHeader,
-    Ipv6FragmentRepr, Ipv6Packet, Ipv6Repr, Result, TcpPacket, TcpRepr, UDP_HEADER_LEN, UdpPacket,
-    UdpRepr, laws,
+    ArpPacket, ArpRepr, ChecksumCapabilities, ETHERNET_HEADER_LEN, EthernetFrame, EthernetRepr,
+    IPV4_HEADER_LEN, IPV6_HEADER_LEN, IpAddress, IpPacket, IpRepr, Ipv4Packet, Ipv4Repr,
+    Ipv6FragmentHeader, Ipv6FragmentRepr, Ipv6Packet, Ipv6Repr, Result, TcpPacket, TcpRepr,
+    UDP_HEADER_LEN, UdpPacket, UdpRepr, laws,
 };
-use net_base::ChecksumCapabilities;
 
 /// A UDP packet parses as the same value and payload. The receiver verifies no checksum that the
 /// sender left out.

@@ -2,7 +2,7 @@
 //! make one frame, if each header names what follows it, and the frame parses as their normal forms.
 
 ghost use Rattle.std.specs.Prelude.{◌≡◌, ◌≢◌, ◌+◌, ◌≤◌, ◌++◌, [], IsTrue, length};
-ghost use Rattle.net_base.specs.Checksum.{computes, verifies};
+ghost use Rattle.ip_wire.specs.Checksum.{computes, verifies};
 ghost use Rattle.ip_wire.specs.Ethernet as ethernet;
 ghost use Rattle.ip_wire.specs.Frame.{datagram, packet, segment, type_of};
 ghost use Rattle.ip_wire.specs.FrameValue.{Gives};
@@ -17,11 +17,10 @@ ghost use Rattle.ip_wire.specs.Udp as udp;
 ghost use Rattle.ip_wire.specs.declared.IpVersion.TheVariants as version;
 
 use ip_wire::{
-    ETHERNET_HEADER_LEN, EthernetFrameMut, EthernetRepr, Frame, IPV4_HEADER_LEN, IPV6_HEADER_LEN,
-    IpAddress, IpRepr, Ipv4PacketMut, Ipv4Repr, Ipv6PacketMut, Ipv6Repr, Result, TcpPacketMut,
-    TcpRepr, UdpPacketMut, UdpRepr, laws,
+    ChecksumCapabilities, ETHERNET_HEADER_LEN, EthernetFrameMut, EthernetRepr, Frame,
+    IPV4_HEADER_LEN, IPV6_HEADER_LEN, IpAddress, IpRepr, Ipv4PacketMut, Ipv4Repr, Ipv6PacketMut,
+    Ipv6Repr, Result, TcpPacketMut, TcpRepr, UdpPacketMut, UdpRepr, laws,
 };
-use net_base::ChecksumCapabilities;
 
 // Writes an Ethernet header to a view of its length.
 fn fill_ethernet(value: &EthernetRepr, frame: &mut EthernetFrameMut<'_>)

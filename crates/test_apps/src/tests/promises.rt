@@ -1,11 +1,10 @@
 //! A call of each kind, but for texts: `tests/judge/worked_values.c` parses and prints them.
 
 use ip_wire::{
-    Carried, EthernetAddress, EthernetProtocol, EthernetRepr, Frame, IpAddress, Ipv4Address,
-    Ipv4Cidr, Ipv4Packet, Ipv6Address, SACK_BLOCKS, TcpControl, TcpOption, TcpOptionSummary,
-    TcpRepr, TcpSeqNumber, Transport, UdpRepr,
+    Carried, ChecksumCapabilities, EthernetAddress, EthernetProtocol, EthernetRepr, Frame,
+    IpAddress, Ipv4Address, Ipv4Cidr, Ipv4Packet, Ipv6Address, SACK_BLOCKS, TcpControl, TcpOption,
+    TcpOptionSummary, TcpRepr, TcpSeqNumber, Transport, UdpRepr,
 };
-use net_base::ChecksumCapabilities;
 use test_promises::calls::blocks::netmask_then_block;
 use test_promises::calls::hardware::eui_64_of_octets;
 use test_promises::calls::interfaces::solicited_node_of_octets;

@@ -6,10 +6,9 @@ use app_short::read_frame::udp_packet;
 use app_short::verify_checksum::{parse_udp_ports, verified_by_the_device};
 use app_short::write_frame::write_udp;
 use ip_wire::{
-    Frame, IpAddress, IpCidr, IpEndpoint, IpProtocol, IpRepr, Ipv4Address, Ipv4Cidr, Ipv4Repr,
-    Ipv6Address, Ipv6Cidr, Ipv6Repr, UdpRepr,
+    Checksum, ChecksumCapabilities, Frame, IpAddress, IpCidr, IpEndpoint, IpProtocol, IpRepr,
+    Ipv4Address, Ipv4Cidr, Ipv4Repr, Ipv6Address, Ipv6Cidr, Ipv6Repr, UdpRepr,
 };
-use net_base::{Checksum, ChecksumCapabilities};
 use test_support::bytes::{change, has_front};
 use test_support::captured::{ECHO_REQUEST, SYN};
 use test_support::udp_frames::{DST, FRAME, IPV6_FRAME, SRC};

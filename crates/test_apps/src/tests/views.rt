@@ -1,10 +1,10 @@
 //! Frames that are written through three views.
 
 use ip_wire::{
-    Carried, EthernetProtocol, EthernetRepr, Frame, IpProtocol, IpRepr, Ipv4Address, Ipv4Repr,
-    Ipv6Address, Ipv6Repr, SACK_BLOCKS, TcpControl, TcpRepr, TcpSeqNumber, Transport, UdpRepr,
+    Carried, ChecksumCapabilities, EthernetProtocol, EthernetRepr, Frame, IpProtocol, IpRepr,
+    Ipv4Address, Ipv4Repr, Ipv6Address, Ipv6Repr, SACK_BLOCKS, TcpControl, TcpRepr, TcpSeqNumber,
+    Transport, UdpRepr,
 };
-use net_base::ChecksumCapabilities;
 use test_promises::views::{emit_then_parse_tcp_frame, emit_then_parse_udp_frame};
 use test_support::udp_frames::{DST, FRAME, SRC};
 

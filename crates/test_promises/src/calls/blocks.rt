@@ -2,8 +2,7 @@
 
 ghost use Rattle.std.specs.Prelude.{◌≡◌, ◌≤◌, ◌↔◌, IfSome, IsErr, IsTrue, Ok, Some, replicate, true};
 
-use ip_wire::{IpCidr, Ipv4Address, Ipv4Cidr, Ipv6Address, Ipv6Cidr, laws};
-use net_base::Result;
+use ip_wire::{IpCidr, Ipv4Address, Ipv4Cidr, Ipv6Address, Ipv6Cidr, Result, laws};
 
 /// Two addresses are in one block exactly if they have the same masked address.
 pub fn block_by_mask(

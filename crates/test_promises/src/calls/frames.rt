@@ -3,9 +3,9 @@
 ghost use Rattle.std.specs.Prelude.{◌≡◌};
 
 use ip_wire::{
-    Carried, EthernetProtocol, IpRepr, TCP_MAX_HEADER_LEN, Transport, UDP_MAX_PAYLOAD_LEN,
+    Carried, ChecksumCapabilities, EthernetProtocol, IpRepr, TCP_MAX_HEADER_LEN, Transport,
+    UDP_MAX_PAYLOAD_LEN,
 };
-use net_base::ChecksumCapabilities;
 
 /// A lenient parse reads every header exactly if `parse` returns `Ok`.
 pub fn carried_by_parse(

@@ -2,8 +2,7 @@
 
 ghost use Rattle.std.specs.Prelude.{◌≡◌, IfSome, Ok, None};
 
-use ip_wire::{EthernetAddress, HardwareAddress, RawHardwareAddress};
-use net_base::Result;
+use ip_wire::{EthernetAddress, HardwareAddress, RawHardwareAddress, Result};
 
 /// The modified EUI-64 has ff and fe in its middle, and the U/L bit inverted (RFC 4291, appendix A).
 #[tactic(auto, using(crate::proofs::Octets::xor_local, crate::proofs::Octets::middle_of_six))]

@@ -8,10 +8,9 @@ ghost use Rattle.ip_wire.specs.Tcp.{header_len, options_of, packet_bytes};
 ghost use Rattle.ip_wire.specs.TcpItems.{first_blocks};
 
 use ip_wire::{
-    IpAddress, Result, SACK_BLOCKS, TcpControl, TcpOptionSummary, TcpPacket, TcpRepr,
-    TcpTimestampGenerator, TcpTimestampRepr, laws,
+    ChecksumCapabilities, IpAddress, Result, SACK_BLOCKS, TcpControl, TcpOptionSummary, TcpPacket,
+    TcpRepr, TcpTimestampGenerator, TcpTimestampRepr, laws,
 };
-use net_base::ChecksumCapabilities;
 
 /// PSH is dropped, and the other flags stay.
 pub fn quash_psh_by_flag(control: TcpControl) -> (TcpControl, TcpControl)

@@ -6,9 +6,9 @@ ghost use Rattle.ip_wire.specs.Tcp as tcp;
 ghost use Rattle.ip_wire.specs.Udp as udp;
 
 use ip_wire::{
-    IpAddress, IpProtocol, TcpPacket, UDP_HEADER_LEN, UdpPacket, UdpPacketMut, UdpRepr, checksum,
+    ChecksumCapabilities, IpAddress, IpProtocol, TcpPacket, UDP_HEADER_LEN, UdpPacket,
+    UdpPacketMut, UdpRepr, checksum,
 };
-use net_base::ChecksumCapabilities;
 
 /// `emit_header` writes the header that `emit` writes if it computes no checksum.
 pub fn header_of_emit_udp(

@@ -1,7 +1,7 @@
 use Rattle.std.proofs.Common.{◌≡◌, Some, drop, false, rules, subst, sym, true}
 use Rattle.ip_wire.specs.Ethernet as ethernet
 use Rattle.ip_wire.specs.Ip.{packet_bytes, version_of}
-use Rattle.net_base.specs.Checksum.{verifies}
+use Rattle.ip_wire.specs.Checksum.{verifies}
 use Rattle.app_host.proofs.IcmpErrors.{no_header, no_link, told, untold}
 use Rattle.app_host.specs.IcmpError.{IsBetweenHosts, IsError, IsToldOf, header_from, quoted}
 use Rattle.app_host.specs.Message.{Gives}

@@ -2,7 +2,7 @@ use Rattle.std.proofs.Common.{◌≡◌, drop, false, rules, subst, sym, true}
 use Rattle.app_router.proofs.Problems.{no_packet, no_problem, tells}
 use Rattle.app_router.specs.IcmpProblem.{message_of}
 use Rattle.ip_wire.specs.Ip.{Reads, packet_bytes}
-use Rattle.net_base.specs.Checksum.{verifies}
+use Rattle.ip_wire.specs.Checksum.{verifies}
 use Rattle.app_router.proofs.problem.error.Goals as goal
 
 pub returns-in-Err : goal.returns-in-Err

@@ -2,7 +2,7 @@ use Rattle.std.proofs.Common.{◌≡◌, rules}
 use Rattle.app_short.proofs.Rejected.{rejected}
 use Rattle.ip_wire.specs.Udp.{packet_bytes}
 use Rattle.ip_wire.specs.declared.IpAddress.TheVariants.{Ipv4}
-use Rattle.net_base.specs.Checksum.{verifies}
+use Rattle.ip_wire.specs.Checksum.{verifies}
 use Rattle.app_short.proofs.verify_checksum.parse_udp_ports.Goals as goal
 
 pub returns-clause-reads : goal.returns-clause-reads

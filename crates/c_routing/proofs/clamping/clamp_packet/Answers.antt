@@ -6,7 +6,7 @@ use Rattle.app_edit.specs.Layout.{layout_of, with_payload}
 use Rattle.app_edit.specs.declared.layout.Layout.{Layout}
 use Rattle.ip_wire.specs.Frame.{packet_payload}
 use Rattle.ip_wire.specs.Ip.{version_of}
-use Rattle.net_base.specs.declared.Checksum.TheVariants as checksum
+use Rattle.ip_wire.specs.declared.Checksum.TheVariants as checksum
 use Rattle.c_routing.proofs.clamping.clamp_packet.Goals as goal
 
 laid : (c : goal.After-slice_known-2-1) → c.of-layout.result ≡ layout_of (version_of c.args.header.now) c.args.packet.now

@@ -3,7 +3,7 @@ use Rattle.ip_wire.proofs.TcpLayer.{rebuilt-tcp, rebuilt-tcp-copied}
 use Rattle.ip_wire.proofs.UdpLayer.{AreWords}
 use Rattle.ip_wire.specs.Tcp.{header_len, payload_of}
 use Rattle.ip_wire.specs.TcpRepr.{Reads, header_of, tcp_of}
-use Rattle.net_base.specs.Checksum.{computes, verifies}
+use Rattle.ip_wire.specs.Checksum.{computes, verifies}
 use Rattle.c_structs.proofs.TcpResummed.{fills-None, fills-Some, header-room}
 use Rattle.c_structs.proofs.rebuild.rebuild_any_tcp.Goals as goal
 

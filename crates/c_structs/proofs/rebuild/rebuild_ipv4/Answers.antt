@@ -8,7 +8,7 @@ use Rattle.ip_wire.specs.Ipv4.{HasLengths, Reads, header_len, ipv4_of, is_fragme
 use Rattle.ip_wire.specs.Protocol.{protocol_of}
 use Rattle.ip_wire.specs.Types.{Ipv4, Ipv4Repr}
 use Rattle.ip_wire.specs.declared.IpProtocol.TheVariants.{Unknown}
-use Rattle.net_base.specs.Checksum.{computes, verifies}
+use Rattle.ip_wire.specs.Checksum.{computes, verifies}
 use Rattle.wire_field.proofs.Spelled.{AreBytes}
 use Rattle.c_structs.proofs.Filled.{filled-after}
 use Rattle.c_structs.proofs.Numbered.{bytes_of-number, fits-number}

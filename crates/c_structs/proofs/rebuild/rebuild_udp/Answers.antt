@@ -2,7 +2,7 @@ use Rattle.std.proofs.Common.{◌≡◌, ◌≢◌, ◌∙◌, ◌+◌, Some, No
 use Rattle.ip_wire.proofs.UdpLayer.{AreWords, rebuilt-udp, rebuilt-udp-copied}
 use Rattle.ip_wire.specs.Field.{field}
 use Rattle.ip_wire.specs.Udp.{bytes_of, packet_len, payload_of, udp_of}
-use Rattle.net_base.specs.Checksum.{computes, verifies}
+use Rattle.ip_wire.specs.Checksum.{computes, verifies}
 use Rattle.wire_field.proofs.Spelled.{AreBytes}
 use Rattle.wire_field.specs.Filled as filled
 use Rattle.c_structs.proofs.Framed.{length-udp}

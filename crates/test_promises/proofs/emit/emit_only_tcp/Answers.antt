@@ -1,7 +1,7 @@
 use Rattle.std.proofs.Common.{◌≡◌, ◌+◌, ◌++◌, ◌∙◌, [], ap, append-nil, arith, drop, length}
 use Rattle.std.proofs.lemmas.List.{drop_all}
 use Rattle.ip_wire.specs.TcpRepr.{bytes_of, header_len_of, header_of}
-use Rattle.net_base.specs.Checksum.{computes}
+use Rattle.ip_wire.specs.Checksum.{computes}
 use Rattle.test_promises.proofs.emit.emit_only_tcp.Goals as goal
 
 pub returns : goal.returns

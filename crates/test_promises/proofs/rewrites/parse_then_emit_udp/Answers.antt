@@ -1,6 +1,6 @@
 use Rattle.std.proofs.Common.{ℕ, ◌≡◌, ◌+◌, ◌++◌, ◌∙◌, Bor, List, ap, ap₂, drop, length, subst, sym}
 use Rattle.ip_wire.specs.Udp.{Reads, bytes_of, packet_bytes, payload_of}
-use Rattle.net_base.specs.Checksum.{computes, verifies}
+use Rattle.ip_wire.specs.Checksum.{computes, verifies}
 use Rattle.test_promises.proofs.rewrites.parse_then_emit_udp.Goals as goal
 
 pub returns-clause-written : goal.returns-clause-written

@@ -1,6 +1,6 @@
 use Rattle.std.proofs.Common.{ℕ, ◌≡◌, ◌-◌, ◌++◌, ◌∙◌, Bor, List, ap, drop, length, subst, sym, take}
 use Rattle.ip_wire.specs.Ipv4.{Reads, bytes_of, normal}
-use Rattle.net_base.specs.Checksum.{computes, verifies}
+use Rattle.ip_wire.specs.Checksum.{computes, verifies}
 use Rattle.test_promises.proofs.Parsed.{all_after}
 use Rattle.test_promises.proofs.values.emit_then_parse_ipv4.Goals as goal
 

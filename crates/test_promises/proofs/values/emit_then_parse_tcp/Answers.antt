@@ -1,6 +1,6 @@
 use Rattle.std.proofs.Common.{ℕ, ◌≡◌, ◌∙◌, [], Bor, List, ap, subst, sym}
 use Rattle.ip_wire.specs.TcpRepr.{Reads, TcpHeader, bytes_of, header_of, normal}
-use Rattle.net_base.specs.Checksum.{computes, verifies}
+use Rattle.ip_wire.specs.Checksum.{computes, verifies}
 use Rattle.test_promises.proofs.Parsed.{parsed}
 use Rattle.test_promises.proofs.values.emit_then_parse_tcp.Goals as goal
 

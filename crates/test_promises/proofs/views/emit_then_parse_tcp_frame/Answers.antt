@@ -3,7 +3,7 @@ use Rattle.ip_wire.specs.Ethernet as ethernet
 use Rattle.ip_wire.specs.Frame.{ReadsFrame, packet, segment}
 use Rattle.ip_wire.specs.Ip as ip
 use Rattle.ip_wire.specs.TcpRepr as tcp
-use Rattle.net_base.specs.Checksum.{computes}
+use Rattle.ip_wire.specs.Checksum.{computes}
 use Rattle.test_promises.proofs.views.emit_then_parse_tcp_frame.Goals as goal
 
 pub returns : goal.returns

@@ -3,7 +3,7 @@ use Rattle.ip_wire.specs.Ethernet as ethernet
 use Rattle.ip_wire.specs.Frame.{ReadsFrame, datagram, packet}
 use Rattle.ip_wire.specs.Ip as ip
 use Rattle.ip_wire.specs.Udp as udp
-use Rattle.net_base.specs.Checksum.{computes}
+use Rattle.ip_wire.specs.Checksum.{computes}
 use Rattle.test_promises.proofs.views.emit_then_parse_udp_frame.Goals as goal
 
 pub returns : goal.returns

@@ -2,7 +2,7 @@ use Rattle.std.proofs.Common.{◌≡◌, ◌+◌, ◌++◌, ◌∙◌, [], ap, a
 use Rattle.std.proofs.lemmas.List.{drop_all}
 use Rattle.ip_wire.specs.Tcp.{Becomes, packet_bytes_mut}
 use Rattle.ip_wire.specs.TcpRepr.{bytes_of, header_len_of, header_of}
-use Rattle.net_base.specs.Checksum.{computes}
+use Rattle.ip_wire.specs.Checksum.{computes}
 use Rattle.test_promises.proofs.views.fill_tcp.Goals as goal
 
 pub returns : goal.returns

@@ -1,4 +1,4 @@
-use Rattle.net_base.specs.Checksum.{verifies}
+use Rattle.ip_wire.specs.Checksum.{verifies}
 use Rattle.ip_wire.specs.Tcp.{packet_bytes}
 use Rattle.test_promises.proofs.Options.{parsed_options}
 use Rattle.test_promises.proofs.calls.tcp.options_of_parse.Goals as goal
