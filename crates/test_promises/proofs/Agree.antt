@@ -1,21 +1,15 @@
 -- Two tests of the same fact.
 use Rattle.std.proofs.Common.{◌≡◌, ◌≢◌, ◌↔◌, ℕ, zero, suc, Bool, true, false, IsTrue, List, refl, sym, subst, ap, nat_eq, arith, ◌%◌, ◌/◌}
 use Rattle.std.proofs.lemmas.Bool.{false≢true}
+use Rattle.std.proofs.lemmas.Bool.Decides.{same_from_decides}
 use Rattle.std.specs.Int.Bits.{bit_and}
 use Rattle.std.proofs.lemmas.Nat.Bits.{and_pow}
 use Rattle.std.specs.Prelude.{None, Option, Some}
 use Rattle.ip_wire.specs.Block.{Block, IsIn}
 
--- two tests of one fact have one result
-pub same_test : {P : Type 0} (a b : Bool) → (IsTrue a ↔ P) → (IsTrue b ↔ P) → a ≡ b
-same_test true true is_a is_b = refl
-same_test true false is_a is_b = absurd (false≢true (is_b.1 (is_a.0 refl)))
-same_test false true is_a is_b = absurd (false≢true (is_a.1 (is_b.0 refl)))
-same_test false false is_a is_b = refl
-
 -- two tests of one block have one result
 pub same_block : (x y : Block) (address : List ℕ) (a b : Bool) → y ≡ x → (IsTrue a ↔ IsIn x address) → (IsTrue b ↔ IsIn y address) → a ≡ b
-same_block x y address a b e is_a is_b = same_test a b is_a (subst (λ z. IsTrue b ↔ IsIn z address) e is_b)
+same_block x y address a b e is_a is_b = same_from_decides a b is_a (subst (λ z. IsTrue b ↔ IsIn z address) e is_b)
 
 -- a test whether a number is not 0, and whether it makes 1
 bit_test : (m x : ℕ) (r : Bool) → (IsTrue r ↔ m ≢ 0) → (m ≡ 0 → x ≡ 0) → (m ≢ 0 → x ≡ 1) → r ≡ nat_eq x 1

@@ -1,6 +1,6 @@
 -- Bytes, the groups that they make up, and their bits.
 use Rattle.std.proofs.Common.{◌≡◌, ◌+◌, ◌-◌, ◌*◌, ◌/◌, ◌%◌, ◌<◌, ◌^◌, ◌∙◌, ℕ, suc, List, [], ◌∷◌, length, get_or, refl, sym, ap, arith}
-use Rattle.std.proofs.lemmas.Slice.Eq.{text_from_reads}
+use Rattle.std.proofs.NetLemmas.Arrays.{eight_items, sixteen_items}
 use Rattle.std.specs.Int.{from_be_bytes, w128}
 use Rattle.std.specs.Prelude.{slice_index}
 pub use Rattle.ip_wire.proofs.Eui64.{xor_local, middle_of_six}
@@ -15,19 +15,10 @@ groups_back (g ∷ groups) =
     let rest = groups_back groups in
     λ i. one i ∷ rest i
 
-eight_items : (g : List ℕ) → length g ≡ 8
-    → g ≡ get_or g 0 0 ∷ get_or g 1 0 ∷ get_or g 2 0 ∷ get_or g 3 0 ∷ get_or g 4 0 ∷ get_or g 5 0 ∷ get_or g 6 0 ∷ get_or g 7 0 ∷ []
-eight_items g eight = text_from_reads g _ eight (refl, (refl, (refl, (refl, (refl, (refl, (refl, (refl, tt))))))))
-
 -- the bytes of eight groups, taken one by one
 pub eight_groups : (g : List ℕ) → length g ≡ 8
     → address_bytes (get_or g 0 0 ∷ get_or g 1 0 ∷ get_or g 2 0 ∷ get_or g 3 0 ∷ get_or g 4 0 ∷ get_or g 5 0 ∷ get_or g 6 0 ∷ get_or g 7 0 ∷ []) ≡ address_bytes g
 eight_groups g eight = sym (ap address_bytes (eight_items g eight))
-
-sixteen_items : (o : List ℕ) → length o ≡ 16
-    → o ≡ get_or o 0 0 ∷ get_or o 1 0 ∷ get_or o 2 0 ∷ get_or o 3 0 ∷ get_or o 4 0 ∷ get_or o 5 0 ∷ get_or o 6 0 ∷ get_or o 7 0
-    ∷ get_or o 8 0 ∷ get_or o 9 0 ∷ get_or o 10 0 ∷ get_or o 11 0 ∷ get_or o 12 0 ∷ get_or o 13 0 ∷ get_or o 14 0 ∷ get_or o 15 0 ∷ []
-sixteen_items o sixteen = text_from_reads o _ sixteen (refl, (refl, (refl, (refl, (refl, (refl, (refl, (refl, (refl, (refl, (refl, (refl, (refl, (refl, (refl, (refl, tt))))))))))))))))
 
 -- sixteen bytes as a big-endian number
 pub sixteen_bytes : (octets : List ℕ) → length octets ≡ 16 → number_of octets ≡ from_be_bytes w128 octets

@@ -1,6 +1,5 @@
--- What a parser returns if the bytes have one reading, and the bytes after a header.
-use Rattle.std.proofs.Common.{ℕ, ◌≡◌, ◌-◌, List, arith, drop, length, length-drop, take}
-use Rattle.std.proofs.lemmas.List.{take_all}
+-- What a parser returns if the bytes have one reading.
+use Rattle.std.proofs.Common.{ℕ, ◌≡◌, List}
 use Rattle.std.specs.Prelude.{IfOk, IsOkAnd, OnErr, Result, Ok, Err}
 use Rattle.ip_wire.specs.TcpRepr.{TcpHeader, header_of}
 use Rattle.ip_wire.specs.declared.TcpRepr.{TcpRepr}
@@ -12,7 +11,3 @@ pub parsed : {E : Type 0} (R : TcpHeader → List ℕ → Type 0) (h : TcpHeader
     → IsOkAnd r (λ v. header_of v ≡ h) × IsOkAnd r (λ v. v.payload.now ≡ p)
 parsed R h p (Ok v) read once ok err = once (header_of v) h v.payload.now p ok read
 parsed R h p (Err e) read once ok err = absurd (err h p read)
-
--- the slice from a place on has all bytes after it
-pub all_after : (n : ℕ) (bytes : List ℕ) → take (length bytes - n) (drop n bytes) ≡ drop n bytes
-all_after n bytes = take_all (length bytes - n) (drop n bytes) (omega (arith, length-drop n bytes))

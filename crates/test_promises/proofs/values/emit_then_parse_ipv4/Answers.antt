@@ -1,7 +1,7 @@
 use Rattle.std.proofs.Common.{ℕ, ◌≡◌, ◌-◌, ◌++◌, ◌∙◌, Bor, List, ap, drop, length, subst, sym, take}
 use Rattle.ip_wire.specs.Ipv4.{Reads, bytes_of, normal}
 use Rattle.ip_wire.specs.Checksum.{computes, verifies}
-use Rattle.test_promises.proofs.Parsed.{all_after}
+use Rattle.std.proofs.lemmas.List.{take_rest}
 use Rattle.test_promises.proofs.values.emit_then_parse_ipv4.Goals as goal
 
 pub returns-clause-value : goal.returns-clause-value
@@ -12,5 +12,5 @@ returns-clause-value c =
     let written : c.new_unchecked.result.buffer.now ≡ bytes_of value computed ++ drop 20 c.args.buffer.now = ap (λ (b : Bor (List ℕ)). b.now) c.new_unchecked.ensures ∙ c.emit_ipv4.ensures in
     let rest = take (length c.args.buffer.now - 20) (drop 20 c.args.buffer.now) in
     let back : Reads (bytes_of value computed ++ rest) verified (normal value) = rw (← c.tx.ensures, ← c.rx.ensures) c.emit_reads_back_ipv4.ensures in
-    let law = subst (λ rest. Reads (bytes_of value computed ++ rest) verified (normal value)) (all_after 20 c.args.buffer.now) back in
+    let law = subst (λ rest. Reads (bytes_of value computed ++ rest) verified (normal value)) (take_rest c.args.buffer.now 20) back in
     (c.parse.ensures.reads (normal value)).1 (subst (λ bytes. Reads bytes verified (normal value)) (sym written) law)
