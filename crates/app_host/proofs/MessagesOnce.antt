@@ -7,6 +7,7 @@ use Rattle.app_host.specs.IcmpError.{IsError, quoted}
 use Rattle.app_host.specs.Interface.{header_back}
 use Rattle.app_host.specs.Neighbour.{IsAnsweredTo, IsNeighbourReply, advert_header, advert_of}
 use Rattle.app_host.specs.declared.interface.Interface.{Interface}
+use Rattle.ip_wire.proofs.EthernetComputed.{Reads-is}
 use Rattle.ip_wire.proofs.Ipv4Computed as ipv4
 use Rattle.ip_wire.proofs.Ipv6Computed as ipv6
 use Rattle.ip_wire.proofs.ReadsOnce.{computed-one}
@@ -25,12 +26,8 @@ use Rattle.wire_icmp.specs.declared.NdiscRepr.TheVariants.{NeighborSolicit}
 
 -- ---- errors
 
-link-once : (frame : List ℕ) (a b : EthernetRepr) → ethernet.Reads frame a → ethernet.Reads frame b → a ≡ b
-link-once frame a b r s =
-    let src : a.src_addr.0 ≡ b.src_addr.0 = r.src_addr ∙ sym s.src_addr in
-    let dst : a.dst_addr.0 ≡ b.dst_addr.0 = r.dst_addr ∙ sym s.dst_addr in
-    let type : a.ethertype ≡ b.ethertype = r.ethertype ∙ sym s.ethertype in
-    λ i. record { src_addr = record { 0 = src i }; dst_addr = record { 0 = dst i }; ethertype = type i }
+pub link-once : (frame : List ℕ) (a b : EthernetRepr) → ethernet.Reads frame a → ethernet.Reads frame b → a ≡ b
+link-once frame a b r s = Reads-is frame a r ∙ sym (Reads-is frame b s)
 
 header-once : (bytes : List ℕ) (v w : IpRepr) → Reads bytes true v → Reads bytes true w → v ≡ w
 header-once bytes (Ipv4 v) (Ipv4 w) r s = ap Ipv4 (ipv4.Reads-is true bytes v r.header ∙ sym (ipv4.Reads-is true bytes w s.header))

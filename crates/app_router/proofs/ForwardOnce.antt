@@ -1,5 +1,6 @@
 -- A frame has one result of a hop, or a fault.
 use Rattle.std.proofs.Common.{◌≡◌, ◌∙◌, ◌++◌, Bool, true, List, ℕ, None, drop, slice_range, sym, ap, subst}
+use Rattle.app_host.proofs.MessagesOnce.{link-once}
 use Rattle.app_router.proofs.Forwards.{no-fault}
 use Rattle.app_router.specs.Forward.{CarriesAs, IsForwarded, fault_of, one_hop_less, with_hop_limit}
 use Rattle.ip_wire.proofs.EthernetComputed.{ethernet_of-Reads}
@@ -12,9 +13,6 @@ use Rattle.ip_wire.specs.Types.{EthernetAddress, EthernetProtocol, EthernetRepr,
 use Rattle.ip_wire.specs.declared.EthernetProtocol.TheVariants as ethertype
 
 -- ---- the headers of a frame
-
-link-once : (frame : List ℕ) (v w : EthernetRepr) → ethernet.Reads frame v → ethernet.Reads frame w → v ≡ w
-link-once frame v w a b = computed-one _ v w ((ethernet_of-Reads frame v).1 a) ((ethernet_of-Reads frame w).1 b)
 
 header-once : (type : EthernetProtocol) (bytes : List ℕ) (verified : Bool) (v w : IpRepr) → CarriesAs type bytes verified v → CarriesAs type bytes verified w → v ≡ w
 header-once type bytes verified (Ipv4 v) (Ipv4 w) a b =

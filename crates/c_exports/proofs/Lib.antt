@@ -1,1 +1,3 @@
 mod FrameOptions
+mod Rebuilt
+mod Written

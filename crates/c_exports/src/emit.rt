@@ -1,4 +1,5 @@
 //! The layers of a frame, one by one.
+#![tactic(auto, using(crate::proofs::Written::all, crate::proofs::Written::none, crate::proofs::Written::too_long))]
 
 ghost use Rattle.std.specs.Prelude.{◌≡◌, None, Some, length, pos};
 ghost use Rattle.std.specs.Option.{option_map_or};
@@ -16,14 +17,12 @@ use c_structs::{
 pub extern "C" fn lk_emit_ethernet(header: &Ethernet, out: &mut [u8]) -> isize
     ensures { Writes (Some (link_bytes header.now header.now.ethertype)) None out.old out.new result }
 {
-    let len = if out.len() <= MAX_LEN {
-        header.try_emit(out)
+    if out.len() <= MAX_LEN
+        && let Some(len) = header.try_emit(out)
+    {
+        len as isize
     } else {
-        None
-    };
-    match len {
-        Some(len) => len as isize,
-        None => failed(None),
+        failed(None)
     }
 }
 
@@ -32,14 +31,12 @@ pub extern "C" fn lk_emit_ethernet(header: &Ethernet, out: &mut [u8]) -> isize
 pub extern "C" fn lk_emit_arp(header: &Arp, src: &Addr, dst: &Addr, out: &mut [u8]) -> isize
     ensures { Writes (arp_bytes header.now src.now dst.now) (arp_failure src.now dst.now) out.old out.new result }
 {
-    let len = if out.len() <= MAX_LEN {
-        header.emit_between(src, dst, out)
+    if out.len() <= MAX_LEN
+        && let Some(len) = header.emit_between(src, dst, out)
+    {
+        len as isize
     } else {
-        None
-    };
-    match len {
-        Some(len) => len as isize,
-        None => failed(arp_failure(src, dst)),
+        failed(arp_failure(src, dst))
     }
 }
 
@@ -55,14 +52,12 @@ pub extern "C" fn lk_emit_ip(
 ) -> isize
     ensures { Writes (ip_bytes header.now src.now dst.now payload_len (is_set computed)) (ip_failure header.now src.now dst.now payload_len) out.old out.new result }
 {
-    let len = if out.len() <= MAX_LEN {
-        header.emit_between(src, dst, payload_len, is_set(computed), out)
+    if out.len() <= MAX_LEN
+        && let Some(len) = header.emit_between(src, dst, payload_len, is_set(computed), out)
+    {
+        len as isize
     } else {
-        None
-    };
-    match len {
-        Some(len) => len as isize,
-        None => failed(header.failure(src, dst, payload_len)),
+        failed(header.failure(src, dst, payload_len))
     }
 }
 
@@ -77,14 +72,12 @@ pub extern "C" fn lk_emit_udp(
 ) -> isize
     ensures { Writes (udp_bytes src.now dst.now payload.now (is_set computed)) (udp_failure src.now dst.now (length payload.now)) out.old out.new result }
 {
-    let len = if out.len() <= MAX_LEN {
-        emit_udp(src, dst, payload, is_set(computed), out)
+    if out.len() <= MAX_LEN
+        && let Some(len) = emit_udp(src, dst, payload, is_set(computed), out)
+    {
+        len as isize
     } else {
-        None
-    };
-    match len {
-        Some(len) => len as isize,
-        None => failed(udp_failure(src, dst, payload.len())),
+        failed(udp_failure(src, dst, payload.len()))
     }
 }
 
@@ -102,14 +95,12 @@ pub extern "C" fn lk_emit_tcp(
     ensures { Writes (tcp_bytes header.now options.now src.now dst.now payload.now (is_set computed))
         (tcp_failure header.now options.now src.now dst.now (length payload.now)) out.old out.new result }
 {
-    let len = if out.len() <= MAX_LEN {
-        emit_tcp(header, options, src, dst, payload, is_set(computed), out)
+    if out.len() <= MAX_LEN
+        && let Some(len) = emit_tcp(header, options, src, dst, payload, is_set(computed), out)
+    {
+        len as isize
     } else {
-        None
-    };
-    match len {
-        Some(len) => len as isize,
-        None => failed(header.failure(options, src, dst, payload.len())),
+        failed(header.failure(options, src, dst, payload.len()))
     }
 }
 

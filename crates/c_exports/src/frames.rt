@@ -1,4 +1,5 @@
 //! Whole frames.
+#![tactic(auto, using(crate::proofs::Written::all, crate::proofs::Written::none, crate::proofs::Written::too_long))]
 
 ghost use Rattle.std.specs.Prelude.{◌≡◌, length};
 ghost use Rattle.c_structs.specs.Failures.{arp_failure, tcp_frame_failure, udp_frame_failure};
@@ -20,14 +21,12 @@ pub extern "C" fn lk_reply(frame: &mut FrameFields)
 pub extern "C" fn lk_emit_udp_frame(headers: &FrameFields, payload: &[u8], out: &mut [u8]) -> isize
     ensures { Writes (udp_frame headers.now payload.now) (udp_frame_failure headers.now (length payload.now)) out.old out.new result }
 {
-    let len = if out.len() <= MAX_LEN {
-        headers.emit_udp(payload, out)
+    if out.len() <= MAX_LEN
+        && let Some(len) = headers.emit_udp(payload, out)
+    {
+        len as isize
     } else {
-        None
-    };
-    match len {
-        Some(len) => len as isize,
-        None => failed(headers.udp_failure(payload.len())),
+        failed(headers.udp_failure(payload.len()))
     }
 }
 
@@ -41,14 +40,12 @@ pub extern "C" fn lk_emit_tcp_frame(
 ) -> isize
     ensures { Writes (tcp_frame headers.now options.now payload.now) (tcp_frame_failure headers.now options.now (length payload.now)) out.old out.new result }
 {
-    let len = if out.len() <= MAX_LEN {
-        headers.emit_tcp(options, payload, out)
+    if out.len() <= MAX_LEN
+        && let Some(len) = headers.emit_tcp(options, payload, out)
+    {
+        len as isize
     } else {
-        None
-    };
-    match len {
-        Some(len) => len as isize,
-        None => failed(headers.tcp_failure(options, payload.len())),
+        failed(headers.tcp_failure(options, payload.len()))
     }
 }
 
@@ -61,14 +58,12 @@ pub extern "C" fn lk_wrap_udp_frame(
 ) -> isize
     ensures { Writes (udp_frame_around headers.now payload_len out.old) (udp_frame_failure headers.now payload_len) out.old out.new result }
 {
-    let len = if out.len() <= MAX_LEN {
-        headers.emit_udp_around(payload_len, out)
+    if out.len() <= MAX_LEN
+        && let Some(len) = headers.emit_udp_around(payload_len, out)
+    {
+        len as isize
     } else {
-        None
-    };
-    match len {
-        Some(len) => len as isize,
-        None => failed(headers.udp_failure(payload_len)),
+        failed(headers.udp_failure(payload_len))
     }
 }
 
@@ -82,14 +77,12 @@ pub extern "C" fn lk_wrap_tcp_frame(
 ) -> isize
     ensures { Writes (tcp_frame_around headers.now options.now payload_len out.old) (tcp_frame_failure headers.now options.now payload_len) out.old out.new result }
 {
-    let len = if out.len() <= MAX_LEN {
-        headers.emit_tcp_around(options, payload_len, out)
+    if out.len() <= MAX_LEN
+        && let Some(len) = headers.emit_tcp_around(options, payload_len, out)
+    {
+        len as isize
     } else {
-        None
-    };
-    match len {
-        Some(len) => len as isize,
-        None => failed(headers.tcp_failure(options, payload_len)),
+        failed(headers.tcp_failure(options, payload_len))
     }
 }
 
@@ -98,13 +91,11 @@ pub extern "C" fn lk_wrap_tcp_frame(
 pub extern "C" fn lk_emit_arp_frame(headers: &FrameFields, out: &mut [u8]) -> isize
     ensures { Writes (arp_frame headers.now) (arp_failure headers.now.src.addr headers.now.dst.addr) out.old out.new result }
 {
-    let len = if out.len() <= MAX_LEN {
-        headers.emit_arp(out)
+    if out.len() <= MAX_LEN
+        && let Some(len) = headers.emit_arp(out)
+    {
+        len as isize
     } else {
-        None
-    };
-    match len {
-        Some(len) => len as isize,
-        None => failed(arp_failure(&headers.src.addr, &headers.dst.addr)),
+        failed(arp_failure(&headers.src.addr, &headers.dst.addr))
     }
 }

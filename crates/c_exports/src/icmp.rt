@@ -1,4 +1,5 @@
 //! ICMP messages, neighbour discovery and ICMP errors.
+#![tactic(auto, using(crate::proofs::Written::all, crate::proofs::Written::none, crate::proofs::Written::too_long))]
 
 ghost use Rattle.std.specs.Prelude.{◌≡◌, length};
 ghost use Rattle.c_icmp.specs.Errors.{WritesError, own_interface, problem_by};
@@ -25,14 +26,12 @@ pub extern "C" fn lk_emit_icmp(
 ) -> isize
     ensures { Writes (icmp_bytes header.now src.now dst.now payload.now (is_set computed)) (icmp_failure src.now dst.now (length payload.now)) out.old out.new result }
 {
-    let len = if out.len() <= MAX_LEN {
-        emit_icmp(header, src, dst, payload, is_set(computed), out)
+    if out.len() <= MAX_LEN
+        && let Some(len) = emit_icmp(header, src, dst, payload, is_set(computed), out)
+    {
+        len as isize
     } else {
-        None
-    };
-    match len {
-        Some(len) => len as isize,
-        None => failed(icmp_failure(src, dst, payload.len())),
+        failed(icmp_failure(src, dst, payload.len()))
     }
 }
 
@@ -41,14 +40,12 @@ pub extern "C" fn lk_emit_icmp(
 pub extern "C" fn lk_emit_icmp_frame(headers: &FrameFields, payload: &[u8], out: &mut [u8]) -> isize
     ensures { Writes (icmp_frame headers.now payload.now) (icmp_frame_failure headers.now (length payload.now)) out.old out.new result }
 {
-    let len = if out.len() <= MAX_LEN {
-        emit_icmp_frame(headers, payload, out)
+    if out.len() <= MAX_LEN
+        && let Some(len) = emit_icmp_frame(headers, payload, out)
+    {
+        len as isize
     } else {
-        None
-    };
-    match len {
-        Some(len) => len as isize,
-        None => failed(icmp_frame_failure(headers, payload.len())),
+        failed(icmp_frame_failure(headers, payload.len()))
     }
 }
 
@@ -66,14 +63,12 @@ pub extern "C" fn lk_read_ndisc(frame: &[u8], ndisc: &mut Ndisc) -> i32
 pub extern "C" fn lk_emit_ndisc_frame(headers: &FrameFields, ndisc: &Ndisc, out: &mut [u8]) -> isize
     ensures { Writes (ndisc_frame headers.now ndisc.now) (ndisc_failure headers.now ndisc.now) out.old out.new result }
 {
-    let len = if out.len() <= MAX_LEN {
-        emit_ndisc_frame(headers, ndisc, out)
+    if out.len() <= MAX_LEN
+        && let Some(len) = emit_ndisc_frame(headers, ndisc, out)
+    {
+        len as isize
     } else {
-        None
-    };
-    match len {
-        Some(len) => len as isize,
-        None => failed(ndisc_failure(headers, ndisc)),
+        failed(ndisc_failure(headers, ndisc))
     }
 }
 

@@ -5,6 +5,6 @@ mod NatCalls
 mod RouteChoice
 mod RouteLists
 mod RouteTables
-mod Tables
+pub mod Tables
 mod Translations
 mod Within

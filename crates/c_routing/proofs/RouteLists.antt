@@ -1,5 +1,5 @@
 -- Routes and their blocks.
-use Rattle.std.proofs.Common.{ℕ, ℤ, pos, ◌||◌, ◌∷◌, ◌++◌, [], MatchOption, ap₂, drop, is_none, take, ◌≡◌, ◌∙◌, ◌+◌, ◌<◌, ◌≤◌, ◌&&◌, ◌^◌, Bool, true, false, List, Option, None, Some, ap, arith, get_or-set_other, get_or-set_same, if◌then◌else◌, inl, inr, length, map, nat_le, nat_lt, refl, rules, slice_index_or, slice_set, subst, sym}
+use Rattle.std.proofs.Common.{ℕ, ℤ, pos, ◌||◌, ◌∷◌, ◌++◌, [], MatchOption, ap₂, drop, is_none, take, ◌≡◌, ◌∙◌, ◌+◌, ◌<◌, ◌≤◌, ◌&&◌, ◌^◌, Bool, true, false, List, Option, None, Some, ap, arith, get_or-set_other, get_or-set_same, if◌then◌else◌, inl, inr, length, map, nat_le, nat_lt, refl, slice_index_or, slice_set, subst, sym}
 use Rattle.std.proofs.lemmas.Bool.{cases_lt}
 use Rattle.std.proofs.lemmas.List.{get_or-map, length-map}
 use Rattle.std.proofs.Math.Seq.{drop-append_seam, take-append_seam}
@@ -14,7 +14,7 @@ use Rattle.ip_wire.specs.declared.IpCidr.{IpCidr}
 use Rattle.c_structs.specs.Addresses.{block_with}
 use Rattle.c_structs.specs.Written.{failure_code, max_len}
 use Rattle.c_structs.specs.declared.failures.Failure.TheVariants as failure
-use Rattle.c_routing.specs.Lengths.{in_bounds}
+use Rattle.c_routing.proofs.Tables.{in_bounds-itself}
 use Rattle.c_routing.specs.Routes.{Indexes, IsIndexOf, WritesIndex, destinations, index_failure}
 use Rattle.c_routing.specs.declared.routes.Route.{Route}
 
@@ -105,10 +105,6 @@ no-failure false false false is = absurd (cc)
 room-bounds : (count room : ℕ) → (nat_le count room && nat_le room max_len && nat_lt count (2 ^ 32)) ≡ true → count ≤ max_len
 room-bounds count room has = grind arith
 
-whole : (routes : List Route) → length routes ≤ max_len → in_bounds routes ≡ routes
-unfolding in_bounds
-whole routes fits = search rules
-
 -- the index of such a list is written
 pub written : (routes : List Route) (old made : List Node) (answer : ℤ) → index_failure routes (length old) ≡ None → length made ≡ length routes
     → ((blocks : List IpCidr) → map destinations routes ≡ map Some blocks → IsIndex blocks made) → answer ≡ pos (length routes)
@@ -116,7 +112,7 @@ pub written : (routes : List Route) (old made : List Node) (answer : ℤ) → in
 written routes old made answer none same index is =
     let (blocked, room) = no-failure _ _ _ none in
     let fits = room-bounds (length routes) (length old) room in
-    let (blocks, listed) = all-listed routes (subst (λ l. list_any (λ route. is_none (destinations route)) l ≡ false) (whole routes fits) blocked) in
+    let (blocks, listed) = all-listed routes (subst (λ l. list_any (λ route. is_none (destinations route)) l ≡ false) (in_bounds-itself routes fits) blocked) in
     let front : take (length routes) (made ++ drop (length routes) old) ≡ made = subst (λ n. take n (made ++ drop (length routes) old) ≡ made) same (take-append_seam made _) in
     let following : drop (length routes) (made ++ drop (length routes) old) ≡ drop (length routes) old =
     subst (λ n. drop n (made ++ drop (length routes) old) ≡ drop (length routes) old) same (drop-append_seam made _) in

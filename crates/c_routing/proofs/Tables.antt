@@ -7,7 +7,7 @@ use Rattle.c_routing.specs.Lengths.{in_bounds}
 
 -- ---- lengths
 
-usable-itself : (n : ℕ) → n ≤ max_len → usable n ≡ n
+pub usable-itself : (n : ℕ) → n ≤ max_len → usable n ≡ n
 unfolding usable
 usable-itself n fits = search rules
 
@@ -19,7 +19,7 @@ pub in_bounds-itself : {A : Type 0} (list : List A) → length list ≤ max_len 
 unfolding in_bounds
 in_bounds-itself list fits = search rules
 
-in_bounds-nothing : {A : Type 0} (list : List A) → max_len < length list → in_bounds list ≡ []
+pub in_bounds-nothing : {A : Type 0} (list : List A) → max_len < length list → in_bounds list ≡ []
 unfolding in_bounds
 in_bounds-nothing list long = search rules
 

@@ -1,5 +1,5 @@
 -- A router has one answer.
-use Rattle.std.proofs.Common.{ℕ, ◌≡◌, ◌∙◌, ◌↔◌, ◌<◌, ◌≤◌, ◌++◌, ◌∷◌, [], All, Bool, IfErr, IfOk, IsTrue, List, MatchOption, OnErr, Option, None, Some, Result, Ok, Err, true, false, arith, ap, drop, get_or, map, refl, suc, subst, sym}
+use Rattle.std.proofs.Common.{ℕ, ◌≡◌, ◌∙◌, ◌<◌, ◌≤◌, ◌++◌, ◌∷◌, [], All, IfErr, IfOk, List, MatchOption, OnErr, Option, None, Some, Result, Ok, Err, arith, ap, drop, get_or, map, refl, suc, subst, sym}
 use Rattle.std.proofs.lemmas.Option.{none-some, same_Some}
 use Rattle.app_host.proofs.MessagesOnce.{error-once}
 use Rattle.app_host.specs.Message.{Gives, values_of}
@@ -21,13 +21,6 @@ use Rattle.ip_wire.specs.Types.{EthernetAddress, IpRepr}
 use Rattle.ip_wire.specs.declared.HeaderFault.{HeaderFault}
 use Rattle.ip_wire.specs.declared.IpAddress.{IpAddress}
 use Rattle.ip_wire.specs.declared.IpCidr.{IpCidr}
-
--- a statement is true, or it is not
-pub one_verdict : (P : Type 0) (a b : Bool) → (IsTrue a ↔ P) → (IsTrue b ↔ P) → a ≡ b
-one_verdict P true true h k = refl
-one_verdict P true false h k = sym (k.1 (h.0 refl))
-one_verdict P false true h k = h.1 (k.0 refl)
-one_verdict P false false h k = refl
 
 -- ---- frames that are forwarded
 

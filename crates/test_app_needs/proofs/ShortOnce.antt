@@ -1,5 +1,6 @@
 -- The short applications have one answer.
 use Rattle.std.proofs.Common.{ℕ, ◌≡◌, ◌∙◌, ◌↔◌, ◌%◌, Bool, IsTrue, List, Some, Result, Ok, Err, if◌then◌else◌, arith, length, refl, subst, sym}
+use Rattle.std.proofs.lemmas.Bool.Decides.{same_from_decides}
 use Rattle.app_short.specs.Clamp.{IsAbove}
 use Rattle.app_short.specs.Flow.{IsOneFlow, key_of}
 use Rattle.app_short.specs.declared.flow_key.Flow.{Flow}
@@ -13,7 +14,6 @@ use Rattle.ip_wire.specs.declared.IpAddress.{IpAddress}
 use Rattle.ip_wire.specs.declared.IpAddress.TheVariants.{Ipv4}
 use Rattle.ip_wire.specs.declared.TcpControl.TheVariants as control
 use Rattle.ip_wire.specs.declared.Error.{Error}
-use Rattle.test_app_needs.proofs.RouterOnce.{one_verdict}
 
 pub one_flow : (flow other : Flow) (a b : FlowKey) → ((o : Flow) → (key_of o ≡ a) ↔ IsOneFlow o flow) → b ≡ key_of other → (b ≡ a) ↔ IsOneFlow other flow
 one_flow flow other a b tells is = ((λ same. (tells other).0 (sym is ∙ same)), λ one. is ∙ (tells other).1 one)
@@ -25,7 +25,7 @@ pub clamp_returned : (old same : List ℕ) (limit : ℕ) (a b : Bool) → old �
     → ((src dst : IpAddress) (verified : Bool) (v : TcpHeader) (payload : List ℕ) → tcp.Reads same src dst verified v payload → IsTrue b ↔ IsAbove limit v)
     → (src dst : IpAddress) (verified : Bool) (v : TcpHeader) (payload : List ℕ) → tcp.Reads old src dst verified v payload → a ≡ b
 clamp_returned old same limit a b e x y src dst verified v payload r =
-    one_verdict (IsAbove limit v) a b (x src dst verified v payload r) (y src dst verified v payload (subst (λ l. tcp.Reads l src dst verified v payload) e r))
+    same_from_decides a b (x src dst verified v payload r) (y src dst verified v payload (subst (λ l. tcp.Reads l src dst verified v payload) e r))
 
 pub clamp_segment : (old same new other : List ℕ) (limit : ℕ) (a b : Bool) → old ≡ same
     → ((src dst : IpAddress) (verified : Bool) (v : TcpHeader) (payload : List ℕ) → tcp.Reads old src dst verified v payload → IsTrue a ↔ IsAbove limit v)

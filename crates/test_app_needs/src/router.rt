@@ -117,7 +117,7 @@ fn check_source_by_index_once(
 }
 
 /// An address is martian, or it is not.
-#[tactic(auto, using(crate::proofs::RouterOnce::one_verdict))]
+#[tactic(auto, using(std::proofs::lemmas::Bool::Decides::same_from_decides))]
 fn is_martian_once(addr: &IpAddress) -> (bool, bool)
     ensures { result.0 ≡ result.1 }
 {

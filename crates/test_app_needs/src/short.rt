@@ -26,7 +26,7 @@ use ip_wire::{
 };
 
 /// An address is allowed, or it is not.
-#[tactic(auto, using(crate::proofs::RouterOnce::one_verdict))]
+#[tactic(auto, using(std::proofs::lemmas::Bool::Decides::same_from_decides))]
 fn is_allowed_once(list: &[IpCidr], addr: &IpAddress) -> (bool, bool)
     ensures { result.0 ≡ result.1 }
 {
@@ -34,7 +34,7 @@ fn is_allowed_once(list: &[IpCidr], addr: &IpAddress) -> (bool, bool)
 }
 
 /// A frame came from near, or it did not.
-#[tactic(auto, using(crate::proofs::RouterOnce::one_verdict))]
+#[tactic(auto, using(std::proofs::lemmas::Bool::Decides::same_from_decides))]
 fn is_near_once(bytes: &[u8], hops: u8) -> (bool, bool)
     ensures { result.0 ≡ result.1 }
 {

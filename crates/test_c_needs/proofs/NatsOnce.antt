@@ -1,5 +1,5 @@
 -- A NAT with a table lets a frame through in one way, or rejects it for one reason.
-use Rattle.std.proofs.Common.{ℕ, ℤ, pos, ◌≡◌, ◌∙◌, ◌<◌, ◌≤◌, List, inl, inr, length, ap, rules, subst, subst₂, sym}
+use Rattle.std.proofs.Common.{ℕ, ℤ, pos, ◌≡◌, ◌∙◌, ◌<◌, ◌≤◌, List, inl, inr, length, ap, subst, subst₂, sym}
 use Rattle.std.proofs.lemmas.Bool.{cases_lt}
 use Rattle.app_nat.proofs.FlowsOnce.{in-once, in-unkept, inside-once, out-once, out-unkept, outside-once}
 use Rattle.app_nat.specs.Flows.{ComesIn, GoesOut, IsKeptInside, IsKeptOutside}
@@ -7,6 +7,7 @@ use Rattle.app_nat.specs.Table.{IsTable}
 use Rattle.app_nat.specs.declared.Mapping.{Mapping}
 use Rattle.app_nat.specs.declared.Nat.{Nat}
 use Rattle.app_nat.specs.declared.Rejection.{Rejection}
+use Rattle.c_routing.proofs.Tables.{in_bounds-itself}
 use Rattle.c_routing.specs.Lengths.{in_bounds}
 use Rattle.c_routing.specs.Nat.{TranslatesIn, TranslatesOut}
 use Rattle.c_routing.specs.Rejections.{of_nat, rejection_code}
@@ -14,10 +15,6 @@ use Rattle.c_structs.proofs.Filled.{within-is}
 use Rattle.c_structs.specs.Written.{max_len, within}
 
 -- ---- what C gets for a frame that goes out
-
-itself : (list : List Mapping) → length list ≤ max_len → in_bounds list ≡ list
-unfolding in_bounds
-itself list fits = search rules
 
 pub record IsSame (new other : List Mapping) (after next : List ℕ) (a b : ℤ) : Type 0 where
   pub returned : a ≡ b
@@ -27,7 +24,7 @@ pub record IsSame (new other : List Mapping) (after next : List ℕ) (a b : ℤ)
 out-usable : (nat : Nat) (old new : List Mapping) (now : ℕ) (before after : List ℕ) (r : Rejection) → IsTable nat old now → length old ≤ max_len
     → length before ≤ max_len → GoesOut nat old new now before after → ¬ IsKeptInside nat (in_bounds old) now (within before) r
 out-usable nat old new now before after r table fits short out why =
-    out-unkept nat old new now before after r table out (subst₂ (λ l b. IsKeptInside nat l now b r) (itself old fits) (within-is before short) why)
+    out-unkept nat old new now before after r table out (subst₂ (λ l b. IsKeptInside nat l now b r) (in_bounds-itself old fits) (within-is before short) why)
 
 pub out_once : (nat : Nat) (old new other : List Mapping) (now : ℕ) (before after next : List ℕ) (a b : ℤ) → IsTable nat old now
     → TranslatesOut nat old new now before after a → TranslatesOut nat old other now before next b → IsSame new other after next a b
@@ -50,14 +47,14 @@ in-usable : (nat : Nat) (old new other : List Mapping) (now : ℕ) (before after
     → length before ≤ max_len → ComesIn nat old new now before after → ¬ IsKeptOutside nat (in_bounds old) (in_bounds other) now (within before) r
 in-usable nat old new other now before after r fits long short came why =
     in-unkept nat old new other now before after r came
-    (subst₂ (λ l b. IsKeptOutside nat l other now b r) (itself old fits) (within-is before short)
-    (subst (λ l. IsKeptOutside nat (in_bounds old) l now (within before) r) (itself other (subst (λ n. n ≤ max_len) (sym long) fits)) why))
+    (subst₂ (λ l b. IsKeptOutside nat l other now b r) (in_bounds-itself old fits) (within-is before short)
+    (subst (λ l. IsKeptOutside nat (in_bounds old) l now (within before) r) (in_bounds-itself other (subst (λ n. n ≤ max_len) (sym long) fits)) why))
 
 same-table : (old new other : List Mapping) → length new ≡ length old → length other ≡ length old → (max_len < length old → new ≡ old)
     → (max_len < length old → other ≡ old) → in_bounds new ≡ in_bounds other → new ≡ other
 same-table old new other long also stays too same = elim (cases_lt max_len (length old)) [
   | inl beyond ↦ stays beyond ∙ sym (too beyond)
-  | inr fits ↦ sym (itself new (subst (λ n. n ≤ max_len) (sym long) fits)) ∙ same ∙ itself other (subst (λ n. n ≤ max_len) (sym also) fits)
+  | inr fits ↦ sym (in_bounds-itself new (subst (λ n. n ≤ max_len) (sym long) fits)) ∙ same ∙ in_bounds-itself other (subst (λ n. n ≤ max_len) (sym also) fits)
 ]
 
 pub in_once : (nat : Nat) (old new other : List Mapping) (now : ℕ) (before after next : List ℕ) (a b : ℤ) → length new ≡ length old → length other ≡ length old

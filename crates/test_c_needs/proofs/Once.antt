@@ -1,32 +1,27 @@
 -- Calls with equal arguments return the same, and store the same.
-use Rattle.std.proofs.Common.{ℕ, ℤ, pos, negsuc, ◌≡◌, ◌∙◌, ◌+◌, ◌-◌, ◌%◌, ◌^◌, ◌≤◌, ◌<◌, ◌⊎◌, ◌↔◌, true, Option, None, Some, List, inl, inr, length, take, ap, arith, rules, subst, sym, w32}
+use Rattle.std.proofs.Common.{ℕ, ℤ, pos, negsuc, ◌≡◌, ◌∙◌, ◌+◌, ◌-◌, ◌%◌, ◌^◌, ◌≤◌, ◌<◌, ◌⊎◌, ◌↔◌, true, Option, None, Some, List, inl, inr, length, take, ap, arith, subst, sym, w32}
 use Rattle.std.proofs.lemmas.Bool.{cases_lt}
 use Rattle.std.proofs.lemmas.Int.{of_z-to_z}
 use Rattle.std.proofs.lemmas.List.{length-take-le}
 use Rattle.ip_wire.proofs.OptionLists.{one_list}
 use Rattle.ip_wire.proofs.ReadsOnce.{computed-one, frame-once}
-use Rattle.ip_wire.specs.Endpoint.{ReadsEndpoint}
 use Rattle.ip_wire.specs.Frame as transport
 use Rattle.ip_wire.specs.Frame.{all_checked, packet}
-use Rattle.ip_wire.specs.IpAddress.{ReadsAddress}
-use Rattle.ip_wire.specs.IpCidr.{ReadsCidr}
 use Rattle.ip_wire.specs.Read.{ReadsEthernet}
 use Rattle.ip_wire.specs.Tcp.{options_of}
 use Rattle.ip_wire.specs.TcpItems.{Item}
 use Rattle.ip_wire.specs.TcpRepr.{seq_of}
 use Rattle.ip_wire.specs.TcpSeq.{IsAfter, IsBefore, distance, number}
 use Rattle.ip_wire.specs.Types.{EthernetAddress, IpRepr, Ipv4, Ipv6}
-use Rattle.ip_wire.specs.declared.IpAddress.{IpAddress}
-use Rattle.ip_wire.specs.declared.IpCidr.{IpCidr}
-use Rattle.ip_wire.specs.declared.IpEndpoint.{IpEndpoint}
-use Rattle.ip_wire.proofs.EndTexts.{address_once, cidr_once, endpoint_once}
 use Rattle.wire_icmp.proofs.NdiscComputed.{ndisc_of_Reads}
 use Rattle.wire_icmp.specs.Ndisc as ndisc
 use Rattle.wire_icmp.specs.declared.NdiscRepr.{NdiscRepr}
 use Rattle.ip_wire.proofs.Readers.{hex_text_once}
 use Rattle.c_icmp.specs.Neighbours.{CarriesNdisc, ReadsNdisc}
+pub use Rattle.c_routing.proofs.Tables.{usable-itself as short_len}
+pub use Rattle.c_structs.proofs.Filled.{within-is as short_bytes}
 use Rattle.c_structs.specs.TcpOptions.{ReadsItems}
-use Rattle.c_structs.specs.Written.{IsRead, Writes, WritesBytes, max_len, usable, within}
+use Rattle.c_structs.specs.Written.{IsRead, Writes, WritesBytes, max_len, within}
 use Rattle.c_structs.specs.declared.failures.Failure.{Failure}
 
 -- ---- what is written
@@ -67,15 +62,6 @@ writes_bytes bytes why old same new other a b e v w =
 
 -- ---- values that are parsed
 
-pub one_addr : (text : List ℕ) (v w : IpAddress) → ReadsAddress text v → ReadsAddress text w → v ≡ w
-one_addr text v w a b = address_once text v w a b
-
-pub one_block : (text : List ℕ) (v w : IpCidr) → ReadsCidr text v → ReadsCidr text w → v ≡ w
-one_block text v w a b = cidr_once text v w a b
-
-pub one_endpoint : (text : List ℕ) (v w : IpEndpoint) → ReadsEndpoint text v → ReadsEndpoint text w → v ≡ w
-one_endpoint text v w a b = endpoint_once text v w a b
-
 pub one_ethernet : (text : List ℕ) (v w : EthernetAddress) → ReadsEthernet text v → ReadsEthernet text w → v ≡ w
 one_ethernet text v w a b = λ i. record { 0 = hex_text_once text v.0 w.0 a b i }
 
@@ -106,14 +92,6 @@ read_once Reads stored text old same new other a b one e (inr (zero, stays, neve
 read_once Reads stored text old same new other a b one e (inr (zero, stays, never)) (inr (also, kept, none)) = (zero ∙ sym also, stays ∙ e ∙ sym kept)
 
 -- ---- lengths
-
-pub short_bytes : (bytes : List ℕ) → length bytes ≤ max_len → within bytes ≡ bytes
-unfolding within
-short_bytes bytes fits = search rules
-
-pub short_len : (n : ℕ) → n ≤ max_len → usable n ≡ n
-unfolding usable
-short_len n fits = search rules
 
 pub short_front : (bytes : List ℕ) (len : ℕ) → len ≤ length bytes → length bytes ≤ max_len → within (take len bytes) ≡ take len bytes
 short_front bytes len part fits = short_bytes (take len bytes) (omega (arith, length-take-le len bytes part, part, fits))

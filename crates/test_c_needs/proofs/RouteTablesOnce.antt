@@ -4,7 +4,8 @@ use Rattle.app_router.proofs.Elements.{counted}
 use Rattle.app_router.specs.Table.{IsTable, half_at, hints_in}
 use Rattle.app_router.specs.declared.index.Node.{Node}
 use Rattle.ip_wire.specs.declared.IpCidr.{IpCidr}
-use Rattle.test_c_needs.proofs.RoutesOnce.{IsSame, in-bounds, written_once}
+use Rattle.test_c_needs.proofs.RoutesOnce.{IsSame, written_once}
+use Rattle.c_routing.proofs.Tables.{in_bounds-itself}
 use Rattle.c_routing.specs.Lengths.{in_bounds}
 use Rattle.c_routing.specs.Routes.{IsIndexOf, IsTableOf, MakesTable, WritesTable, table_failure, table_len}
 use Rattle.c_routing.specs.declared.routes.Route.{Route}
@@ -46,7 +47,7 @@ made routes nodes old new answer index fewer room short same v =
     let why : table_failure nodes (length old) ≡ None = ap failure_if (fitting (length nodes) (length old) fewer room short) in
     let written : WritesTable nodes old new answer =
     subst (λ o. MatchOption o (WritesTable nodes old new answer) (λ w. (answer ≡ failure_code w) × (new ≡ old))) why v in
-    subst₂ (IsTableOf routes) (sym (in-bounds nodes (omega (arith, fewer)))) (sym (in-bounds new (omega (arith, short, same)))) (written.table routes index)
+    subst₂ (IsTableOf routes) (sym (in_bounds-itself nodes (omega (arith, fewer)))) (sym (in_bounds-itself new (omega (arith, short, same)))) (written.table routes index)
 
 -- its hints are numbers of ranges
 pub hints_made : (nodes : List Node) (old new : List ℕ) (answer : ℤ) (i : ℕ) → length nodes < 67108864 → table_len nodes ≤ length old
@@ -59,7 +60,7 @@ hints_made nodes old new answer i fewer room short v inside =
     written.hints i inside
 
 pub short_index : (routes : List Route) (nodes : List Node) → length nodes < 67108864 → IsIndexOf routes nodes → IsIndexOf routes (in_bounds nodes)
-short_index routes nodes fewer index = subst (IsIndexOf routes) (sym (in-bounds nodes (omega (arith, fewer)))) index
+short_index routes nodes fewer index = subst (IsIndexOf routes) (sym (in_bounds-itself nodes (omega (arith, fewer)))) index
 
 -- ---- fewer cells
 

@@ -1,5 +1,5 @@
 -- One route is chosen, and a source has one fault.
-use Rattle.std.proofs.Common.{ℕ, ℤ, pos, negsuc, ◌≡◌, ◌≤◌, ◌∙◌, All, List, MatchOption, Option, None, Some, inl, inr, arith, ap, drop, length, refl, rules, subst, sym, take_all, ◌<◌, ◌&&◌, ◌^◌, [], Bool, false, if◌then◌else◌, is_none, nat_le, nat_lt}
+use Rattle.std.proofs.Common.{ℕ, ℤ, pos, negsuc, ◌≡◌, ◌≤◌, ◌∙◌, All, List, MatchOption, Option, None, Some, inl, inr, arith, ap, drop, length, refl, subst, sym, take_all, ◌<◌, ◌&&◌, ◌^◌, [], Bool, false, if◌then◌else◌, is_none, nat_le, nat_lt}
 use Rattle.std.proofs.lemmas.Bool.{cases_order}
 use Rattle.std.specs.List.{list_any}
 use Rattle.app_router.proofs.RoutesOnce.{one_fault}
@@ -7,6 +7,7 @@ use Rattle.app_router.specs.Source.{ChecksSource}
 use Rattle.app_router.specs.declared.index.Node.{Node}
 use Rattle.app_router.specs.declared.source.SourceFault.{SourceFault}
 use Rattle.ip_wire.specs.declared.IpAddress.{IpAddress}
+use Rattle.c_routing.proofs.Tables.{in_bounds-itself, in_bounds-nothing}
 use Rattle.c_routing.specs.Lengths.{in_bounds}
 use Rattle.c_routing.specs.Rejections.{rejection_code, source_code}
 use Rattle.c_routing.specs.Routes.{Chooses, Indexes, IsChosen, IsIndexOf, Leads, WritesIndex, destinations, index_failure, route_at}
@@ -74,15 +75,11 @@ all-nodes : (routes : List Route) (why : Option Failure) (old new : List Node) (
 all-nodes routes None old new n v long = subst (IsIndexOf routes) (take_all (length routes) new (omega (arith, long))) v.index
 all-nodes routes (Some why) old new n (is, stays) long = absurd (cc)
 
-pub in-bounds : {A : Type 0} (list : List A) → length list ≤ max_len → in_bounds list ≡ list
-unfolding in_bounds
-in-bounds list fits = search rules
-
 -- an index that fills all nodes is the index of these nodes
 pub filled : (routes : List Route) (old new : List Node) (n : ℕ) → length routes ≤ max_len → length new ≡ length routes → Indexes routes old new (pos n)
     → IsIndexOf routes (in_bounds new)
 filled routes old new n fits long v =
-    let nodes = in-bounds new (omega (arith, long, fits)) in
+    let nodes = in_bounds-itself new (omega (arith, long, fits)) in
     subst (IsIndexOf routes) (sym nodes) (all-nodes routes (index_failure routes (length old)) old new n v long)
 
 -- ---- lists that are too long
@@ -106,16 +103,12 @@ many-routes count nodes long = grind arith
 many-nodes : (count nodes : ℕ) → max_len < nodes → room count nodes ≡ false
 many-nodes count nodes long = grind arith
 
-out-of-bounds : (routes : List Route) → max_len < length routes → in_bounds routes ≡ []
-unfolding in_bounds
-out-of-bounds routes long = search rules
-
 pub too_many_routes : (routes : List Route) (old new : List Node) (answer : ℤ) → max_len < length routes → Indexes routes old new answer → answer ≡ negsuc 12094627905535
-too_many_routes routes old new answer long v = without-room routes old new answer (out-of-bounds routes long) (many-routes (length routes) (length old) long) v
+too_many_routes routes old new answer long v = without-room routes old new answer (in_bounds-nothing routes long) (many-routes (length routes) (length old) long) v
 
 pub too_many_nodes : (routes : List Route) (old new : List Node) (answer : ℤ) → routes ≡ [] → max_len < length old → Indexes routes old new answer → answer ≡ negsuc 12094627905535
 too_many_nodes routes old new answer none long v =
-    without-room routes old new answer (ap in_bounds none ∙ in-bounds [] (omega arith)) (many-nodes (length routes) (length old) long) v
+    without-room routes old new answer (ap in_bounds none ∙ in_bounds-itself [] (omega arith)) (many-nodes (length routes) (length old) long) v
 
 -- ---- sources
 

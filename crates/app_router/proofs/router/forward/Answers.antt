@@ -1,5 +1,5 @@
-use Rattle.std.proofs.Common.{IfErr, List, ℕ, ◌≡◌, ◌∙◌, ◌-◌, Some, arith, drop, length, length-drop, rules, take}
-use Rattle.std.proofs.lemmas.List.{take_all}
+use Rattle.std.proofs.Common.{IfErr, ◌≡◌, ◌∙◌, ◌-◌, Some, drop, rules, take}
+use Rattle.std.proofs.lemmas.List.{take_rest}
 use Rattle.std.proofs.lemmas.Result.{IfErr-weaker}
 use Rattle.app_router.proofs.Forwards.{by-type, forwarded, unread}
 use Rattle.app_router.specs.Forward.{fault_of, packet_fault, with_hop_limit}
@@ -7,10 +7,6 @@ use Rattle.ip_wire.specs.Ethernet.{frame_bytes, frame_bytes_mut}
 use Rattle.ip_wire.specs.Field.{with_range}
 use Rattle.ip_wire.specs.Ip.{hop_limit_of}
 use Rattle.app_router.proofs.router.forward.Goals as goal
-
--- the bytes after the header
-tail : (frame : List ℕ) → take (length frame - 14) (drop 14 frame) ≡ drop 14 frame
-tail frame = take_all (length frame - 14) (drop 14 frame) (omega (arith, length-drop 14 frame))
 
 pub returns-in_default-clause-rejected : goal.returns-in_default-clause-rejected
 returns-in_default-clause-rejected c =
@@ -22,7 +18,7 @@ returns-in_err-header-clause-rejected c =
     let frame = c.args.frame.now in
     let view : frame_bytes c.new_unchecked.result ≡ frame = search rules in
     let found = by-type frame c.parse.result c.in-Ok.link (rw view at c.parse.ensures.value) c.in-Ok.is in
-    let why : IfErr c.accept.result (λ fault. packet_fault c.in-Ok.link.ethertype (drop 14 frame) ≡ Some fault) = rw (tail frame) at c.accept.ensures.rejected in
+    let why : IfErr c.accept.result (λ fault. packet_fault c.in-Ok.link.ethertype (drop 14 frame) ≡ Some fault) = rw (take_rest frame 14) at c.accept.ensures.rejected in
     let whole : IfErr c.accept.result (λ fault. fault_of frame ≡ Some fault) = IfErr-weaker c.accept.result _ _ (λ fault is. found ∙ is) why in
     search rules
 
@@ -39,4 +35,4 @@ returns-clause-forwarded c =
     let header = c.in_ok-header.header in
     let packet : c.take_hop.new.packet ≡ with_hop_limit header (drop 14 frame) (hop_limit_of header - 1) = rw following at c.take_hop.ensures.bytes in
     forwarded frame _ _ c.take_hop.new.packet c.args.src_addr c.args.dst_addr c.in-Ok.link header c.one_less.result (search rules) (search rules)
-    ((reads c.in-Ok.link).0 c.in-Ok.is) (rw (tail frame) at c.in_ok-header.ensures.carries) c.in_ok-header.ensures.alive front packet c.take_hop.ensures.reads (search rules) (search rules)
+    ((reads c.in-Ok.link).0 c.in-Ok.is) (rw (take_rest frame 14) at c.in_ok-header.ensures.carries) c.in_ok-header.ensures.alive front packet c.take_hop.ensures.reads (search rules) (search rules)
