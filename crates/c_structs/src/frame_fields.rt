@@ -97,9 +97,9 @@ impl FrameFields {
         }
     }
 
-    // The fields of bytes that are too few for the first header.
+    /// The fields of `len` bytes, which are too few for the first header.
     #[inline(always)]
-    pub(super) fn nothing(len: usize) -> FrameFields
+    pub fn nothing(len: usize) -> FrameFields
         ensures { result ≡ nothing_of len }
     {
         FrameFields {

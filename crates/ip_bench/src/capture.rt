@@ -4,67 +4,8 @@ use crate::derived::Frames;
 use crate::digest::Digest;
 use crate::frames::{Kind, ROOM, pool};
 use crate::random::Random;
-use c_structs::{Addr, Arp, Endpoint, Ethernet, FrameFields, Icmp, Ip, Tcp, rebuild_frame};
+use c_structs::{FrameFields, rebuild_frame};
 use std::alloc::{AllocError, Global};
-
-const NOWHERE: Endpoint = Endpoint {
-    addr: Addr {
-        octets: [0; 16],
-        version: 0,
-    },
-    port: 0,
-};
-
-const NO_FIELDS: FrameFields = FrameFields {
-    network_offset: 0,
-    transport_offset: 0,
-    payload_offset: 0,
-    payload_len: 0,
-    src: NOWHERE,
-    dst: NOWHERE,
-    ip: Ip {
-        ident: 0,
-        flow_label: 0,
-        fragment_offset: 0,
-        protocol: 0,
-        hop_limit: 0,
-        dscp: 0,
-        ecn: 0,
-        more_fragments: 0,
-        dont_fragment: 0,
-    },
-    tcp: Tcp {
-        seq_number: 0,
-        ack_number: 0,
-        window_len: 0,
-        urgent_at: 0,
-        flags: 0,
-        header_len: 0,
-    },
-    ethernet: Ethernet {
-        src: [0; 6],
-        dst: [0; 6],
-        ethertype: 0,
-    },
-    arp: Arp {
-        operation: 0,
-        src_hardware: [0; 6],
-        dst_hardware: [0; 6],
-    },
-    reason: 0,
-    network: 0,
-    transport: 0,
-    rejected: 0,
-    is_fragment: 0,
-    ipv4_checksum: 0,
-    transport_checksum: 0,
-    unused: [0; 5],
-    icmp: Icmp {
-        word: 0,
-        msg_type: 0,
-        code: 0,
-    },
-};
 
 /// Reads and rebuilds this many frames. Of one of four rebuilt frames the digest has all bytes, of the others the
 /// headers.
@@ -73,7 +14,7 @@ pub fn run(alloc: Global, random: &mut Random, count: u32) -> Result<Digest, All
     let mut frames = Frames::new(alloc, Kind::Any)?;
     let mut again = vec![in alloc; 0; ROOM]?;
     let mut digest = Digest::new();
-    let mut fields = NO_FIELDS;
+    let mut fields = FrameFields::nothing(0);
     for i in 0..count {
         let (places, frame) = frames.next(random, pool.as_slice());
         places.vary(random, frame);
