@@ -16,7 +16,7 @@
 # make statements     prints the contracts and definitions that differ since a commit, SINCE=HEAD
 # make size           prints the lines, functions, definitions and proofs of each crate
 # make compare        prints the first line that ip_frames and REFERENCE=program print differently
-# make compare-calls  the same for test_calls, which makes one library call per line
+# make compare-calls  the same for ip_calls, which makes one library call per line
 # make bench          times library and program: [REFERENCE_BENCH=library.so] [REFERENCE=program]
 # make help           prints these lines
 #
@@ -42,7 +42,7 @@ LIBDIR ?=
 export FRAMES CRATE REFERENCE_BENCH SEED LINES PREFIX DESTDIR LIBDIR ANEW SINCE
 
 PROGRAM := crates/ip_frames/out/ip_frames
-CALLS := crates/test_calls/out/test_calls
+CALLS := crates/ip_calls/out/ip_calls
 ARCHIVE := crates/c_exports/out/libc_exports.a
 LIBRARY := out/lib/libip_wire.a
 SHARED := out/lib/libip_wire.so.$(shell c/version)

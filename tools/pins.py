@@ -11,7 +11,7 @@ MARK = "Pinned by: "
 PATHS = {
     "wire": "crates/test_wire/src/tests/{}.rt",
     "apps": "crates/test_apps/src/tests/{}.rt",
-    "promises": "crates/test_promises/src/{}.rt",
+    "promises": "crates/promises/src/{}.rt",
     "cases": "tests/data/cases/{}.hex",
     "calls": "tests/data/calls/{}.call",
     "tests": "tests/{}",

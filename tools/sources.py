@@ -36,7 +36,7 @@ class Crate:
     @property
     def is_for_tests(self):
         """Whether it has only tests, needs and what these share."""
-        return self.name.startswith("test_") and self.name not in ("test_promises", "test_calls")
+        return self.name.startswith(("test_", "needs_"))
 
 
 def words_of(text):

@@ -28,7 +28,7 @@ FIELDS = {"ethertype": "type", "msg_type": "type"}
 # What is in C.
 OF_C = ("/c/cpu.c", "/c/names.c")
 # The crates of the structs and calls. The first ones are used without C too, and their structs have other names there.
-OF_LIBRARY = ("app_link", "app_router", "app_nat", "c_structs", "c_icmp", "c_routing", "c_exports")
+OF_LIBRARY = ("wire_link", "app_router", "app_nat", "c_structs", "c_icmp", "c_routing", "c_exports")
 STRUCTS = {"Node": "struct lk_route_node", "Mapping": "struct lk_mapping", "Nat": "struct lk_nat"}
 # Enums that are used without C too, and whose doc lines do not name them as C does.
 ENUMS = {"Side": "lk_side", "Offload": "lk_offload"}

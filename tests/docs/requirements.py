@@ -21,11 +21,10 @@ TESTS = {"wire": "test_wire", "apps": "test_apps", "frames": "ip_frames"}
 LIBRARY = re.compile(r"net_base|ip_wire|wire_\w+")
 # The libraries whose types a Rattle program uses: those of `wire_*` through `ip_wire`.
 SHOWN = re.compile(r"net_base|(?:ip|app)_\w+")
-# The crates that use the layer through `ip_wire` only. They may name the formats beside `ip_wire` too. `app_link` uses bit
-# fields only, and does not wait for `ip_wire`. Crates with tests or needs of the layer name what they test, so that they
-# are proved early.
-ABOVE = re.compile(r"ip_(?!wire\b)\w+|app_(?!link\b)\w+|test_(?!wire\b|support\b|(?:base|ip|transport|frame)_needs\b)\w+")
-BESIDE = ("wire_icmp",)
+# The crates that use the layer through `ip_wire` only. They may name the formats beside `ip_wire` too. Crates with tests or
+# needs of the layer name what they test, so that they are proved early.
+ABOVE = re.compile(r"ip_(?!wire\b)\w+|app_\w+|promises|needs_(?!layer\b)\w+|test_(?!wire\b|support\b)\w+")
+BESIDE = ("wire_icmp", "wire_link")
 TEST_FUNCTION = re.compile(r"#\[test\]\n(?: *#.*\n)* *fn (\w+)\(")
 # A function that allocates is given an allocator, and returns one of these types.
 ALLOCATES = re.compile(r"\b(alloc|AllocError|HostRuntime|Vec|String|Box|Rc|Arc)\b")

@@ -6,7 +6,7 @@
 The statements are all names that a library exports, the public functions with their conditions and promises, the public
 types and constants, the members of each `impl` and trait, and all definitions of specs/, wherever they stand: no layout,
 comments, bodies or proofs, and no private item that nothing of this names. A law that returns or changes a value is stated
-with its body, because it promises something of what the body does. So is each function of test_promises, private ones too.
+with its body, because it promises something of what the body does. So is each function of promises, private ones too.
 An imported name is the same as long as what it means is the same.
 
 With a commit it prints all that differs. Without one it compares with the commit that the part "Unreleased" of CHANGELOG.md
@@ -30,7 +30,7 @@ from sources import Sources, words_of  # noqa: E402
 UNRELEASED = re.compile(r"^## Unreleased\n(.*?)(?=^## |\Z)", re.M | re.S)
 SINCE = re.compile(r"`make statements SINCE=(\S+)`")
 # The crates whose functions promise something of what their bodies do, beside the laws.
-PROMISES = {"test_promises"}
+PROMISES = {"promises"}
 # Attributes that change no statement.
 PLAIN = re.compile(r"(?:inline|allow|tactic|must_use|cold)\b")
 

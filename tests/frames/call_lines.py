@@ -1,4 +1,4 @@
-"""Lines that ask one call of the library each, in the words of crates/test_calls: at the edges, and random ones."""
+"""Lines that ask one call of the library each, in the words of crates/ip_calls: at the edges, and random ones."""
 import collections
 import ipaddress
 import itertools

@@ -1,4 +1,4 @@
-# Checks of ip_frames and test_calls: what they print, and how they end if a device or memory fails.
+# Checks of ip_frames and ip_calls: what they print, and how they end if a device or memory fails.
 
 # ended STATUS MESSAGE: how the last run ended, which left its standard error in the room
 ended() {

@@ -68,7 +68,7 @@ def reached(changed, restated):
     tests = {re.compile(rf"test_{crate.partition('_')[0]}s?") for crate in changed}
 
     def runs_it(name, named):
-        is_test = name.startswith("test_") and not name.endswith("_needs")
+        is_test = name.startswith("test_") or name == "ip_calls"
         return is_test and (set(named) & set(changed) or any(kind.fullmatch(name) for kind in tests))
 
     return [

@@ -3,7 +3,7 @@
 
 A public statement is a law, the contract of a call of the C library, or the condition of a call on a length. It is weakened
 by a false premise (laws), by leaving out a clause (laws, calls of the C library), by allowing one more result (calls of the C
-library), or by asking for one byte more (conditions). Its needs are the functions of the crates test_*_needs that call it. In
+library), or by asking for one byte more (conditions). Its needs are the functions of the crates needs_* that call it. In
 a copy of their crate each of them calls a function with the weaker contract instead, over the libraries that make test
 proved. One of them must not be proved then.
 
@@ -34,7 +34,7 @@ from sources import words_of
 TOP = proved.TOP
 
 # The crates with needs, in the order in which they can be tried.
-NEEDS = [name for name in proved.crates() if name.endswith("_needs")]
+NEEDS = [name for name in proved.crates() if name.startswith("needs_")]
 LIST = TOP / "tests/data/unneeded.txt"
 # The most rows that it may have. This number only gets smaller.
 MOST = 30
@@ -74,7 +74,7 @@ def name_of(weaker):
 def statements(sources):
     """The public functions of the libraries: laws, functions and methods of types that a library exports."""
     for crate in sources.crates.values():
-        if crate.is_program or crate.name.startswith(("test_", "ip_bench")):
+        if crate.is_program or crate.is_for_tests or crate.name == "promises":
             continue
         shown = set(sources.exports(crate.name).values())
         for path, module in crate.modules.items():

@@ -11,7 +11,7 @@ from sources import Crate, Module, Sources  # noqa: E402
 
 # The libraries that a program in Rattle names.
 LIBRARIES = (
-    "net_base", "ip_wire", "wire_icmp", "app_short", "app_link", "app_host", "app_router", "app_nat",
+    "net_base", "ip_wire", "wire_icmp", "app_short", "wire_link", "app_host", "app_router", "app_nat",
     "app_edit",
 )
 VIEW = re.compile(r"= (\w+View)<")
@@ -97,7 +97,7 @@ class Reference:
                     self.add(library, shown, path)
         modules = [(crate, module) for crate in self.sources.crates.values() for module in crate.modules.values()]
         self.laws = [Call(crate, module, None, item) for crate, module in modules
-                     if "laws" in module.path and not crate.name.startswith("test_")
+                     if "laws" in module.path and not crate.is_for_tests and crate.name != "promises"
                      for item in module.items if item.kind == "fn" and item.visibility == "pub"]
         for law in self.laws:
             text = " ".join(clause.text for clause in law.item.clauses)

@@ -4,8 +4,8 @@ ghost use Rattle.std.specs.Prelude.{◌≡◌, ◌≤◌, ◌+◌, length, pos, 
 ghost use Rattle.c_structs.specs.Links.{link_or, link_reason, linked_of};
 ghost use Rattle.c_structs.specs.Written.{usable, within};
 
-use app_link::Link;
 use c_structs::{FrameFields, read_link, usable, within};
+use wire_link::Link;
 
 /// Stores the link-layer header that captured bytes begin with, and returns 0. Returns why it is rejected, and stores
 /// nothing then.

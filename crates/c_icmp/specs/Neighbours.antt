@@ -5,7 +5,7 @@ use Rattle.std.specs.Option.{option_and_then, option_map_or}
 use Rattle.ip_wire.specs.Frame.{IsReadWhole, other, packet}
 use Rattle.ip_wire.specs.Types.{EthernetAddress, EthernetRepr, IpRepr, Ipv4, Ipv6}
 use Rattle.ip_wire.specs.declared.IpProtocol.TheVariants as protocol
-use Rattle.wire_ends.specs.declared.ip_address.IpAddress.TheVariants as address
+use Rattle.wire_addr.specs.declared.ip_address.IpAddress.TheVariants as address
 use Rattle.wire_icmp.specs.Ndisc.{Reads, bytes_of}
 use Rattle.wire_icmp.specs.declared.ndisc.repr.NdiscRepr.{NdiscRepr}
 use Rattle.wire_icmp.specs.declared.ndisc.repr.NdiscRepr.TheVariants.{NeighborSolicit, NeighborAdvert}

@@ -2,7 +2,7 @@
 
 ghost use Rattle.std.specs.Prelude.{◌≡◌};
 ghost use Rattle.ip_wire.specs.Checksum.{computes};
-ghost use Rattle.wire_ends.specs.declared.ip_version.IpVersion.{IpVersion};
+ghost use Rattle.wire_addr.specs.declared.ip_version.IpVersion.{IpVersion};
 ghost use Rattle.wire_icmp.specs.Icmp.{choice_of};
 ghost use Rattle.c_structs.specs.Written.{Fills};
 ghost use Rattle.c_icmp.specs.Frames.{icmp_failure, icmp_frame, icmp_frame_failure, protocol_number};

@@ -15,7 +15,10 @@ ghost use Rattle.ip_wire.specs.declared.Checksum.{Checksum};
 use app_edit::{Layout, Offload};
 use app_short::mss_clamp::clamp;
 use c_structs::MAX_LEN;
-use ip_wire::{Checksum, ChecksumCapabilities, ETHERNET_HEADER_LEN, Frame, IpRepr, TcpPacket, TcpPacketMut, Transport};
+use ip_wire::{
+    Checksum, ChecksumCapabilities, ETHERNET_HEADER_LEN, Frame, IpRepr, TcpPacket, TcpPacketMut,
+    Transport,
+};
 
 /// Lowers the maximum segment size of a SYN in a frame to `limit`, and updates the TCP checksum, in place. A checksum that
 /// counts as left to the device stays. Returns 1 if the size was larger, else 0; then the frame is unchanged.

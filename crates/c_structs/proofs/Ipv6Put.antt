@@ -4,7 +4,7 @@ use Rattle.ip_wire.specs.Field.{field, with_range}
 use Rattle.ip_wire.specs.Ip.{bytes_of, with_payload_len}
 use Rattle.ip_wire.specs.Ipv6.{header_of}
 use Rattle.ip_wire.specs.Types.{Ipv6}
-use Rattle.wire_ends.proofs.Protocols.{number_of-protocol_of}
+use Rattle.wire_addr.proofs.Protocols.{number_of-protocol_of}
 use Rattle.wire_field.proofs.Cells.{cells-drop}
 use Rattle.wire_field.proofs.Spelled.{AreBytes}
 

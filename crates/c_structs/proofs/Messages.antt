@@ -4,11 +4,11 @@ use Rattle.std.specs.Bool.{⊤}
 use Rattle.std.proofs.lemmas.Bool.Decides.{nat_tests}
 use Rattle.std.proofs.lemmas.List.{length-replicate}
 use Rattle.std.specs.Option.{option_map_or}
-use Rattle.app_link.specs.Link.{link_of, link_type_of}
-use Rattle.app_link.specs.declared.link.Link.{Link}
-use Rattle.app_link.specs.declared.link.LinkFault.{LinkFault}
-use Rattle.app_link.specs.declared.link.LinkFault.TheVariants as fault
-use Rattle.app_link.specs.declared.link_type.LinkType.{LinkType}
+use Rattle.wire_link.specs.Link.{link_of, link_type_of}
+use Rattle.wire_link.specs.declared.link.Link.{Link}
+use Rattle.wire_link.specs.declared.link.LinkFault.{LinkFault}
+use Rattle.wire_link.specs.declared.link.LinkFault.TheVariants as fault
+use Rattle.wire_link.specs.declared.link_type.LinkType.{LinkType}
 use Rattle.ip_wire.proofs.EthernetComputed.{ethernet_of-Reads}
 use Rattle.ip_wire.proofs.Ipv4Computed.{ipv4_of-Reads}
 use Rattle.ip_wire.proofs.Ipv6Computed.{ipv6_of-Reads}

@@ -2,7 +2,7 @@
 use Rattle.std.proofs.Common.{ℕ, ◌≡◌, ◌≤◌, refl, true}
 use Rattle.ip_wire.specs.Ip.{bytes_of, header_before, header_len_of, max_payload_len, next_header_of, payload_len_of, with_payload_len}
 use Rattle.ip_wire.specs.Protocol.{protocol_of}
-use Rattle.wire_ends.proofs.Protocols.{number_of-protocol_of}
+use Rattle.wire_addr.proofs.Protocols.{number_of-protocol_of}
 use Rattle.ip_wire.specs.declared.IpProtocol.TheVariants.{Unknown}
 use Rattle.ip_wire.specs.Types.{IpRepr, Ipv4, Ipv6}
 

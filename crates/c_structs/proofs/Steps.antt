@@ -6,9 +6,9 @@ use Rattle.ip_wire.specs.TcpItems.{Item, first_item, text}
 use Rattle.ip_wire.specs.TcpOption.{Begins, BeginsNothing}
 use Rattle.ip_wire.specs.declared.TcpOption.{TcpOption}
 use Rattle.ip_wire.specs.declared.TcpOption.TheVariants.{EndOfList}
-use Rattle.wire_tcp_parts.proofs.FirstItems.{Leads-first_item, first_item-None}
-use Rattle.wire_tcp_parts.proofs.Items.{item_read}
-use Rattle.wire_tcp_parts.proofs.OptionLists.{head-text}
+use Rattle.wire_tcp_options.proofs.FirstItems.{Leads-first_item, first_item-None}
+use Rattle.wire_tcp_options.proofs.Items.{item_read}
+use Rattle.wire_tcp_options.proofs.OptionLists.{head-text}
 use Rattle.c_structs.specs.TcpSteps.{place_at, step_to}
 use Rattle.c_structs.specs.declared.types.TcpOptionPlace.{TcpOptionPlace}
 

@@ -14,8 +14,8 @@ use Rattle.wire_checksum.proofs.Residues.{residue-bound, residue-quotient, resid
 use Rattle.wire_checksum.proofs.WordLists.{sum-words-append}
 use Rattle.wire_checksum.specs.PseudoHeader.{with_pseudo_header}
 use Rattle.wire_checksum.specs.WordSum.{residue, words}
-use Rattle.wire_ends.specs.declared.ip_address.IpAddress.{IpAddress}
-use Rattle.wire_ends.specs.declared.ip_protocol.IpProtocol.TheVariants as protocol
+use Rattle.wire_addr.specs.declared.ip_address.IpAddress.{IpAddress}
+use Rattle.wire_addr.specs.declared.ip_protocol.IpProtocol.TheVariants as protocol
 use Rattle.wire_field.proofs.Cells.{cells-drop}
 use Rattle.wire_field.proofs.Spelled.{AreBytes}
 use Rattle.wire_field.specs.Field.{field}
@@ -23,10 +23,10 @@ use Rattle.wire_tcp.proofs.TcpComputed.{reads-with, reads_once, tcp_of-Reads}
 use Rattle.wire_tcp.proofs.TcpEmitted.{length-header_bytes}
 use Rattle.wire_tcp.specs.Tcp.{header_len, options_of, payload_of, segment_sum}
 use Rattle.wire_tcp.specs.TcpRepr.{HasControl, Reads, TcpHeader, ack_bits, bytes_of, flag_of, header_bytes, header_with, offset_and_flags, option_bytes, segment_with, seq_of, tcp_of}
-use Rattle.wire_tcp_parts.specs.TcpItems.{IsItem, IsOptionList, Item, item}
-use Rattle.wire_tcp_parts.specs.TcpSeq.{number}
-use Rattle.wire_tcp_parts.specs.declared.tcp.control.TcpControl.{TcpControl}
-use Rattle.wire_tcp_parts.specs.declared.tcp.control.TcpControl.TheVariants as control
+use Rattle.wire_tcp_options.specs.TcpItems.{IsItem, IsOptionList, Item, item}
+use Rattle.wire_tcp_options.specs.TcpSeq.{number}
+use Rattle.wire_tcp_options.specs.declared.tcp.control.TcpControl.{TcpControl}
+use Rattle.wire_tcp_options.specs.declared.tcp.control.TcpControl.TheVariants as control
 use Rattle.c_structs.proofs.UdpKept.{pair}
 use Rattle.c_structs.specs.TcpKept.{HasStamp, IsAck, IsPlain}
 

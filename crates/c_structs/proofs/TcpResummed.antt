@@ -8,9 +8,9 @@ use Rattle.wire_checksum.proofs.Updated.{stays_computed}
 use Rattle.wire_checksum.proofs.WordLists.{sum-words-append, sum-words-split}
 use Rattle.wire_checksum.specs.PseudoHeader.{with_pseudo_header}
 use Rattle.wire_checksum.specs.WordSum.{residue, words}
-use Rattle.wire_ends.specs.IpAddress.{address_bytes}
-use Rattle.wire_ends.specs.declared.ip_address.IpAddress.{IpAddress}
-use Rattle.wire_ends.specs.declared.ip_protocol.IpProtocol.TheVariants as protocol
+use Rattle.wire_addr.specs.IpAddress.{address_bytes}
+use Rattle.wire_addr.specs.declared.ip_address.IpAddress.{IpAddress}
+use Rattle.wire_addr.specs.declared.ip_protocol.IpProtocol.TheVariants as protocol
 use Rattle.wire_field.specs.Field.{with_field}
 use Rattle.wire_field.specs.Filled as filled
 use Rattle.wire_tcp.proofs.Sums.{field-word}

@@ -10,8 +10,8 @@ use Rattle.wire_checksum.proofs.Updated.{stays_computed}
 use Rattle.wire_checksum.proofs.WordLists.{sum-words-append, sum-words-cons}
 use Rattle.wire_checksum.specs.PseudoHeader.{with_pseudo_header}
 use Rattle.wire_checksum.specs.WordSum.{residue, updated, words}
-use Rattle.wire_ends.specs.declared.ip_address.IpAddress.{IpAddress}
-use Rattle.wire_ends.specs.declared.ip_protocol.IpProtocol.TheVariants as protocol
+use Rattle.wire_addr.specs.declared.ip_address.IpAddress.{IpAddress}
+use Rattle.wire_addr.specs.declared.ip_protocol.IpProtocol.TheVariants as protocol
 use Rattle.wire_field.proofs.Cells.{cells-drop}
 use Rattle.wire_field.proofs.Spelled.{AreBytes}
 use Rattle.wire_field.specs.Field.{field, with_range}
@@ -19,9 +19,9 @@ use Rattle.wire_tcp.proofs.Sums.{field-word}
 use Rattle.wire_tcp.proofs.TcpComputed.{reads-with, tcp_of-Reads}
 use Rattle.wire_tcp.specs.Tcp.{Verifies, options_of, payload_of, segment_sum}
 use Rattle.wire_tcp.specs.TcpRepr.{TcpHeader, header_with, option_bytes, segment_with, tcp_of}
-use Rattle.wire_tcp_parts.proofs.Items.{IsItem_bare}
-use Rattle.wire_tcp_parts.specs.TcpItems.{IsOptionList, Item, item}
-use Rattle.wire_tcp_parts.specs.declared.tcp.control.TcpControl.{TcpControl}
+use Rattle.wire_tcp_options.proofs.Items.{IsItem_bare}
+use Rattle.wire_tcp_options.specs.TcpItems.{IsOptionList, Item, item}
+use Rattle.wire_tcp_options.specs.declared.tcp.control.TcpControl.{TcpControl}
 use Rattle.c_structs.proofs.TcpKept.{HasAck, IsItem-stamp, acked, control-of, eight, header_bytes-read, only_checksum, stamp-bytes}
 use Rattle.c_structs.specs.TcpKept.{HasPaddedStamp, IsPlain, IsSound, with_stamp_first}
 

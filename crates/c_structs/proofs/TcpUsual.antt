@@ -1,15 +1,15 @@
 -- TCP segments that parse with no option or a timestamp.
 use Rattle.std.proofs.Common.{◌≡◌, ◌≤◌, ◌⊎◌, inl, inr, false, List, ℕ, [], ◌∷◌, Some, arith, length}
 use Rattle.ip_wire.specs.TcpRepr.{tcp_of}
-use Rattle.wire_ends.specs.declared.ip_address.IpAddress.{IpAddress}
+use Rattle.wire_addr.specs.declared.ip_address.IpAddress.{IpAddress}
 use Rattle.wire_field.proofs.Spelled.{AreBytes}
 use Rattle.wire_field.specs.Field.{field}
 use Rattle.wire_tcp.proofs.TcpComputed.{reads-with, tcp_of-Reads}
 use Rattle.wire_tcp.specs.Tcp.{HasLengths, options_of}
 use Rattle.wire_tcp.specs.TcpRepr.{HasControl, TcpHeader, header_with}
-use Rattle.wire_tcp_parts.specs.TcpItems.{IsOptionList, Item, item}
-use Rattle.wire_tcp_parts.specs.declared.tcp.control.TcpControl.{TcpControl}
-use Rattle.wire_tcp_parts.specs.declared.tcp.control.TcpControl.TheVariants as control
+use Rattle.wire_tcp_options.specs.TcpItems.{IsOptionList, Item, item}
+use Rattle.wire_tcp_options.specs.declared.tcp.control.TcpControl.{TcpControl}
+use Rattle.wire_tcp_options.specs.declared.tcp.control.TcpControl.TheVariants as control
 use Rattle.c_structs.proofs.TcpKept.{bare-list, eight, stamp-list}
 use Rattle.c_structs.proofs.TcpStamped.{padded, padded-list}
 use Rattle.c_structs.specs.TcpKept.{IsUsual}

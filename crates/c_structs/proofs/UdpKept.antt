@@ -9,9 +9,9 @@ use Rattle.wire_checksum.proofs.Residues.{residue-bound, residue-quotient}
 use Rattle.wire_checksum.proofs.WordLists.{sum-words-append}
 use Rattle.wire_checksum.specs.PseudoHeader.{pseudo_header_bytes, with_pseudo_header}
 use Rattle.wire_checksum.specs.WordSum.{residue, words}
-use Rattle.wire_ends.specs.IpAddress.{address_bytes}
-use Rattle.wire_ends.specs.declared.ip_address.IpAddress.{IpAddress}
-use Rattle.wire_ends.specs.declared.ip_protocol.IpProtocol.TheVariants as protocol
+use Rattle.wire_addr.specs.IpAddress.{address_bytes}
+use Rattle.wire_addr.specs.declared.ip_address.IpAddress.{IpAddress}
+use Rattle.wire_addr.specs.declared.ip_protocol.IpProtocol.TheVariants as protocol
 use Rattle.wire_field.proofs.Cells.{cells-drop}
 use Rattle.wire_field.proofs.Spelled.{AreBytes}
 use Rattle.wire_field.specs.Field.{field}

@@ -2,12 +2,12 @@
 -- Pinned by: `worked/link`, `judge`
 use Rattle.std.specs.Prelude.{ℕ, ◌-◌, nat_lt, if◌then◌else◌, List, drop, length, slice_range, Result, Ok, Err}
 use Rattle.std.specs.Option.{option_map_or}
-use Rattle.app_link.specs.Link.{link_of, link_type_of}
-use Rattle.app_link.specs.declared.link.Link.{Link}
-use Rattle.app_link.specs.declared.link.LinkFault.{LinkFault}
-use Rattle.app_link.specs.declared.link.LinkFault.TheVariants as fault
-use Rattle.app_link.specs.declared.link_type.LinkType.{LinkType}
-use Rattle.app_link.specs.declared.link_type.LinkType.TheVariants as kind
+use Rattle.wire_link.specs.Link.{link_of, link_type_of}
+use Rattle.wire_link.specs.declared.link.Link.{Link}
+use Rattle.wire_link.specs.declared.link.LinkFault.{LinkFault}
+use Rattle.wire_link.specs.declared.link.LinkFault.TheVariants as fault
+use Rattle.wire_link.specs.declared.link_type.LinkType.{LinkType}
+use Rattle.wire_link.specs.declared.link_type.LinkType.TheVariants as kind
 use Rattle.ip_wire.specs.Ethernet.{protocol_of}
 use Rattle.ip_wire.specs.Types.{EthernetProtocol}
 use Rattle.c_structs.specs.Captured.{cut_carried, cut_header}

@@ -18,7 +18,11 @@ use crate::frame_fields::FRAGMENT_HEADER_LEN;
 use crate::icmp_fields::is_icmp;
 use crate::types::FrameFields;
 use crate::verdicts::cut_udp_verdict;
-use ip_wire::{ChecksumCapabilities, ETHERNET_HEADER_LEN, EthernetFrame, EthernetProtocol, IPV4_HEADER_LEN, IPV6_HEADER_LEN, IpAddress, IpProtocol, Ipv4Packet, Ipv4Repr, Ipv6FragmentHeader, Ipv6Packet, Ipv6Repr, TCP_HEADER_LEN, TcpPacket, TcpRepr, UDP_HEADER_LEN, UdpPacket};
+use ip_wire::{
+    ChecksumCapabilities, ETHERNET_HEADER_LEN, EthernetFrame, EthernetProtocol, IPV4_HEADER_LEN,
+    IPV6_HEADER_LEN, IpAddress, IpProtocol, Ipv4Packet, Ipv4Repr, Ipv6FragmentHeader, Ipv6Packet,
+    Ipv6Repr, TCP_HEADER_LEN, TcpPacket, TcpRepr, UDP_HEADER_LEN, UdpPacket,
+};
 use wire_icmp::{ICMP_HEADER_LEN, IcmpPacket};
 
 impl FrameFields {

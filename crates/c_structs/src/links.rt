@@ -1,15 +1,15 @@
 //! Link-layer headers, and the packets after them, in the structs of C.
 
 ghost use Rattle.std.specs.Prelude.{◌≡◌, ◌≤◌, ◌+◌, length, pos};
-ghost use Rattle.app_link.specs.Link.{header_len};
+ghost use Rattle.wire_link.specs.Link.{header_len};
 ghost use Rattle.ip_wire.specs.Ethernet.{protocol_of};
 ghost use Rattle.c_structs.specs.Links.{carried_by, ethernet_in, link_or, link_reason, linked_by, linked_of, rejected_link, with_linked};
 
 use crate::codes::Reason;
 use crate::types::{Ethernet, FrameFields};
-use app_link::{Link, LinkFault, LinkType};
 use ip_wire::EthernetProtocol;
 use wire_field::array_at;
+use wire_link::{Link, LinkFault, LinkType};
 
 /// Stores the link-layer header that captured bytes begin with, and returns 0. Returns why there is none, and
 /// stores nothing then.

@@ -4,14 +4,14 @@ ghost use Rattle.std.specs.Prelude.{◌≡◌, ◌+◌, ◌-◌, ◌*◌, ◌≤
 ghost use Rattle.byteorder.specs.Endian.{big_bytes};
 ghost use Rattle.ip_wire.specs.Field.{with_range};
 ghost use Rattle.ip_wire.specs.TcpRepr.{option_bytes, sack_items, segment_size_items, timestamp_items, window_scale_items};
-ghost use Rattle.wire_tcp_parts.specs.TcpItems.{texts};
-ghost use Rattle.wire_tcp_parts.specs.TcpOption.{IsEmittable, option_len, option_text};
+ghost use Rattle.wire_tcp_options.specs.TcpItems.{texts};
+ghost use Rattle.wire_tcp_options.specs.TcpOption.{IsEmittable, option_len, option_text};
 ghost use Rattle.c_structs.specs.Headers.{edges, options_header_len, options_value, where_set};
 
 use crate::types::{SackRange, TcpOptions};
 use byteorder::{ByteOrder, NetworkEndian};
 use ip_wire::{TCP_HEADER_LEN, TcpOption, TcpTimestampRepr};
-use wire_tcp_parts::write_option;
+use wire_tcp_options::write_option;
 
 // The kind of the option with SACK ranges.
 const SACK_RANGES: u8 = 5;

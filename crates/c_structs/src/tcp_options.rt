@@ -11,7 +11,7 @@ use crate::tcp_kept::{has_padded_stamp, has_stamp};
 use crate::types::{SackRange, TcpOptions};
 use byteorder::{ByteOrder, NetworkEndian};
 use ip_wire::{TcpOptionSummary, TcpPacket};
-use wire_tcp_parts::summarize;
+use wire_tcp_options::summarize;
 
 // The largest window scale (RFC 7323, section 2.3).
 const MAX_WINDOW_SCALE: u8 = 14;

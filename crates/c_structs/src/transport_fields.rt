@@ -13,7 +13,10 @@ use crate::icmp_fields::is_icmp;
 use crate::tcp_kept;
 use crate::types::FrameFields;
 use crate::verdicts::{tcp_verdict, udp_verdict};
-use ip_wire::{ChecksumCapabilities, IpAddress, IpProtocol, TCP_HEADER_LEN, TcpPacket, TcpRepr, UDP_HEADER_LEN, UdpPacket, UdpRepr};
+use ip_wire::{
+    ChecksumCapabilities, IpAddress, IpProtocol, TCP_HEADER_LEN, TcpPacket, TcpRepr,
+    UDP_HEADER_LEN, UdpPacket, UdpRepr,
+};
 use wire_icmp::ICMP_HEADER_LEN;
 
 impl FrameFields {

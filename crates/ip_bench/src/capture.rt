@@ -4,7 +4,7 @@ use crate::derived::Frames;
 use crate::digest::Digest;
 use crate::frames::{Kind, ROOM, pool};
 use crate::random::Random;
-use c_structs::{FrameFields, rebuild_frame};
+use c_structs::{Endpoint, FrameFields, rebuild_frame};
 use std::alloc::{AllocError, Global};
 
 /// Reads and rebuilds this many frames. Of one of four rebuilt frames the digest has all bytes, of the others the

@@ -5,7 +5,7 @@ use Rattle.ip_wire.proofs.IpLayer.{packet_payload-written, reads_packet}
 use Rattle.ip_wire.specs.Frame.{ReadsCarried, ReadsFrame, ReadsTransport, Transport, datagram, packet, segment, type_of, type_of_version}
 use Rattle.net_base.specs.Checksum.{verifies}
 use Rattle.net_base.specs.declared.ChecksumCapabilities.{ChecksumCapabilities}
-use Rattle.wire_ends.specs.IpAddress.{address_bytes}
+use Rattle.wire_addr.specs.IpAddress.{address_bytes}
 use Rattle.wire_ip.proofs.IpReadsBack.{IsInRange}
 use Rattle.wire_tcp.proofs.TcpReadsBack as tcp
 use Rattle.wire_tcp.specs.TcpRepr as tcp_header
@@ -13,9 +13,9 @@ use Rattle.wire_tcp.specs.TcpRepr.{TcpHeader}
 use Rattle.wire_udp.proofs.UdpReadsBack as udp
 use Rattle.wire_udp.specs.Udp as udp_header
 use Rattle.ip_wire.specs.Types.{EthernetRepr, IpRepr, IpVersion, Ipv4, Ipv6, UdpRepr}
-use Rattle.wire_ends.specs.declared.IpVersion.TheVariants as version
+use Rattle.wire_addr.specs.declared.IpVersion.TheVariants as version
 use Rattle.wire_ip.specs.Ip.{bytes_of, dst_addr_of, next_header_of, normal, payload_len_of, src_addr_of, version_of}
-use Rattle.wire_ends.specs.Protocol.{number_of, protocol_of}
+use Rattle.wire_addr.specs.Protocol.{number_of, protocol_of}
 use Rattle.wire_ethernet.proofs.EthernetEmitted as ethernet_header
 use Rattle.wire_ethernet.specs.Ethernet as ethernet
 

@@ -8,7 +8,7 @@ use Rattle.net_base.specs.Checksum.{verifies}
 use Rattle.net_base.specs.declared.ChecksumCapabilities.{ChecksumCapabilities}
 use Rattle.wire_arp.proofs.ArpComputed.{arp_of-Reads}
 use Rattle.wire_arp.specs.Arp.{arp_of}
-use Rattle.wire_ends.specs.declared.IpProtocol.TheVariants as protocol
+use Rattle.wire_addr.specs.declared.IpProtocol.TheVariants as protocol
 use Rattle.wire_ethernet.proofs.EthernetComputed.{ethernet_of-Reads}
 use Rattle.wire_ethernet.specs.Ethernet.{ethernet_of}
 use Rattle.wire_ethernet.specs.declared.EthernetProtocol.TheVariants as ethertype

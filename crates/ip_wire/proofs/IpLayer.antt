@@ -8,10 +8,10 @@ use Rattle.ip_wire.proofs.UdpLayer.{AreWords}
 use Rattle.ip_wire.specs.Frame.{ReadsPacket, all_checked, header_by, packet_payload, type_of, type_of_version}
 use Rattle.net_base.specs.Checksum.{verifies}
 use Rattle.net_base.specs.declared.ChecksumCapabilities.{ChecksumCapabilities}
-use Rattle.wire_ends.proofs.Protocols.{number_of-protocol_of}
-use Rattle.wire_ends.specs.Protocol.{number_of}
+use Rattle.wire_addr.proofs.Protocols.{number_of-protocol_of}
+use Rattle.wire_addr.specs.Protocol.{number_of}
 use Rattle.ip_wire.specs.Types.{EthernetProtocol, IpRepr, Ipv4, Ipv4Repr, Ipv6, Ipv6Repr}
-use Rattle.wire_ends.specs.declared.IpVersion.TheVariants as version
+use Rattle.wire_addr.specs.declared.IpVersion.TheVariants as version
 use Rattle.wire_field.proofs.ByteLists.{AreBytes-append, AreBytes-cons, AreBytes-part, AreBytes-slice_range}
 use Rattle.wire_field.proofs.Cells.{cells-all}
 use Rattle.wire_field.proofs.Spelled.{AreBytes}

@@ -13,7 +13,7 @@ use Rattle.ip_wire.specs.declared.frame.carried.Carried as value
 use Rattle.ip_wire.specs.declared.frame.packet.Packet.{Packet}
 use Rattle.ip_wire.specs.declared.frame.transport.Transport as inner
 use Rattle.net_base.specs.declared.ChecksumCapabilities.{ChecksumCapabilities}
-use Rattle.wire_ends.specs.IpVersion.{IsOfVersion}
+use Rattle.wire_addr.specs.IpVersion.{IsOfVersion}
 use Rattle.wire_field.proofs.Spelled.{AreBytes}
 use Rattle.wire_ip.specs.Ip.{version_of}
 

@@ -8,10 +8,10 @@ use Rattle.std.specs.Prelude.{replicate}
 use Rattle.ip_wire.proofs.Layers.{byte-lt}
 use Rattle.wire_field.proofs.ByteLists.{AreBytes-append, AreBytes-bytes_high_first, AreBytes-cons, AreBytes-tested}
 use Rattle.wire_field.proofs.Spelled.{AreBytes}
-use Rattle.wire_tcp_parts.proofs.Ranges.{length-range_bytes}
-use Rattle.wire_tcp_parts.specs.TcpItems.{Item, item, text, texts}
-use Rattle.wire_tcp_parts.specs.TcpOption.{range_bytes}
-use Rattle.wire_tcp_parts.specs.declared.TcpTimestampRepr.{TcpTimestampRepr}
+use Rattle.wire_tcp_options.proofs.Ranges.{length-range_bytes}
+use Rattle.wire_tcp_options.specs.TcpItems.{Item, item, text, texts}
+use Rattle.wire_tcp_options.specs.TcpOption.{range_bytes}
+use Rattle.wire_tcp_options.specs.declared.TcpTimestampRepr.{TcpTimestampRepr}
 use Rattle.wire_tcp.specs.TcpRepr.{IsInRange, TcpHeader, header_len_of, items_of, option_bytes, sack_items, segment_size_items, segment_with, timestamp_items, window_scale_items}
 
 none : AreBytes []

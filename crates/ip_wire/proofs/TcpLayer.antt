@@ -3,8 +3,8 @@ use Rattle.std.proofs.Common.{ℕ, ◌≡◌, ◌<◌, ◌+◌, ◌-◌, ◌⊎�
 use Rattle.ip_wire.proofs.TcpBytes.{AreBytes-segment}
 use Rattle.ip_wire.proofs.UdpLayer.{AreWords}
 use Rattle.ip_wire.specs.Frame.{rebuilt_transport_by}
-use Rattle.wire_ends.specs.declared.IpAddress.{IpAddress}
-use Rattle.wire_ends.specs.declared.IpProtocol.TheVariants as protocol
+use Rattle.wire_addr.specs.declared.IpAddress.{IpAddress}
+use Rattle.wire_addr.specs.declared.IpProtocol.TheVariants as protocol
 use Rattle.wire_field.proofs.ByteLists.{AreBytes-drop}
 use Rattle.wire_field.proofs.Spelled.{AreBytes}
 use Rattle.wire_tcp.specs.Tcp.{header_len, payload_of, segment_sum}

@@ -3,8 +3,8 @@ use Rattle.std.proofs.Common.{ℕ, ◌≡◌, ◌-◌, ◌%◌, ◌∙◌, true,
 use Rattle.ip_wire.proofs.Layers.{byte-lt, length-part}
 use Rattle.ip_wire.specs.Frame.{rebuilt_transport_by}
 use Rattle.ip_wire.specs.Types.{IpAddress, UdpRepr}
-use Rattle.wire_ends.specs.IpAddress.{address_bytes}
-use Rattle.wire_ends.specs.declared.IpProtocol.TheVariants as protocol
+use Rattle.wire_addr.specs.IpAddress.{address_bytes}
+use Rattle.wire_addr.specs.declared.IpProtocol.TheVariants as protocol
 use Rattle.wire_field.proofs.ByteLists.{AreBytes-cons, AreBytes-part}
 use Rattle.wire_field.proofs.Spelled.{AreBytes}
 use Rattle.wire_udp.proofs.UdpReadsBack.{IsInRange, reads_bytes_of}

@@ -11,8 +11,8 @@ use Rattle.net_base.specs.Checksum.{all_are}
 use Rattle.net_base.specs.declared.Checksum.TheVariants as when
 use Rattle.net_base.specs.declared.ChecksumCapabilities.{ChecksumCapabilities}
 use Rattle.wire_checksum.specs.WordSum.{residue, words}
-use Rattle.wire_ends.specs.declared.IpProtocol.TheVariants as protocol
-use Rattle.wire_ends.specs.declared.IpVersion.TheVariants as version
+use Rattle.wire_addr.specs.declared.IpProtocol.TheVariants as protocol
+use Rattle.wire_addr.specs.declared.IpVersion.TheVariants as version
 use Rattle.wire_ethernet.specs.declared.EthernetProtocol.TheVariants as ethertype
 use Rattle.wire_tcp.specs.declared.TcpRepr.{TcpRepr}
 

@@ -14,7 +14,7 @@ use Rattle.net_base.specs.declared.ChecksumCapabilities.{ChecksumCapabilities}
 use Rattle.ip_wire.specs.Types.{ArpRepr, EthernetAddress, EthernetProtocol, EthernetRepr, IpProtocol, IpRepr, Ipv4, Ipv4Repr, Ipv6}
 use Rattle.wire_arp.specs.Arp as arp
 use Rattle.wire_arp.specs.ArpText as arp_text
-use Rattle.wire_ends.specs.declared.IpVersion.TheVariants as version
+use Rattle.wire_addr.specs.declared.IpVersion.TheVariants as version
 use Rattle.wire_ethernet.specs.Ethernet as ethernet
 use Rattle.wire_ethernet.specs.declared.EthernetProtocol.TheVariants as ethertype
 use Rattle.wire_ip.specs.Ip as ip

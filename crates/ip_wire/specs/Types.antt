@@ -2,9 +2,9 @@
 pub use Rattle.net_base.specs.declared.Error.{Error}
 pub use Rattle.wire_addr.specs.declared.EthernetAddress.{EthernetAddress}
 pub use Rattle.wire_arp.specs.declared.ArpRepr.{ArpRepr}
-pub use Rattle.wire_ends.specs.declared.IpAddress.{IpAddress}
-pub use Rattle.wire_ends.specs.declared.IpProtocol.{IpProtocol}
-pub use Rattle.wire_ends.specs.declared.IpVersion.{IpVersion}
+pub use Rattle.wire_addr.specs.declared.IpAddress.{IpAddress}
+pub use Rattle.wire_addr.specs.declared.IpProtocol.{IpProtocol}
+pub use Rattle.wire_addr.specs.declared.IpVersion.{IpVersion}
 pub use Rattle.wire_ethernet.specs.declared.EthernetProtocol.{EthernetProtocol}
 pub use Rattle.wire_ethernet.specs.declared.EthernetRepr.{EthernetRepr}
 pub use Rattle.wire_ip.specs.declared.IpRepr.{IpRepr}

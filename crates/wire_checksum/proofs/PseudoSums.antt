@@ -5,10 +5,10 @@ use Rattle.wire_checksum.specs.PseudoHeader.{pseudo_header_bytes, with_pseudo_he
 use Rattle.wire_checksum.specs.WordSum.{residue, sum_of, sum_of_bytes, words}
 use Rattle.wire_checksum.proofs.Residues.{residue-add, residue-join, residue-same}
 use Rattle.wire_checksum.proofs.WordLists.{sum-words-append}
-use Rattle.wire_ends.specs.IpAddress.{address_bytes}
-use Rattle.wire_ends.specs.Protocol.{number_of}
-use Rattle.wire_ends.specs.declared.ip_address.IpAddress.{IpAddress}
-use Rattle.wire_ends.specs.declared.ip_protocol.IpProtocol.{IpProtocol}
+use Rattle.wire_addr.specs.IpAddress.{address_bytes}
+use Rattle.wire_addr.specs.Protocol.{number_of}
+use Rattle.wire_addr.specs.declared.ip_address.IpAddress.{IpAddress}
+use Rattle.wire_addr.specs.declared.ip_protocol.IpProtocol.{IpProtocol}
 use Rattle.std.proofs.lemmas.Grind.{common_steps}
 use Rattle.std.proofs.lemmas.Bool.Decides.{nat_tests}
 

@@ -2,10 +2,10 @@
 -- Pinned by: `wire/checksum`, `calls/udp`, `calls/tcp`
 use Rattle.std.specs.Prelude.{ℕ, ◌++◌, List, ◌∷◌, length}
 use Rattle.byteorder.specs.Endian.{big_bytes}
-use Rattle.wire_ends.specs.declared.ip_address.IpAddress.{IpAddress}
-use Rattle.wire_ends.specs.IpAddress.{address_bytes}
-use Rattle.wire_ends.specs.Protocol.{number_of}
-use Rattle.wire_ends.specs.declared.ip_protocol.IpProtocol.{IpProtocol}
+use Rattle.wire_addr.specs.declared.ip_address.IpAddress.{IpAddress}
+use Rattle.wire_addr.specs.IpAddress.{address_bytes}
+use Rattle.wire_addr.specs.Protocol.{number_of}
+use Rattle.wire_addr.specs.declared.ip_protocol.IpProtocol.{IpProtocol}
 
 -- the pseudo-header: source, destination, a 16-bit word with the protocol number in its low byte, the low 16 bits of
 -- the length (RFC 768; RFC 8200, section 8.1)

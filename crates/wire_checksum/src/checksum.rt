@@ -2,13 +2,12 @@
 //! sum of 16-bit words.
 
 ghost use Rattle.std.specs.Prelude.{◌≡◌, ◌+◌, ◌-◌, ◌*◌, ◌%◌, ◌<◌, length, ℕ};
-ghost use Rattle.wire_ends.specs.IpAddress.{address_bytes, version_of};
+ghost use Rattle.wire_addr.specs.IpAddress.{address_bytes, version_of};
 ghost use Rattle.wire_checksum.specs.PseudoHeader.{pseudo_header_bytes, with_pseudo_header};
 ghost use Rattle.wire_checksum.specs.WordSum.{residue, sum_of, sum_of_bytes, updated};
 
 use crate::totals::{around, finish, sum_here, total, total_of_words};
-use wire_addr::{Ipv4Address, Ipv6Address};
-use wire_ends::{IpAddress, IpProtocol};
+use wire_addr::{IpAddress, IpProtocol, Ipv4Address, Ipv6Address};
 
 /// Adds numbers, such as the sums of the parts of a packet. The result is 0 if all numbers are 0.
 /// Else it is the number in 1 to 65535 that is congruent to their plain sum modulo 65535.

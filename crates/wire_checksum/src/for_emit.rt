@@ -3,13 +3,13 @@
 
 ghost use Rattle.std.specs.Prelude.{◌≡◌, ◌%◌, ◌≤◌, ◌++◌, flat_map, length};
 ghost use Rattle.byteorder.specs.Endian.{big_bytes};
-ghost use Rattle.wire_ends.specs.IpAddress.{version_of};
+ghost use Rattle.wire_addr.specs.IpAddress.{version_of};
 ghost use Rattle.wire_checksum.specs.PseudoHeader.{with_pseudo_header};
 ghost use Rattle.wire_checksum.specs.WordSum.{sum_of_bytes};
 
 use crate::checksum::pseudo_header_total;
 use crate::totals::{around, finish, reduce, total, total_of_words};
-use wire_ends::{IpAddress, IpProtocol};
+use wire_addr::{IpAddress, IpProtocol};
 
 /// The sum of a header of 20 bytes, such as an IPv4 header without options. It equals
 /// `checksum::data`.

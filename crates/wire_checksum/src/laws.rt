@@ -6,8 +6,7 @@ ghost use Rattle.wire_checksum.specs.WordSum.{IsSum, sum_of, sum_of_bytes, updat
 ghost use Rattle.wire_field.specs.Field.{field, with_field};
 
 use crate::checksum;
-use wire_addr::{Ipv4Address, Ipv6Address};
-use wire_ends::{IpAddress, IpProtocol};
+use wire_addr::{IpAddress, IpProtocol, Ipv4Address, Ipv6Address};
 
 /// `IsSum` holds of exactly one number, and `sum_of_bytes` computes it.
 #[tactic(auto, using(crate::proofs::Residues::IsSum_residue, crate::proofs::Residues::residue_IsSum))]

@@ -4,7 +4,7 @@ use Rattle.std.proofs.lemmas.Bool.Decides.{nat_tests}
 use Rattle.std.specs.Result.{result_ok}
 use Rattle.wire_field.proofs.Readings.{answer_computed}
 use Rattle.net_base.specs.declared.error.Error.{Error}
-use Rattle.wire_ends.specs.declared.ip_address.IpAddress.{IpAddress}
+use Rattle.wire_addr.specs.declared.ip_address.IpAddress.{IpAddress}
 use Rattle.wire_icmp.specs.Icmp.{Reads, icmp_of, payload_of}
 use Rattle.wire_icmp.specs.declared.icmp.repr.IcmpRepr.{IcmpRepr}
 

@@ -6,8 +6,8 @@ use Rattle.wire_field.specs.Field.{field}
 use Rattle.wire_checksum.proofs.Residues.{residue-complement}
 use Rattle.wire_checksum.proofs.WordLists.{sum-words-append}
 use Rattle.wire_checksum.specs.WordSum.{residue, words}
-use Rattle.wire_ends.specs.IpAddress.{version_of}
-use Rattle.wire_ends.specs.declared.ip_address.IpAddress.{IpAddress}
+use Rattle.wire_addr.specs.IpAddress.{version_of}
+use Rattle.wire_addr.specs.declared.ip_address.IpAddress.{IpAddress}
 use Rattle.wire_icmp.proofs.IcmpSums.{AreWhole, total, total-parts}
 use Rattle.wire_icmp.specs.Icmp.{Reads, Verifies, emitted, header_bytes, message_of, message_with}
 use Rattle.wire_icmp.specs.declared.icmp.header.IcmpHeader.{IcmpHeader}

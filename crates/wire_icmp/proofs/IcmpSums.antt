@@ -9,10 +9,10 @@ use Rattle.wire_checksum.proofs.PseudoSums.{pseudo_header_total, sum-with_pseudo
 use Rattle.wire_checksum.proofs.Residues.{residue-bound, residue-complement, residue-quotient, residue-same, residue-small}
 use Rattle.wire_checksum.proofs.Updated.{full, updated-small}
 use Rattle.wire_checksum.specs.WordSum.{residue, updated, words}
-use Rattle.wire_ends.specs.IpAddress.{address_bytes}
-use Rattle.wire_ends.specs.declared.ip_address.IpAddress.{IpAddress}
-use Rattle.wire_ends.specs.declared.ip_address.IpAddress.TheVariants as address
-use Rattle.wire_ends.specs.declared.ip_protocol.IpProtocol.TheVariants as protocol
+use Rattle.wire_addr.specs.IpAddress.{address_bytes}
+use Rattle.wire_addr.specs.declared.ip_address.IpAddress.{IpAddress}
+use Rattle.wire_addr.specs.declared.ip_address.IpAddress.TheVariants as address
+use Rattle.wire_addr.specs.declared.ip_protocol.IpProtocol.TheVariants as protocol
 use Rattle.wire_icmp.specs.Icmp.{Verifies, covered, not_zero, with_checksum, with_updated_checksum}
 
 -- the bytes of both addresses are whole words

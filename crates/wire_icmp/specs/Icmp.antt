@@ -5,13 +5,13 @@ use Rattle.std.specs.Borrow.{Bor, MutBor}
 use Rattle.byteorder.specs.Endian.{big_bytes}
 use Rattle.net_base.specs.declared.checksum.Checksum.{Checksum}
 use Rattle.net_base.specs.declared.checksum.ChecksumCapabilities.{ChecksumCapabilities}
-use Rattle.wire_ends.specs.IpAddress.{version_of}
-use Rattle.wire_ends.specs.declared.ip_address.IpAddress.{IpAddress}
-use Rattle.wire_ends.specs.declared.ip_address.IpAddress.TheVariants as address
-use Rattle.wire_ends.specs.declared.ip_protocol.IpProtocol.{IpProtocol}
-use Rattle.wire_ends.specs.declared.ip_protocol.IpProtocol.TheVariants as protocol
-use Rattle.wire_ends.specs.declared.ip_version.IpVersion.{IpVersion}
-use Rattle.wire_ends.specs.declared.ip_version.IpVersion.TheVariants as version
+use Rattle.wire_addr.specs.IpAddress.{version_of}
+use Rattle.wire_addr.specs.declared.ip_address.IpAddress.{IpAddress}
+use Rattle.wire_addr.specs.declared.ip_address.IpAddress.TheVariants as address
+use Rattle.wire_addr.specs.declared.ip_protocol.IpProtocol.{IpProtocol}
+use Rattle.wire_addr.specs.declared.ip_protocol.IpProtocol.TheVariants as protocol
+use Rattle.wire_addr.specs.declared.ip_version.IpVersion.{IpVersion}
+use Rattle.wire_addr.specs.declared.ip_version.IpVersion.TheVariants as version
 use Rattle.wire_field.specs.Field.{field, with_field}
 use Rattle.wire_field.specs.Borrow.{Holds}
 use Rattle.wire_checksum.specs.PseudoHeader.{with_pseudo_header}

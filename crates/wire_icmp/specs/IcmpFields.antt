@@ -1,7 +1,7 @@
 -- The fields of an ICMP header in the order of RFC 792's diagrams, and which of them each call reads or writes.
 use Rattle.std.specs.Prelude.{ℕ, ◌-◌, List, [], ◌∷◌}
 use Rattle.wire_checksum.specs.WordSum.{updated}
-use Rattle.wire_ends.specs.declared.ip_address.IpAddress.{IpAddress}
+use Rattle.wire_addr.specs.declared.ip_address.IpAddress.{IpAddress}
 use Rattle.wire_field.specs.Diagram.{nth_field, with_nth}
 use Rattle.wire_icmp.specs.Icmp.{message_sum, not_zero}
 use Rattle.wire_icmp.specs.declared.laws.IcmpGetting.{IcmpGetting}

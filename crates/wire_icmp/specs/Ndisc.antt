@@ -6,8 +6,8 @@ use Rattle.wire_addr.specs.Block.{Block, IsIn}
 use Rattle.wire_addr.specs.Class.{ipv6_multicast, ipv6_solicited_node, ipv6_unspecified}
 use Rattle.wire_addr.specs.Prefix.{bit_of}
 use Rattle.wire_addr.specs.declared.ethernet_address.EthernetAddress.{EthernetAddress}
-use Rattle.wire_ends.specs.declared.ip_address.IpAddress.{IpAddress}
-use Rattle.wire_ends.specs.declared.ip_address.IpAddress.TheVariants as address
+use Rattle.wire_addr.specs.declared.ip_address.IpAddress.{IpAddress}
+use Rattle.wire_addr.specs.declared.ip_address.IpAddress.TheVariants as address
 use Rattle.wire_field.specs.Field.{field}
 use Rattle.wire_icmp.specs.Icmp.{Verifies, emitted, msg_code_of, msg_type_of, verifies}
 use Rattle.wire_icmp.specs.declared.icmp.header.IcmpHeader.{IcmpHeader}

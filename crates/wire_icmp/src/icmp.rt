@@ -3,7 +3,7 @@
 
 ghost use Rattle.std.specs.Prelude.{◌≡◌};
 ghost use Rattle.net_base.specs.declared.checksum.Checksum.{Checksum};
-ghost use Rattle.wire_ends.specs.IpAddress.{version_of};
+ghost use Rattle.wire_addr.specs.IpAddress.{version_of};
 ghost use Rattle.wire_icmp.specs.Icmp.{choice_of, message_sum, protocol_of};
 
 mod header;
@@ -17,8 +17,8 @@ use net_base::{Checksum, ChecksumCapabilities};
 pub use packet::{IcmpPacket, IcmpPacketMut};
 pub use reason::{Exceeded, Unreachable};
 pub use repr::IcmpRepr;
+use wire_addr::{IpAddress, IpProtocol, IpVersion};
 use wire_checksum::checksum;
-use wire_ends::{IpAddress, IpProtocol, IpVersion};
 
 /// The length of a header in bytes.
 pub const ICMP_HEADER_LEN: usize = 8;

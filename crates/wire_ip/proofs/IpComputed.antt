@@ -4,10 +4,10 @@ use Rattle.std.proofs.lemmas.Option.{option_and_then_some}
 use Rattle.std.specs.Prelude.{IsErr, option_map}
 use Rattle.std.specs.Result.{result_ok}
 use Rattle.net_base.specs.declared.error.Error.{Error}
-use Rattle.wire_ends.proofs.Versions.{IsOfVersion-packet_version, packet_version-IsOfVersion}
-use Rattle.wire_ends.specs.IpVersion.{packet_version}
-use Rattle.wire_ends.specs.declared.ip_version.IpVersion.{IpVersion}
-use Rattle.wire_ends.specs.declared.ip_version.IpVersion.TheVariants as version
+use Rattle.wire_addr.proofs.Versions.{IsOfVersion-packet_version, packet_version-IsOfVersion}
+use Rattle.wire_addr.specs.IpVersion.{packet_version}
+use Rattle.wire_addr.specs.declared.ip_version.IpVersion.{IpVersion}
+use Rattle.wire_addr.specs.declared.ip_version.IpVersion.TheVariants as version
 use Rattle.wire_ipv4.proofs.Ipv4Computed.{ipv4_of-Reads}
 use Rattle.wire_ipv4.specs.Ipv4.{ipv4_of}
 use Rattle.wire_ipv4.specs.declared.ipv4.repr.Ipv4Repr.{Ipv4Repr}

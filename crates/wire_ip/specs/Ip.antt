@@ -1,13 +1,13 @@
 -- IP headers of either version (RFC 791, section 3.1; RFC 8200, section 3).
 -- Pinned by: `wire/ip`, `calls/worked_headers`, `calls/header`, `cases/shapes`, `wire/frame`
 use Rattle.std.specs.Prelude.{ℕ, Bool, Option, List, option_and_then, option_map, slice_range}
-use Rattle.wire_ends.specs.IpVersion.{IsOfVersion, packet_version}
-use Rattle.wire_ends.specs.declared.ip_address.IpAddress.{IpAddress}
-use Rattle.wire_ends.specs.declared.ip_address.IpAddress.TheVariants as address
-use Rattle.wire_ends.specs.declared.ip_version.IpVersion.{IpVersion}
-use Rattle.wire_ends.specs.declared.ip_version.IpVersion.TheVariants as version
+use Rattle.wire_addr.specs.IpVersion.{IsOfVersion, packet_version}
+use Rattle.wire_addr.specs.declared.ip_address.IpAddress.{IpAddress}
+use Rattle.wire_addr.specs.declared.ip_address.IpAddress.TheVariants as address
+use Rattle.wire_addr.specs.declared.ip_version.IpVersion.{IpVersion}
+use Rattle.wire_addr.specs.declared.ip_version.IpVersion.TheVariants as version
 use Rattle.wire_ipv4.specs.Ipv4 as ipv4
-use Rattle.wire_ends.specs.declared.ip_protocol.IpProtocol.{IpProtocol}
+use Rattle.wire_addr.specs.declared.ip_protocol.IpProtocol.{IpProtocol}
 use Rattle.wire_ipv6.specs.Ipv6 as ipv6
 use Rattle.wire_ip.specs.declared.ip.packet.IpPacket.{IpPacket}
 use Rattle.wire_ip.specs.declared.ip.repr.IpRepr.{IpRepr}

@@ -3,8 +3,8 @@
 
 ghost use Rattle.std.specs.Prelude.{◌≡◌, ◌↔◌, ◌+◌, ◌++◌, ◌≤◌, IsTrue, None, Some, length, option_map};
 ghost use Rattle.std.specs.Result.{result_ok};
-ghost use Rattle.wire_ends.specs.IpVersion.{packet_version};
-ghost use Rattle.wire_ends.specs.declared.ip_version.IpVersion.TheVariants as version;
+ghost use Rattle.wire_addr.specs.IpVersion.{packet_version};
+ghost use Rattle.wire_addr.specs.declared.ip_version.IpVersion.TheVariants as version;
 ghost use Rattle.wire_ipv4.specs.Ipv4 as v4;
 ghost use Rattle.wire_ipv6.specs.Ipv6 as v6;
 ghost use Rattle.wire_ip.specs.Ip.{Reads, ReadsHeader, bytes_of, header_len_of, ip_of, max_payload_len, normal, packet_bytes, payload_len_of, payload_of, version_of};
@@ -12,7 +12,7 @@ ghost use Rattle.wire_ip.specs.declared.ip.repr.IpRepr.TheVariants.{Ipv4, Ipv6};
 
 use crate::ip::{IpPacket, IpRepr};
 use net_base::{ChecksumCapabilities, Result};
-use wire_ends::IpVersion;
+use wire_addr::IpVersion;
 use wire_ipv4::{Ipv4Packet, Ipv4PacketMut, Ipv4Repr};
 use wire_ipv6::{Ipv6Packet, Ipv6PacketMut, Ipv6Repr};
 

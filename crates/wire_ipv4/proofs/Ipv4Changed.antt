@@ -7,7 +7,7 @@ use Rattle.wire_field.proofs.Spelled.{AreBytes}
 use Rattle.wire_field.proofs.Written.{field_with_field_other, length_with_field}
 use Rattle.wire_ipv4.proofs.Ipv4Computed.{Reads-is}
 use Rattle.wire_ipv4.specs.Ipv4.{HasChecksum, Reads, header_len, header_of, total_len}
-use Rattle.wire_ends.specs.Protocol.{protocol_of}
+use Rattle.wire_addr.specs.Protocol.{protocol_of}
 use Rattle.wire_ipv4.specs.declared.ipv4.repr.Ipv4Repr.{Ipv4Repr}
 
 -- the new bytes have the same version and lengths, and values that f makes of the old ones

@@ -5,8 +5,8 @@ use Rattle.wire_field.proofs.Readings.{if-Some}
 use Rattle.wire_field.specs.Field.{field}
 use Rattle.wire_ipv4.specs.Ipv4.{Reads, fragment_offset, header_of, ipv4_of, is_read}
 use Rattle.wire_ipv4.specs.Ipv4Text.{addresses_text, fields_text, fragments_text, header_fields_text, lengths_text, packet_text, value_text}
-use Rattle.wire_ends.specs.Protocol.{protocol_of}
-use Rattle.wire_ends.specs.declared.ip_protocol.IpProtocol.{IpProtocol}
+use Rattle.wire_addr.specs.Protocol.{protocol_of}
+use Rattle.wire_addr.specs.declared.ip_protocol.IpProtocol.{IpProtocol}
 use Rattle.wire_ipv4.specs.declared.ipv4.repr.Ipv4Repr.{Ipv4Repr}
 
 -- a value that is read is the computed one

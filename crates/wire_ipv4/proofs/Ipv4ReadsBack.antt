@@ -4,7 +4,7 @@ use Rattle.wire_field.specs.Field.{field}
 use Rattle.wire_field.proofs.Cells.{cells-all}
 use Rattle.wire_checksum.proofs.Residues.{residue-complement}
 use Rattle.wire_ipv4.specs.Ipv4.{Reads, bytes_of, header_with, normal, total_len}
-use Rattle.wire_ends.specs.Protocol.{number_of, protocol_of}
+use Rattle.wire_addr.specs.Protocol.{number_of, protocol_of}
 use Rattle.wire_checksum.specs.WordSum.{residue, sum_of_bytes, words}
 use Rattle.wire_ipv4.specs.declared.ipv4.repr.Ipv4Repr.{Ipv4Repr}
 

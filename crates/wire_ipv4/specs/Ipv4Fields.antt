@@ -5,7 +5,7 @@ use Rattle.wire_field.specs.Diagram.{flag, nth_field, with_nth}
 use Rattle.wire_field.specs.Field.{with_field}
 use Rattle.byteorder.specs.Endian.{big_bytes, big_number}
 use Rattle.wire_checksum.specs.WordSum.{sum_of_bytes, updated}
-use Rattle.wire_ends.specs.Protocol.{number_of}
+use Rattle.wire_addr.specs.Protocol.{number_of}
 use Rattle.wire_ipv4.specs.declared.laws.Ipv4Getting.{Ipv4Getting}
 use Rattle.wire_ipv4.specs.declared.laws.Ipv4Getting.TheVariants as get
 use Rattle.wire_ipv4.specs.declared.laws.Ipv4Setting.{Ipv4Setting}

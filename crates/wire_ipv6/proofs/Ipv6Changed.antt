@@ -5,7 +5,7 @@ use Rattle.wire_field.proofs.Following.{drop-with_field}
 use Rattle.wire_field.proofs.Cells.{cells, cells-all, cells-drop}
 use Rattle.wire_field.proofs.Spelled.{AreBytes}
 use Rattle.wire_field.proofs.Written.{field_with_field_other, length_with_field}
-use Rattle.wire_ends.specs.Protocol.{protocol_of}
+use Rattle.wire_addr.specs.Protocol.{protocol_of}
 use Rattle.wire_ipv6.proofs.Ipv6Computed.{Reads-is}
 use Rattle.wire_ipv6.specs.Ipv6.{Reads, header_of}
 use Rattle.wire_ipv6.specs.declared.ipv6.repr.Ipv6Repr.{Ipv6Repr}

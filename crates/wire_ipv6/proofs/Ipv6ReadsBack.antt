@@ -2,7 +2,7 @@
 use Rattle.std.proofs.Common.{ℕ, ◌≡◌, ◌≤◌, List, ◌++◌, length, refl, ap, arith}
 use Rattle.wire_field.specs.Field.{field}
 use Rattle.wire_field.proofs.Cells.{cells-all}
-use Rattle.wire_ends.specs.Protocol.{number_of, protocol_of}
+use Rattle.wire_addr.specs.Protocol.{number_of, protocol_of}
 use Rattle.wire_ipv6.proofs.Ipv6Emitted.{IsInRange}
 use Rattle.wire_ipv6.specs.Ipv6.{HasLengths, Reads, bytes_of, normal}
 use Rattle.wire_ipv6.specs.declared.ipv6.repr.Ipv6Repr.{Ipv6Repr}

@@ -1,7 +1,7 @@
 -- The fields of an IPv6 header in the order of RFC 8200's diagram, and which of them each call reads or writes.
 use Rattle.std.specs.Prelude.{ℕ, List, [], ◌∷◌}
 use Rattle.byteorder.specs.Endian.{big_number}
-use Rattle.wire_ends.specs.Protocol.{number_of}
+use Rattle.wire_addr.specs.Protocol.{number_of}
 use Rattle.wire_field.specs.Diagram.{nth_field, with_nth}
 use Rattle.wire_ipv6.specs.declared.laws.Ipv6Getting.{Ipv6Getting}
 use Rattle.wire_ipv6.specs.declared.laws.Ipv6Getting.TheVariants as get

@@ -5,7 +5,7 @@ use Rattle.std.specs.Option.{option_map_or}
 use Rattle.wire_addr.specs.Printed.{ipv6_text}
 use Rattle.wire_ipv6.specs.Ipv6.{ipv6_of}
 use Rattle.wire_ipv6.specs.declared.ipv6.repr.Ipv6Repr.{Ipv6Repr}
-use Rattle.wire_ends.specs.Protocol.{protocol_text}
+use Rattle.wire_addr.specs.Protocol.{protocol_text}
 
 -- the printed text of an IPv6 header's values
 unfoldable pub value_text : Ipv6Repr → List ℕ

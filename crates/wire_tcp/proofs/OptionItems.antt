@@ -3,9 +3,9 @@ use Rattle.std.proofs.Common.{ℕ, zero, suc, ◌≡◌, ◌≢◌, ◌↔◌, �
 use Rattle.std.specs.List.{AllByRecursion}
 use Rattle.std.specs.Option.{option_and_then, option_map}
 use Rattle.std.proofs.lemmas.Bool.{eqb-true, false_from_ne_true}
-use Rattle.wire_tcp_parts.specs.TcpItems.{IsItem, IsOptionList, IsTail, Item, first_item, text, texts}
-use Rattle.wire_tcp_parts.proofs.FirstItems.{Leads, Leads-first_item, first_item-Leads}
-use Rattle.wire_tcp_parts.proofs.OptionLists.{shorter, text_head}
+use Rattle.wire_tcp_options.specs.TcpItems.{IsItem, IsOptionList, IsTail, Item, first_item, text, texts}
+use Rattle.wire_tcp_options.proofs.FirstItems.{Leads, Leads-first_item, first_item-Leads}
+use Rattle.wire_tcp_options.proofs.OptionLists.{shorter, text_head}
 use Rattle.wire_tcp.specs.TcpRepr.{items_in, items_within}
 use Rattle.wire_field.proofs.Readings.{option_map-Some}
 use Rattle.std.proofs.lemmas.Grind.{common_steps}

@@ -8,9 +8,9 @@ use Rattle.std.proofs.lemmas.List.{length-take-le}
 use Rattle.std.proofs.Math.Dec.{eqb-suc-zero}
 use Rattle.std.proofs.lemmas.List.Sums.{sum_by-cons}
 use Rattle.byteorder.specs.Endian.{big_number}
-use Rattle.wire_ends.specs.declared.ip_address.IpAddress.{IpAddress}
+use Rattle.wire_addr.specs.declared.ip_address.IpAddress.{IpAddress}
 use Rattle.wire_tcp.specs.Tcp.{header_len, options_of, payload_of}
-use Rattle.wire_tcp_parts.specs.TcpItems.{Item, IsItem, text, texts, block_at, first_blocks, last_of, is_of, is_timestamp, segment_size_of, window_scale_of, sack_permitted_of, sack_ranges_of, timestamp_of}
+use Rattle.wire_tcp_options.specs.TcpItems.{Item, IsItem, text, texts, block_at, first_blocks, last_of, is_of, is_timestamp, segment_size_of, window_scale_of, sack_permitted_of, sack_ranges_of, timestamp_of}
 use Rattle.wire_tcp.proofs.TcpComputed.{tcp_of-Reads}
 use Rattle.wire_tcp.specs.TcpRepr.{Reads, ReadsOptions, TcpHeader, sack_len, len_if, header_len_of, tcp_of}
 use Rattle.std.proofs.lemmas.Grind.{common_steps}

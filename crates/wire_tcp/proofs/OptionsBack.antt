@@ -10,12 +10,12 @@ use Rattle.std.proofs.lemmas.List.Sums.{sum_by-cons, count_by-le-length}
 use Rattle.std.proofs.Math.Dec.{eqb-suc-zero}
 use Rattle.byteorder.specs.Endian.{big_number, big_bytes}
 use Rattle.std.proofs.lemmas.Nat.{from_be_bytes-to_be_bytes_2, from_be_bytes-to_be_bytes_4}
-use Rattle.wire_tcp_parts.specs.TcpItems.{Item, item, IsItem, IsTail, block_at, first_blocks, last_of, is_of, is_timestamp}
-use Rattle.wire_tcp_parts.specs.TcpOption.{range_bytes}
-use Rattle.wire_tcp_parts.proofs.Items.{IsItem-ranges}
-use Rattle.wire_tcp_parts.proofs.Ranges.{length-range_bytes}
-use Rattle.wire_tcp_parts.specs.declared.tcp.TheConstants.{SACK_BLOCKS}
-use Rattle.wire_tcp_parts.specs.declared.tcp.timestamp.TcpTimestampRepr.{TcpTimestampRepr}
+use Rattle.wire_tcp_options.specs.TcpItems.{Item, item, IsItem, IsTail, block_at, first_blocks, last_of, is_of, is_timestamp}
+use Rattle.wire_tcp_options.specs.TcpOption.{range_bytes}
+use Rattle.wire_tcp_options.proofs.Items.{IsItem-ranges}
+use Rattle.wire_tcp_options.proofs.Ranges.{length-range_bytes}
+use Rattle.wire_tcp_options.specs.declared.tcp.TheConstants.{SACK_BLOCKS}
+use Rattle.wire_tcp_options.specs.declared.tcp.timestamp.TcpTimestampRepr.{TcpTimestampRepr}
 use Rattle.wire_tcp.specs.TcpRepr.{IsInRange, ReadsOptions, TcpHeader, closed, items_of, no_ranges, normal, option_bytes, sack_items, segment_size_items, stamp_of, timestamp_items, window_scale_items}
 use Rattle.std.proofs.lemmas.Grind.{common_steps}
 

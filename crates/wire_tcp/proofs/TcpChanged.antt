@@ -8,15 +8,15 @@ use Rattle.wire_field.proofs.Following.{drop-with_field}
 use Rattle.wire_field.proofs.Cells.{cells-drop}
 use Rattle.wire_field.proofs.Spelled.{AreBytes}
 use Rattle.wire_field.proofs.Written.{field_with_field_other, length_with_field}
-use Rattle.wire_ends.specs.declared.ip_address.IpAddress.{IpAddress}
-use Rattle.wire_ends.specs.IpAddress.{address_bytes}
+use Rattle.wire_addr.specs.declared.ip_address.IpAddress.{IpAddress}
+use Rattle.wire_addr.specs.IpAddress.{address_bytes}
 use Rattle.wire_tcp.proofs.Sums.{verifies}
 use Rattle.wire_tcp.proofs.TcpComputed.{Reads-is, reads-with}
 use Rattle.wire_tcp.specs.Tcp.{Verifies, header_len, options_of, payload_of, with_checksum, with_flag}
-use Rattle.wire_tcp_parts.specs.TcpItems.{IsOptionList, Item}
-use Rattle.wire_tcp_parts.specs.declared.tcp.control.TcpControl.{TcpControl}
-use Rattle.wire_tcp_parts.specs.declared.tcp.control.TcpControl.TheVariants as control
-use Rattle.wire_tcp_parts.specs.declared.tcp.seq_number.TcpSeqNumber.{TcpSeqNumber}
+use Rattle.wire_tcp_options.specs.TcpItems.{IsOptionList, Item}
+use Rattle.wire_tcp_options.specs.declared.tcp.control.TcpControl.{TcpControl}
+use Rattle.wire_tcp_options.specs.declared.tcp.control.TcpControl.TheVariants as control
+use Rattle.wire_tcp_options.specs.declared.tcp.seq_number.TcpSeqNumber.{TcpSeqNumber}
 use Rattle.wire_tcp.specs.TcpFields.{quiet_of}
 use Rattle.wire_tcp.specs.TcpRepr.{HasControl, HasFlags, IsQuiet, Reads, TcpHeader, header_with, seq_of}
 use Rattle.std.proofs.lemmas.Grind.{common_steps}

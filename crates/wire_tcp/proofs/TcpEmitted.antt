@@ -5,17 +5,17 @@ use Rattle.std.proofs.lemmas.Bool.{eqb-true, false_from_ne_true}
 use Rattle.std.proofs.lemmas.List.{append-nil, drop-drop, drop_at, length-replicate, length-take-le, take_at}
 use Rattle.std.proofs.lemmas.Grind.{flat_map-append}
 use Rattle.std.proofs.Math.Dec.{eqb-suc-zero}
-use Rattle.wire_ends.specs.declared.ip_address.IpAddress.{IpAddress}
+use Rattle.wire_addr.specs.declared.ip_address.IpAddress.{IpAddress}
 use Rattle.wire_field.specs.Field.{with_field, with_range}
 use Rattle.wire_field.specs.Borrow.{Holds}
 use Rattle.wire_tcp.specs.Tcp.{segment_sum, with_checksum}
-use Rattle.wire_tcp_parts.specs.TcpItems.{Item, item, texts}
-use Rattle.wire_tcp_parts.specs.TcpOption.{range_bytes}
+use Rattle.wire_tcp_options.specs.TcpItems.{Item, item, texts}
+use Rattle.wire_tcp_options.specs.TcpOption.{range_bytes}
 use Rattle.wire_tcp.specs.TcpFixed.{fixed_bytes}
-use Rattle.wire_tcp_parts.specs.TcpSeq.{number}
-use Rattle.wire_tcp_parts.proofs.Ranges.{length-range_bytes}
+use Rattle.wire_tcp_options.specs.TcpSeq.{number}
+use Rattle.wire_tcp_options.proofs.Ranges.{length-range_bytes}
 use Rattle.wire_tcp.proofs.Sums.{field-word}
-use Rattle.wire_tcp_parts.specs.declared.tcp.timestamp.TcpTimestampRepr.{TcpTimestampRepr}
+use Rattle.wire_tcp_options.specs.declared.tcp.timestamp.TcpTimestampRepr.{TcpTimestampRepr}
 use Rattle.wire_tcp.proofs.OptionLens.{sack_len-suc}
 use Rattle.wire_tcp.specs.TcpRepr.{TcpHeader, ack_bits, bytes_of, header_bytes, header_len_of, items_of, len_if, offset_and_flags, option_bytes, sack_items, sack_len, segment_size_items, segment_with, timestamp_items, window_scale_items}
 use Rattle.std.proofs.lemmas.Grind.{common_steps}

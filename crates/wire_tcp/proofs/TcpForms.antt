@@ -7,17 +7,17 @@ use Rattle.std.proofs.lemmas.Bool.{cases_Bool, eqb-true, eqb-false, false_from_n
 use Rattle.std.proofs.lemmas.List.{length-map, length-replicate}
 use Rattle.std.proofs.Math.Facts.{sfits_to_z}
 use Rattle.byteorder.specs.Endian.{big_number}
-use Rattle.wire_ends.specs.declared.ip_address.IpAddress.{IpAddress}
+use Rattle.wire_addr.specs.declared.ip_address.IpAddress.{IpAddress}
 use Rattle.wire_field.specs.Field.{field}
 use Rattle.wire_field.proofs.ByteLists.{AreBytes-drop, AreBytes-take}
 use Rattle.wire_field.proofs.Spelled.{AreBytes}
 use Rattle.wire_tcp.specs.Tcp.{header_len, options_of}
-use Rattle.wire_tcp_parts.specs.TcpItems.{Item, IsItem, block_at, first_blocks, is_of, is_timestamp, last_of, stamps, text, texts, timestamp_of, window_scale_of}
-use Rattle.wire_tcp_parts.specs.declared.tcp.TheConstants.{SACK_BLOCKS}
-use Rattle.wire_tcp_parts.specs.declared.tcp.seq_number.TcpSeqNumber.{TcpSeqNumber}
+use Rattle.wire_tcp_options.specs.TcpItems.{Item, IsItem, block_at, first_blocks, is_of, is_timestamp, last_of, stamps, text, texts, timestamp_of, window_scale_of}
+use Rattle.wire_tcp_options.specs.declared.tcp.TheConstants.{SACK_BLOCKS}
+use Rattle.wire_tcp_options.specs.declared.tcp.seq_number.TcpSeqNumber.{TcpSeqNumber}
 use Rattle.wire_tcp.specs.TcpRepr.{HasIdleRanges, IsInRange, IsSeq, Reads, TcpHeader, closed, header_len_of, len_if, no_ranges, normal, seq_of, stamp_of}
 use Rattle.wire_tcp.proofs.OptionsBack.{Pair, closed_none, count_somes, min_twice, somes, somes_closed}
-use Rattle.wire_tcp_parts.proofs.Items.{text-other}
+use Rattle.wire_tcp_options.proofs.Items.{text-other}
 use Rattle.wire_tcp.proofs.OptionLens.{header_len-read, some_map}
 use Rattle.wire_tcp.proofs.TcpReadsBack.{IsWritable}
 use Rattle.std.proofs.lemmas.Grind.{common_steps}

@@ -5,15 +5,15 @@ use Rattle.std.proofs.lemmas.Int.{to_z-of_z}
 use Rattle.std.proofs.lemmas.List.{append-nil, drop_at, take_at}
 use Rattle.std.specs.Int.{w32}
 use mir.ValLaws as laws
-use Rattle.wire_ends.specs.IpAddress.{address_bytes}
-use Rattle.wire_ends.specs.declared.ip_address.IpAddress.{IpAddress}
+use Rattle.wire_addr.specs.IpAddress.{address_bytes}
+use Rattle.wire_addr.specs.declared.ip_address.IpAddress.{IpAddress}
 use Rattle.wire_field.specs.Field.{field}
 use Rattle.wire_tcp.specs.Tcp.{Verifies, header_len, options_of, payload_of}
-use Rattle.wire_tcp_parts.specs.TcpSeq.{number}
+use Rattle.wire_tcp_options.specs.TcpSeq.{number}
 use Rattle.wire_tcp.proofs.Sums.{verifies}
-use Rattle.wire_tcp_parts.specs.declared.tcp.control.TcpControl.{TcpControl}
-use Rattle.wire_tcp_parts.specs.declared.tcp.control.TcpControl.TheVariants as control
-use Rattle.wire_tcp_parts.specs.declared.tcp.seq_number.TcpSeqNumber.{TcpSeqNumber}
+use Rattle.wire_tcp_options.specs.declared.tcp.control.TcpControl.{TcpControl}
+use Rattle.wire_tcp_options.specs.declared.tcp.control.TcpControl.TheVariants as control
+use Rattle.wire_tcp_options.specs.declared.tcp.seq_number.TcpSeqNumber.{TcpSeqNumber}
 use Rattle.wire_tcp.specs.TcpRepr.{HasControl, IsInRange, IsSeq, Reads, ReadsOptions, TcpHeader, ack_number_of, bytes_of, flag_of, header_bytes, header_len_of, normal, option_bytes, segment_with, seq_of}
 use Rattle.wire_tcp.proofs.OptionsBack.{options_back}
 use Rattle.wire_tcp.proofs.TcpComputed.{reads_once}

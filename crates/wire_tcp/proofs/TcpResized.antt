@@ -7,8 +7,8 @@ use Rattle.std.proofs.lemmas.Slice.{drop-append-drop}
 use Rattle.byteorder.specs.Endian.{big_bytes, big_number}
 use Rattle.wire_checksum.proofs.Parts.{sum-words-with_range, take-with_range}
 use Rattle.wire_checksum.specs.WordSum.{words}
-use Rattle.wire_ends.specs.IpAddress.{address_bytes}
-use Rattle.wire_ends.specs.declared.ip_address.IpAddress.{IpAddress}
+use Rattle.wire_addr.specs.IpAddress.{address_bytes}
+use Rattle.wire_addr.specs.declared.ip_address.IpAddress.{IpAddress}
 use Rattle.wire_field.specs.Field.{field, with_range}
 use Rattle.wire_field.proofs.ByteLists.{AreBytes-append, AreBytes-bytes_high_first, AreBytes-drop, AreBytes-take}
 use Rattle.wire_field.proofs.Cells.{cells-all}
@@ -20,11 +20,11 @@ use Rattle.wire_tcp.proofs.TcpComputed.{Reads-is, reads-with}
 use Rattle.wire_tcp.specs.Tcp.{Verifies, header_len, options_of, payload_of}
 use Rattle.wire_tcp.specs.TcpRepr.{Reads, TcpHeader, header_with, items_in}
 use Rattle.wire_tcp.specs.TcpSegmentSize.{max_seg_size_at, max_seg_size_of, with_max_seg_size, with_size_at}
-use Rattle.wire_tcp_parts.proofs.Places.{no_size, resized, sized_at}
-use Rattle.wire_tcp_parts.specs.TcpItems.{IsOptionList, Item, segment_size_of}
-use Rattle.wire_tcp_parts.specs.TcpPlace.{segment_size_at}
-use Rattle.wire_tcp_parts.specs.TcpSummary.{HasNoList}
-use Rattle.wire_tcp_parts.specs.declared.tcp.control.TcpControl.{TcpControl}
+use Rattle.wire_tcp_options.proofs.Places.{no_size, resized, sized_at}
+use Rattle.wire_tcp_options.specs.TcpItems.{IsOptionList, Item, segment_size_of}
+use Rattle.wire_tcp_options.specs.TcpPlace.{segment_size_at}
+use Rattle.wire_tcp_options.specs.TcpSummary.{HasNoList}
+use Rattle.wire_tcp_options.specs.declared.tcp.control.TcpControl.{TcpControl}
 use Rattle.wire_field.proofs.Readings.{option_map-Some}
 use Rattle.std.proofs.lemmas.Grind.{common_steps}
 use Rattle.std.proofs.lemmas.Bool.Decides.{nat_tests}

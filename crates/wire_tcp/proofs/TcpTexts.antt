@@ -8,14 +8,14 @@ use Rattle.std.proofs.lemmas.Bool.Decides.{nat_tests}
 use Rattle.std.proofs.lemmas.List.{append-nil}
 use Rattle.wire_field.specs.Field.{field}
 use Rattle.wire_tcp.specs.Tcp.{HasLengths, has_lengths, header_len, options_of}
-use Rattle.wire_tcp_parts.specs.TcpItems.{IsItem, Item, first_item, is_timestamp, text}
-use Rattle.wire_tcp_parts.specs.TcpOption.{BeginsNothing, IsReading}
+use Rattle.wire_tcp_options.specs.TcpItems.{IsItem, Item, first_item, is_timestamp, text}
+use Rattle.wire_tcp_options.specs.TcpOption.{BeginsNothing, IsReading}
 use Rattle.wire_tcp.specs.TcpText.{fields_text, flags_text, hex_word, item_text, numbers_text, options_text, options_text_within, packet_text, ports_text, range_text, ranges_text, shown}
-use Rattle.wire_tcp_parts.specs.declared.tcp.option.TcpOption.{TcpOption}
-use Rattle.wire_tcp_parts.specs.declared.tcp.option.TcpOption.TheVariants.{EndOfList, NoOperation, MaxSegmentSize, WindowScale, SackPermitted, SackRange, TimeStamp, Unknown}
-use Rattle.wire_tcp_parts.proofs.FirstItems.{Leads-first_item, first_item-Leads, first_item-None}
-use Rattle.wire_tcp_parts.proofs.OptionLists.{head-text, nil-text, shorter}
-use Rattle.wire_tcp_parts.proofs.Summaries.{scale_is}
+use Rattle.wire_tcp_options.specs.declared.tcp.option.TcpOption.{TcpOption}
+use Rattle.wire_tcp_options.specs.declared.tcp.option.TcpOption.TheVariants.{EndOfList, NoOperation, MaxSegmentSize, WindowScale, SackPermitted, SackRange, TimeStamp, Unknown}
+use Rattle.wire_tcp_options.proofs.FirstItems.{Leads-first_item, first_item-Leads, first_item-None}
+use Rattle.wire_tcp_options.proofs.OptionLists.{head-text, nil-text, shorter}
+use Rattle.wire_tcp_options.proofs.Summaries.{scale_is}
 use Rattle.wire_tcp.proofs.TcpComputed.{has_lengths-Decides}
 use Rattle.std.proofs.lemmas.Grind.{common_steps}
 

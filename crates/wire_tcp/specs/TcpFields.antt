@@ -1,14 +1,14 @@
 -- The fields of a TCP header in the order of RFC 9293's diagram, and which of them each call reads or writes.
 use Rattle.std.specs.Prelude.{ℕ, ◌-◌, ◌*◌, ◌/◌, ◌==◌, if◌then◌else◌, List, [], ◌∷◌, slice_range, sum, take}
 use Rattle.wire_checksum.specs.WordSum.{sum_of_bytes, updated}
-use Rattle.wire_ends.specs.IpAddress.{address_bytes}
-use Rattle.wire_ends.specs.declared.ip_address.IpAddress.{IpAddress}
+use Rattle.wire_addr.specs.IpAddress.{address_bytes}
+use Rattle.wire_addr.specs.declared.ip_address.IpAddress.{IpAddress}
 use Rattle.wire_field.specs.Diagram.{flag, nth_field, with_nth}
 use Rattle.wire_field.specs.Field.{with_field}
 use Rattle.wire_tcp.specs.Tcp.{segment_sum}
-use Rattle.wire_tcp_parts.specs.TcpSeq.{number}
-use Rattle.wire_tcp_parts.specs.declared.tcp.control.TcpControl.{TcpControl}
-use Rattle.wire_tcp_parts.specs.declared.tcp.control.TcpControl.TheVariants as control
+use Rattle.wire_tcp_options.specs.TcpSeq.{number}
+use Rattle.wire_tcp_options.specs.declared.tcp.control.TcpControl.{TcpControl}
+use Rattle.wire_tcp_options.specs.declared.tcp.control.TcpControl.TheVariants as control
 use Rattle.wire_tcp.specs.declared.laws.TcpGetting.{TcpGetting}
 use Rattle.wire_tcp.specs.declared.laws.TcpGetting.TheVariants as get
 use Rattle.wire_tcp.specs.declared.laws.TcpSetting.{TcpSetting}

@@ -5,16 +5,16 @@ use Rattle.std.specs.Int.{cast_signed, w32}
 use Rattle.std.specs.List.{AllByRecursion, filter_map}
 use Rattle.std.specs.Option.{option_and_then, option_map, option_map_or}
 use Rattle.byteorder.specs.Endian.{big_bytes}
-use Rattle.wire_ends.specs.declared.ip_address.IpAddress.{IpAddress}
+use Rattle.wire_addr.specs.declared.ip_address.IpAddress.{IpAddress}
 use Rattle.wire_tcp.specs.Tcp.{HasLengths, Verifies, ack_bits_of, ack_of, dst_port_of, fin_of, has_lengths, options_of, payload_of, psh_of, rst_of, segment_sum, seq_bits_of, src_port_of, syn_of, window_len_of}
-use Rattle.wire_tcp_parts.specs.TcpItems.{IsOptionList, Item, first_item, item, sack_permitted_of, sack_ranges_of, segment_size_of, texts, timestamp_of, window_scale_of}
-use Rattle.wire_tcp_parts.specs.TcpOption.{range_bytes}
-use Rattle.wire_tcp_parts.specs.TcpSeq.{number}
-use Rattle.wire_tcp_parts.specs.declared.tcp.TheConstants.{SACK_BLOCKS}
-use Rattle.wire_tcp_parts.specs.declared.tcp.control.TcpControl.{TcpControl}
-use Rattle.wire_tcp_parts.specs.declared.tcp.control.TcpControl.TheVariants as control
-use Rattle.wire_tcp_parts.specs.declared.tcp.seq_number.TcpSeqNumber.{TcpSeqNumber}
-use Rattle.wire_tcp_parts.specs.declared.tcp.timestamp.TcpTimestampRepr.{TcpTimestampRepr}
+use Rattle.wire_tcp_options.specs.TcpItems.{IsOptionList, Item, first_item, item, sack_permitted_of, sack_ranges_of, segment_size_of, texts, timestamp_of, window_scale_of}
+use Rattle.wire_tcp_options.specs.TcpOption.{range_bytes}
+use Rattle.wire_tcp_options.specs.TcpSeq.{number}
+use Rattle.wire_tcp_options.specs.declared.tcp.TheConstants.{SACK_BLOCKS}
+use Rattle.wire_tcp_options.specs.declared.tcp.control.TcpControl.{TcpControl}
+use Rattle.wire_tcp_options.specs.declared.tcp.control.TcpControl.TheVariants as control
+use Rattle.wire_tcp_options.specs.declared.tcp.seq_number.TcpSeqNumber.{TcpSeqNumber}
+use Rattle.wire_tcp_options.specs.declared.tcp.timestamp.TcpTimestampRepr.{TcpTimestampRepr}
 use Rattle.wire_tcp.specs.declared.tcp.repr.TcpRepr.{TcpRepr}
 
 -- The values of a segment without its payload. Two values of a segment are equal if these and the bytes of their

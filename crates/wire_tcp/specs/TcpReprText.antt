@@ -2,10 +2,10 @@
 -- Pinned by: `wire/tcp_repr`
 use Rattle.std.specs.Prelude.{ℕ, ◌++◌, List, [], Option, codes, decimal}
 use Rattle.std.specs.Option.{option_map_or}
-use Rattle.wire_tcp_parts.specs.TcpSeq.{number}
-use Rattle.wire_tcp_parts.specs.declared.tcp.control.TcpControl.{TcpControl}
-use Rattle.wire_tcp_parts.specs.declared.tcp.control.TcpControl.TheVariants as control
-use Rattle.wire_tcp_parts.specs.declared.tcp.seq_number.TcpSeqNumber.{TcpSeqNumber}
+use Rattle.wire_tcp_options.specs.TcpSeq.{number}
+use Rattle.wire_tcp_options.specs.declared.tcp.control.TcpControl.{TcpControl}
+use Rattle.wire_tcp_options.specs.declared.tcp.control.TcpControl.TheVariants as control
+use Rattle.wire_tcp_options.specs.declared.tcp.seq_number.TcpSeqNumber.{TcpSeqNumber}
 use Rattle.wire_tcp.specs.TcpRepr.{TcpHeader}
 
 -- the printed word for a control

@@ -7,8 +7,8 @@ use Rattle.wire_checksum.specs.WordSum.{sum_of_bytes}
 use Rattle.wire_field.specs.Field.{with_range}
 use Rattle.wire_tcp.specs.Tcp.{options_of, with_updated_checksum}
 use Rattle.wire_tcp.specs.TcpRepr.{items_in}
-use Rattle.wire_tcp_parts.specs.TcpItems.{segment_size_of}
-use Rattle.wire_tcp_parts.specs.TcpPlace.{segment_size_at}
+use Rattle.wire_tcp_options.specs.TcpItems.{segment_size_of}
+use Rattle.wire_tcp_options.specs.TcpPlace.{segment_size_at}
 
 -- the maximum segment size, if no option is malformed and there is one
 abbrev pub max_seg_size_of : List ℕ → Option ℕ

@@ -6,9 +6,9 @@ use Rattle.std.specs.Option.{option_map_or}
 use Rattle.byteorder.specs.Endian.{big_number}
 use Rattle.wire_addr.specs.Printed.{hex}
 use Rattle.wire_tcp.specs.Tcp.{ack_bits_of, ack_of, cwr_of, dst_port_of, ece_of, fin_of, has_lengths, header_len, ns_of, options_of, psh_of, rst_of, seq_bits_of, src_port_of, syn_of, urg_of, urgent_at_of, window_len_of}
-use Rattle.wire_tcp_parts.specs.TcpItems.{Item, first_blocks, first_item, is_timestamp, stamps}
-use Rattle.wire_tcp_parts.specs.declared.tcp.option.TcpOption.{TcpOption}
-use Rattle.wire_tcp_parts.specs.declared.tcp.option.TcpOption.TheVariants.{EndOfList, NoOperation, MaxSegmentSize, WindowScale, SackPermitted, SackRange, TimeStamp, Unknown}
+use Rattle.wire_tcp_options.specs.TcpItems.{Item, first_blocks, first_item, is_timestamp, stamps}
+use Rattle.wire_tcp_options.specs.declared.tcp.option.TcpOption.{TcpOption}
+use Rattle.wire_tcp_options.specs.declared.tcp.option.TcpOption.TheVariants.{EndOfList, NoOperation, MaxSegmentSize, WindowScale, SackPermitted, SackRange, TimeStamp, Unknown}
 
 -- ---- the header
 

@@ -2,8 +2,8 @@
 
 ghost use Rattle.std.specs.Prelude.{◌≡◌, ◌≢◌, ◌⊎◌, ◌↔◌, ◌+◌, ◌*◌, ◌%◌, ◌<◌, ◌≤◌, if◌then◌else◌, ℕ, [], Bool, IfSome, List, IsTrue, None, Some, false, true, length};
 ghost use Rattle.std.specs.Option.{option_map};
-ghost use Rattle.wire_ends.specs.IpAddress.{address_bytes, version_of};
-ghost use Rattle.wire_ends.specs.declared.ip_address.IpAddress.{IpAddress};
+ghost use Rattle.wire_addr.specs.IpAddress.{address_bytes, version_of};
+ghost use Rattle.wire_addr.specs.declared.ip_address.IpAddress.{IpAddress};
 ghost use Rattle.wire_field.specs.Diagram.{end_of};
 ghost use Rattle.wire_field.specs.Field.{field, with_field};
 ghost use Rattle.wire_tcp.specs.Tcp.{HasLengths, Verifies, ack_bits_of, header_len, packet_bytes, packet_bytes_mut, payload_of, with_checksum, with_checksum_field, with_dst_port, with_flag, with_src_port, with_window_len};
@@ -12,9 +12,9 @@ ghost use Rattle.wire_tcp.specs.TcpFields.{address_after, address_before, after,
 
 use crate::tcp::{TCP_HEADER_LEN, TcpPacket, TcpPacketMut, TcpRepr};
 use net_base::ChecksumCapabilities;
-use wire_ends::IpAddress;
+use wire_addr::IpAddress;
 use wire_field::laws::bytes_fit;
-use wire_tcp_parts::{TcpControl, TcpSeqNumber};
+use wire_tcp_options::{TcpControl, TcpSeqNumber};
 
 /// The emitted segment, in a buffer of exactly its length, parses as the value's normal form and
 /// the same payload. A checksum that is verified must have been computed.

@@ -2,7 +2,7 @@
 use Rattle.std.proofs.Common.{ℕ, ◌≡◌, ◌≢◌, ◌<◌, ◌-◌, Bool, IsTrue, List, drop, length, take, refl, sym, ap, ◌∙◌, arith}
 use Rattle.wire_field.specs.Field.{with_field}
 use Rattle.wire_field.proofs.Cells.{cells-drop}
-use Rattle.wire_ends.specs.declared.ip_address.IpAddress.{IpAddress}
+use Rattle.wire_addr.specs.declared.ip_address.IpAddress.{IpAddress}
 use Rattle.wire_udp.proofs.UdpComputed.{Reads-is}
 use Rattle.wire_udp.specs.Udp.{HasChecksum, Reads, header_of, packet_len}
 use Rattle.wire_udp.specs.declared.udp.repr.UdpRepr.{UdpRepr}

@@ -5,8 +5,8 @@ use Rattle.std.specs.Bool.{Decides}
 use Rattle.std.specs.Result.{result_ok}
 use Rattle.wire_field.proofs.Readings.{answer_computed}
 use Rattle.net_base.specs.declared.error.Error.{Error}
-use Rattle.wire_ends.specs.declared.ip_address.IpAddress.{IpAddress}
-use Rattle.wire_ends.specs.declared.ip_address.IpAddress.TheVariants as address
+use Rattle.wire_addr.specs.declared.ip_address.IpAddress.{IpAddress}
+use Rattle.wire_addr.specs.declared.ip_address.IpAddress.TheVariants as address
 use Rattle.wire_udp.specs.Udp.{HasChecksum, HasLengths, Reads, has_checksum, has_lengths, header_of, payload_of, udp_of}
 use Rattle.wire_udp.specs.declared.udp.repr.UdpRepr.{UdpRepr}
 

@@ -2,13 +2,13 @@
 use Rattle.std.proofs.Common.{ℕ, ◌≡◌, ◌≢◌, ◌≤◌, ◌<◌, ◌+◌, ◌-◌, ◌%◌, ◌⊎◌, inl, inr, Bool, true, false, IsTrue, List, ◌++◌, length, sum, take, refl, sym, ap, ◌∙◌, length-append, arith}
 use Rattle.std.proofs.Math.Seq.{take-append_seam}
 use Rattle.std.proofs.lemmas.Bool.Decides.{nat_tests}
-use Rattle.wire_ends.specs.declared.ip_address.IpAddress.{IpAddress}
+use Rattle.wire_addr.specs.declared.ip_address.IpAddress.{IpAddress}
 use Rattle.wire_checksum.proofs.Residues.{residue-bound, residue-complement, residue-of_zero, residue-same}
 use Rattle.wire_checksum.proofs.WordLists.{sum-words-append}
 use Rattle.wire_checksum.specs.PseudoHeader.{pseudo_header_bytes, with_pseudo_header}
-use Rattle.wire_ends.specs.IpAddress.{address_bytes}
+use Rattle.wire_addr.specs.IpAddress.{address_bytes}
 use Rattle.wire_checksum.specs.WordSum.{residue, words}
-use Rattle.wire_ends.specs.declared.ip_protocol.IpProtocol.TheVariants as protocol
+use Rattle.wire_addr.specs.declared.ip_protocol.IpProtocol.TheVariants as protocol
 use Rattle.wire_udp.specs.Udp.{Reads, bytes_of, checksum_for, header_bytes, packet_len, packet_sum, packet_with}
 use Rattle.wire_udp.specs.declared.udp.repr.UdpRepr.{UdpRepr}
 

@@ -11,9 +11,9 @@ use Rattle.wire_checksum.proofs.Residues.{residue-bound, residue-of_zero, residu
 use Rattle.wire_checksum.proofs.Updated.{stays_valid, updated-small}
 use Rattle.wire_checksum.specs.PseudoHeader.{with_pseudo_header}
 use Rattle.wire_checksum.specs.WordSum.{residue, sum_of_bytes, updated, words}
-use Rattle.wire_ends.specs.IpAddress.{address_bytes, version_of}
-use Rattle.wire_ends.specs.declared.ip_address.IpAddress.{IpAddress}
-use Rattle.wire_ends.specs.declared.ip_protocol.IpProtocol.TheVariants as protocol
+use Rattle.wire_addr.specs.IpAddress.{address_bytes, version_of}
+use Rattle.wire_addr.specs.declared.ip_address.IpAddress.{IpAddress}
+use Rattle.wire_addr.specs.declared.ip_protocol.IpProtocol.TheVariants as protocol
 use Rattle.wire_udp.proofs.UdpChanged.{reads_checksum, reads-verified}
 use Rattle.wire_udp.proofs.UdpReadsBack.{checksum_for-bounds, checksum_for-cases, residue-checksum_for}
 use Rattle.wire_udp.specs.Udp.{HasChecksum, HasLengths, Reads, Verifies, checksum_for, packet_len, with_checksum, with_updated_checksum}

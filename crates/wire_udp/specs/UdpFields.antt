@@ -1,8 +1,8 @@
 -- The fields of a UDP header in the order of RFC 768's diagram, and which of them each call reads or writes.
 use Rattle.std.specs.Prelude.{ℕ, ◌-◌, ◌==◌, if◌then◌else◌, List, [], ◌∷◌, take}
 use Rattle.wire_checksum.specs.WordSum.{sum_of_bytes, updated}
-use Rattle.wire_ends.specs.IpAddress.{address_bytes}
-use Rattle.wire_ends.specs.declared.ip_address.IpAddress.{IpAddress}
+use Rattle.wire_addr.specs.IpAddress.{address_bytes}
+use Rattle.wire_addr.specs.declared.ip_address.IpAddress.{IpAddress}
 use Rattle.wire_field.specs.Diagram.{nth_field, with_nth}
 use Rattle.wire_udp.specs.Udp.{checksum_for, packet_sum}
 use Rattle.wire_udp.specs.declared.laws.UdpGetting.{UdpGetting}

@@ -8,9 +8,8 @@ ghost use Rattle.wire_ip.specs.Ip.{header_before};
 
 use super::{Carried, Frame, Transport};
 use net_base::{Error, Result};
-use wire_addr::EthernetAddress;
+use wire_addr::{EthernetAddress, IpProtocol, IpVersion};
 use wire_arp::ArpRepr;
-use wire_ends::{IpProtocol, IpVersion};
 use wire_ethernet::{EthernetProtocol, EthernetRepr};
 use wire_ip::IpRepr;
 use wire_tcp::TcpRepr;

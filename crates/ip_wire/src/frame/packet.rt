@@ -11,7 +11,7 @@ ghost use Rattle.wire_ip.specs.declared.IpRepr.{IpRepr};
 use super::build::ethertype_of;
 use super::{Carried, Frame, Transport};
 use net_base::{ChecksumCapabilities, Error, Result};
-use wire_ends::IpVersion;
+use wire_addr::IpVersion;
 use wire_ethernet::EthernetRepr;
 use wire_ip::IpRepr;
 

@@ -9,7 +9,7 @@ ghost use Rattle.wire_field.specs.Filled.{Fills};
 
 use net_base::{ChecksumCapabilities, Error, Result};
 use std::fmt;
-use wire_ends::IpProtocol;
+use wire_addr::IpProtocol;
 use wire_field::try_copy;
 use wire_ip::IpRepr;
 use wire_tcp::{TCP_MAX_HEADER_LEN, TcpPacket, TcpRepr};

@@ -5,9 +5,9 @@ ghost use Rattle.ip_wire.specs.Frame.{ReadsFrame, all_checked, datagram, message
 ghost use Rattle.ip_wire.specs.FrameValue.{Agrees, AgreesCarried, Composes, Computes, Finds, Fits, FitsCarried, ReadsNormalOf, carried_bytes, frame_bytes, normal_carried_of};
 ghost use Rattle.net_base.specs.Checksum.{computes, verifies};
 ghost use Rattle.wire_arp.specs.Arp as arp;
-ghost use Rattle.wire_ends.specs.Protocol as protocol;
-ghost use Rattle.wire_ends.specs.declared.IpProtocol.TheVariants as ip_protocol;
-ghost use Rattle.wire_ends.specs.declared.IpVersion.TheVariants as version;
+ghost use Rattle.wire_addr.specs.Protocol as protocol;
+ghost use Rattle.wire_addr.specs.declared.IpProtocol.TheVariants as ip_protocol;
+ghost use Rattle.wire_addr.specs.declared.IpVersion.TheVariants as version;
 ghost use Rattle.wire_ethernet.specs.Ethernet as ethernet;
 ghost use Rattle.wire_ip.specs.Ip as ip;
 ghost use Rattle.wire_tcp.specs.TcpRepr as tcp;

@@ -6,20 +6,20 @@ ghost use Rattle.net_base.specs.Checksum.{all_are};
 ghost use Rattle.net_base.specs.declared.Checksum.TheVariants as checksum;
 ghost use Rattle.wire_addr.specs.Class.{ipv6_block};
 ghost use Rattle.wire_addr.specs.Bytes.{address_bytes};
-ghost use Rattle.wire_tcp_parts.specs.TcpSeq.{number};
+ghost use Rattle.wire_tcp_options.specs.TcpSeq.{number};
 
 use net_base::ChecksumCapabilities;
 use wire_addr::{
     EthernetAddress, IPV4_MULTICAST_ALL_ROUTERS, IPV4_MULTICAST_ALL_SYSTEMS, IPV6_ADDR_SIZE,
     IPV6_LINK_LOCAL_ALL_MLDV2_ROUTERS, IPV6_LINK_LOCAL_ALL_NODES, IPV6_LINK_LOCAL_ALL_ROUTERS,
-    IPV6_LINK_LOCAL_ALL_RPL_NODES, Ipv4Address, Ipv6Address, Ipv6Cidr, MAX_HARDWARE_ADDRESS_LEN,
+    IPV6_LINK_LOCAL_ALL_RPL_NODES, IpListenEndpoint, Ipv4Address, Ipv6Address, Ipv6Cidr,
+    MAX_HARDWARE_ADDRESS_LEN,
 };
-use wire_ends::IpListenEndpoint;
 use wire_ethernet::ETHERNET_HEADER_LEN;
 use wire_ipv4::{IPV4_HEADER_LEN, IPV4_MAX_PAYLOAD_LEN, IPV4_MIN_MTU};
 use wire_ipv6::{IPV6_HEADER_LEN, IPV6_MAX_PAYLOAD_LEN, IPV6_MIN_MTU};
 use wire_tcp::{TCP_HEADER_LEN, TCP_MAX_HEADER_LEN};
-use wire_tcp_parts::{SACK_BLOCKS, TcpSeqNumber};
+use wire_tcp_options::{SACK_BLOCKS, TcpSeqNumber};
 use wire_udp::{UDP_HEADER_LEN, UDP_MAX_PAYLOAD_LEN};
 
 /// The lengths in bytes: of headers without options, of the longest payloads, of addresses, and of the

@@ -5,16 +5,15 @@ ghost use Rattle.ip_wire.specs.Equality.{IsEquality};
 
 use net_base::{Checksum, ChecksumCapabilities, Error, Medium};
 use wire_addr::{
-    EthernetAddress, HardwareAddress, Ipv4Address, Ipv4Cidr, Ipv6Address, Ipv6Cidr,
+    EthernetAddress, HardwareAddress, IpProtocol, Ipv4Address, Ipv4Cidr, Ipv6Address, Ipv6Cidr,
     Ipv6MulticastScope, RawHardwareAddress,
 };
 use wire_arp::ArpRepr;
-use wire_ends::IpProtocol;
 use wire_ethernet::EthernetRepr;
 use wire_ip::IpRepr;
 use wire_ipv4::{Ipv4FragKey, Ipv4Repr};
 use wire_ipv6::{Ipv6FragmentRepr, Ipv6Repr};
-use wire_tcp_parts::{TcpControl, TcpSeqNumber, TcpTimestampRepr};
+use wire_tcp_options::{TcpControl, TcpSeqNumber, TcpTimestampRepr};
 use wire_udp::UdpRepr;
 
 /// `==` returns `true` exactly for equal values. The laws of orders (`ip_address_order`,

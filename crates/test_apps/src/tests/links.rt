@@ -1,6 +1,6 @@
 //! Link-layer headers that are rejected, with the number of bytes that they need. `tests/judge/worked_link.c` has others.
 
-use app_link::{Link, LinkFault, LinkType};
+use wire_link::{Link, LinkFault, LinkType};
 
 /// An Ethernet header with the tags 200 and 100.
 const TAGGED: [u8; 22] = [

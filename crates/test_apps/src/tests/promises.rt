@@ -5,15 +5,15 @@ use ip_wire::{
     IpAddress, Ipv4Address, Ipv4Cidr, Ipv4Packet, Ipv6Address, SACK_BLOCKS, TcpControl, TcpOption,
     TcpOptionSummary, TcpRepr, TcpSeqNumber, Transport, UdpRepr,
 };
-use test_promises::calls::blocks::netmask_then_block;
-use test_promises::calls::hardware::eui_64_of_octets;
-use test_promises::calls::interfaces::solicited_node_of_octets;
-use test_promises::equality::{
+use promises::calls::blocks::netmask_then_block;
+use promises::calls::hardware::eui_64_of_octets;
+use promises::calls::interfaces::solicited_node_of_octets;
+use promises::equality::{
     equal_values_carried, equal_values_frame, equal_values_tcp, equal_values_tcp_option,
     equal_values_tcp_option_summary, equal_values_transport, equal_views_ipv4,
 };
-use test_promises::frames::settles;
-use test_promises::values::emit_then_parse_udp;
+use promises::frames::settles;
+use promises::values::emit_then_parse_udp;
 use test_support::udp_frames::FRAME;
 
 #[test]

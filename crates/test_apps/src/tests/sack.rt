@@ -1,7 +1,7 @@
 //! The two ways to find SACK options: the search that goes on past the end mark, and the summary.
 
 use ip_wire::TcpPacket;
-use test_promises::calls::tcp::sack_by_summary;
+use promises::calls::tcp::sack_by_summary;
 
 /// Whether SACK is permitted, or the first range. By the search, and by the summary. `None` for an error.
 type InTwoWays<T> = [Option<T>; 2];

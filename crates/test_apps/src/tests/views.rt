@@ -5,7 +5,7 @@ use ip_wire::{
     Ipv4Address, Ipv4Repr, Ipv6Address, Ipv6Repr, SACK_BLOCKS, TcpControl, TcpRepr, TcpSeqNumber,
     Transport, UdpRepr,
 };
-use test_promises::views::{emit_then_parse_tcp_frame, emit_then_parse_udp_frame};
+use promises::views::{emit_then_parse_tcp_frame, emit_then_parse_udp_frame};
 use test_support::udp_frames::{DST, FRAME, SRC};
 
 #[test]

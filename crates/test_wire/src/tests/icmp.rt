@@ -2,13 +2,13 @@
 //! forward a packet.
 
 ghost use Rattle.std.specs.Prelude.{◌≡◌};
-ghost use Rattle.wire_ends.specs.IpAddress.{version_of};
+ghost use Rattle.wire_addr.specs.IpAddress.{version_of};
 
 use super::packets::ECHO;
 use super::views::Format;
 use net_base::ChecksumCapabilities;
 use test_support::bytes::{OLD, has_front};
-use wire_ends::{IpAddress, IpVersion};
+use wire_addr::{IpAddress, IpVersion};
 use wire_icmp::{
     Exceeded, ICMP_HEADER_LEN, IcmpHeader, IcmpPacket, IcmpPacketMut, IcmpRepr, Unreachable,
     protocol_of,

@@ -2,7 +2,7 @@
 
 use super::packets::ECHO;
 use super::pretty_print::Shown;
-use wire_ends::IpVersion;
+use wire_addr::IpVersion;
 use wire_icmp::{Exceeded, IcmpRepr, Unreachable};
 
 /// Texts of packets and values.

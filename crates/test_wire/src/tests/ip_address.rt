@@ -1,8 +1,7 @@
 //! Addresses of either version. `tests/data/calls/worked_addresses.call` has more examples.
 
 use std::net::{IpAddr, Ipv4Addr, Ipv6Addr};
-use wire_addr::{Ipv4Address, Ipv6Address};
-use wire_ends::{IpAddress, IpVersion};
+use wire_addr::{IpAddress, IpVersion, Ipv4Address, Ipv6Address};
 
 #[test]
 fn converts_from_an_address_of_a_version(rt: HostRuntime) {

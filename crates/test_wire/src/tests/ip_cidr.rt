@@ -1,7 +1,6 @@
 //! CIDR blocks of addresses of either version. `tests/data/calls/worked_addresses.call` has more examples.
 
-use wire_addr::{Ipv4Address, Ipv4Cidr, Ipv6Address, Ipv6Cidr};
-use wire_ends::{IpAddress, IpCidr};
+use wire_addr::{IpAddress, IpCidr, Ipv4Address, Ipv4Cidr, Ipv6Address, Ipv6Cidr};
 
 #[test]
 fn converts_from_a_block_of_a_version(rt: HostRuntime) {

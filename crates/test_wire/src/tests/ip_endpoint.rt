@@ -1,8 +1,7 @@
 //! Endpoints, and ports to listen on. `tests/data/calls/worked_addresses.call` has more examples.
 
 use std::net::{Ipv4Addr, Ipv6Addr, SocketAddr, SocketAddrV4, SocketAddrV6};
-use wire_addr::{Ipv4Address, Ipv6Address};
-use wire_ends::{IpAddress, IpEndpoint, IpListenEndpoint};
+use wire_addr::{IpAddress, IpEndpoint, IpListenEndpoint, Ipv4Address, Ipv6Address};
 
 /// 192.168.1.1.
 fn v4() -> IpAddress {

@@ -1,7 +1,7 @@
 //! Versions of the Internet Protocol.
 
 use net_base::Error;
-use wire_ends::IpVersion;
+use wire_addr::IpVersion;
 
 /// Packets, and their versions.
 const VERSIONS: &[(&[u8], Result<IpVersion, Error>)] = &[

@@ -1,7 +1,7 @@
 //! Protocol numbers. `tests/data/cases/shapes.hex` has the text of each.
 
 use ip_wire::{ArpHardware, ArpOperation, EthernetProtocol};
-use wire_ends::IpProtocol;
+use wire_addr::IpProtocol;
 
 /// Numbers, and their names.
 const PROTOCOLS: &[(u8, IpProtocol)] = &[

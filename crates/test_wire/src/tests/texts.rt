@@ -5,11 +5,11 @@ use test_support::texts::prints;
 use wire_addr::{
     EthernetAddress, HardwareAddress, IPV4_MULTICAST_ALL_ROUTERS, IPV4_MULTICAST_ALL_SYSTEMS,
     IPV6_LINK_LOCAL_ALL_MLDV2_ROUTERS, IPV6_LINK_LOCAL_ALL_NODES, IPV6_LINK_LOCAL_ALL_ROUTERS,
-    IPV6_LINK_LOCAL_ALL_RPL_NODES, Ipv4Address, Ipv4Cidr, Ipv6Address, Ipv6Cidr,
-    MAX_HARDWARE_ADDRESS_LEN, RawHardwareAddress,
+    IPV6_LINK_LOCAL_ALL_RPL_NODES, IpAddress, IpCidr, IpEndpoint, IpListenEndpoint, IpProtocol,
+    IpVersion, Ipv4Address, Ipv4Cidr, Ipv6Address, Ipv6Cidr, MAX_HARDWARE_ADDRESS_LEN,
+    RawHardwareAddress,
 };
-use wire_ends::{IpAddress, IpCidr, IpEndpoint, IpListenEndpoint, IpProtocol, IpVersion};
-use wire_tcp_parts::TcpSeqNumber;
+use wire_tcp_options::TcpSeqNumber;
 
 /// What is printed.
 #[derive(Clone, Copy)]

@@ -2,15 +2,15 @@
 
 ghost use Rattle.std.specs.Prelude.{◌≡◌, ◌≤◌, ◌+◌, ◌-◌, ◌++◌, drop, length};
 ghost use Rattle.net_base.specs.Checksum.{computes};
-ghost use Rattle.wire_ends.specs.IpAddress.{version_of};
+ghost use Rattle.wire_addr.specs.IpAddress.{version_of};
 ghost use Rattle.wire_field.specs.Filled.{Fills};
 ghost use Rattle.wire_icmp.specs.Icmp.{Becomes, choice_of, emitted, header_bytes, message_sum, message_with, packet_bytes_mut};
 
 use super::{ICMP_HEADER_LEN, IcmpPacketMut, choice_of};
 use net_base::ChecksumCapabilities;
+use wire_addr::{IpAddress, IpProtocol};
 use wire_checksum::laws::sum_joins;
 use wire_checksum::{checksum, for_emit};
-use wire_ends::{IpAddress, IpProtocol};
 
 /// The type, the code and the second word of a header. `IcmpRepr` gives those of the messages that it
 /// knows; other messages, such as those of neighbor discovery, have their own.

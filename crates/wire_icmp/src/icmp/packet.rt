@@ -1,7 +1,7 @@
 //! Views of ICMP messages, and their getters.
 
 ghost use Rattle.std.specs.Prelude.{◌≡◌, ◌↔◌, ◌≤◌, IfOk, IsOk, IsTrue, Some, length};
-ghost use Rattle.wire_ends.specs.IpAddress.{version_of};
+ghost use Rattle.wire_addr.specs.IpAddress.{version_of};
 ghost use Rattle.wire_icmp.specs.Icmp.{HasHeader, Verifies, checksum_of, echo_ident_of, is_query, msg_code_of, msg_type_of, packet_bytes, packet_slice, payload_of, second_word_of, verifies};
 ghost use Rattle.wire_icmp.specs.IcmpText.{packet_text};
 
@@ -9,7 +9,7 @@ use super::{ICMP_HEADER_LEN, message_sum};
 use byteorder::{ByteOrder, NetworkEndian};
 use net_base::{Error, Result};
 use std::fmt;
-use wire_ends::{IpAddress, IpVersion};
+use wire_addr::{IpAddress, IpVersion};
 use wire_field::{Octets, debug_view};
 
 /// A view of a borrowed ICMP message. A call requires only the bytes that it uses.

@@ -2,7 +2,7 @@
 
 ghost use Rattle.std.specs.Prelude.{◌≡◌, ◌↔◌, ◌≤◌, ◌+◌, IfOk, IsOk, length};
 ghost use Rattle.std.specs.Borrow.{sem};
-ghost use Rattle.wire_ends.specs.IpAddress.{version_of};
+ghost use Rattle.wire_addr.specs.IpAddress.{version_of};
 ghost use Rattle.wire_field.specs.Field.{with_field, with_range};
 ghost use Rattle.wire_field.specs.Borrow.{Checks, Holds, Locates, StaysIfErr};
 ghost use Rattle.wire_icmp.specs.Icmp.{Becomes, HasHeader, echo_ident_of, packet_bytes_mut, packet_slice, payload_of, with_checksum, with_updated_checksum};
@@ -12,8 +12,8 @@ use super::packet::IcmpView;
 use super::{ICMP_HEADER_LEN, IcmpPacket, IcmpPacketMut, message_sum};
 use byteorder::{ByteOrder, NetworkEndian};
 use net_base::{Error, Result};
+use wire_addr::IpAddress;
 use wire_checksum::checksum;
-use wire_ends::IpAddress;
 use wire_field::{Checked, Located, write_at};
 
 impl<'a> IcmpPacketMut<'a> {

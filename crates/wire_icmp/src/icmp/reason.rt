@@ -5,7 +5,7 @@ ghost use Rattle.wire_icmp.specs.Icmp.{exceeded_by, exceeded_code, unreachable_b
 ghost use Rattle.wire_icmp.specs.IcmpText.{exceeded_text, unreachable_text};
 
 use std::fmt;
-use wire_ends::IpVersion;
+use wire_addr::IpVersion;
 
 /// Why a destination is unreachable (RFC 792; RFC 1812, section 5.2.7.1; RFC 4443, section 3.1).
 #[derive(Debug, Clone, Copy, PartialEq, Eq)]

@@ -3,7 +3,7 @@
 ghost use Rattle.std.specs.Prelude.{◌≡◌, ◌↔◌, ◌≤◌, ◌+◌, ◌++◌, Ok, OnOk, Some, drop, length};
 ghost use Rattle.std.specs.Result.{result_ok};
 ghost use Rattle.net_base.specs.Checksum.{computes, verifies};
-ghost use Rattle.wire_ends.specs.IpAddress.{version_of};
+ghost use Rattle.wire_addr.specs.IpAddress.{version_of};
 ghost use Rattle.wire_field.specs.Filled.{Fills};
 ghost use Rattle.wire_icmp.specs.Icmp.{Becomes, HasHeader, IsNormal, Reads, bytes_of, choice_of, code_of, header_of, icmp_of, is_error, message_of, packet_bytes, packet_bytes_mut, payload_of, type_of, word_of};
 ghost use Rattle.wire_icmp.specs.IcmpText.{value_text};
@@ -14,7 +14,7 @@ use super::{
 };
 use net_base::{ChecksumCapabilities, Error, Result};
 use std::fmt;
-use wire_ends::{IpAddress, IpVersion};
+use wire_addr::{IpAddress, IpVersion};
 
 /// A message without its payload. The payload of an echo is its data, that of an error is the front of
 /// the packet that it is about.

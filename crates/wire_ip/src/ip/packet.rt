@@ -2,12 +2,12 @@
 
 ghost use Rattle.std.specs.Prelude.{◌≡◌, ◌↔◌, ◌≤◌, IfOk, IsOk, length};
 ghost use Rattle.wire_field.specs.Field.{field};
-ghost use Rattle.wire_ends.specs.IpVersion.{IsOfVersion};
-ghost use Rattle.wire_ends.specs.declared.IpVersion.{IpVersion};
+ghost use Rattle.wire_addr.specs.IpVersion.{IsOfVersion};
+ghost use Rattle.wire_addr.specs.declared.IpVersion.{IpVersion};
 ghost use Rattle.wire_ip.specs.Ip.{HasLengths, packet_bytes, payload_of};
 
 use net_base::{Error, Result};
-use wire_ends::IpVersion;
+use wire_addr::IpVersion;
 use wire_ipv4::Ipv4Packet;
 use wire_ipv6::Ipv6Packet;
 

@@ -3,14 +3,14 @@
 ghost use Rattle.std.specs.Prelude.{◌≡◌, ◌↔◌, ◌≤◌, ◌<◌, ◌+◌, ◌^◌, ◌++◌, Ok, drop, length};
 ghost use Rattle.std.specs.Result.{result_ok};
 ghost use Rattle.net_base.specs.Checksum.{computes, verifies};
-ghost use Rattle.wire_ends.specs.IpAddress as address;
+ghost use Rattle.wire_addr.specs.IpAddress as address;
 ghost use Rattle.wire_ip.specs.Ip.{Reads, bytes_of, dst_addr_of, header_before, header_len_of, hop_limit_of, ip_of, max_payload_len, next_header_of, packet_bytes, payload_len_of, src_addr_of, version_of, with_payload_len};
 ghost use Rattle.wire_ip.specs.declared.ip.repr.IpRepr.{IpRepr};
 ghost use Rattle.wire_ip.specs.declared.ip.repr.IpRepr.TheVariants.{Ipv4, Ipv6};
 
 use super::IpPacket;
 use net_base::{ChecksumCapabilities, Result};
-use wire_ends::{IpAddress, IpProtocol, IpVersion};
+use wire_addr::{IpAddress, IpProtocol, IpVersion};
 use wire_ipv4::{IPV4_MAX_PAYLOAD_LEN, Ipv4Packet, Ipv4PacketMut, Ipv4Repr};
 use wire_ipv6::{IPV6_MAX_PAYLOAD_LEN, Ipv6Packet, Ipv6PacketMut, Ipv6Repr};
 

@@ -11,9 +11,8 @@ use super::{IPV4_HEADER_LEN, Ipv4FragKey, Ipv4Repr};
 use byteorder::{ByteOrder, NetworkEndian};
 use net_base::{ChecksumCapabilities, Error, Result};
 use std::fmt;
-use wire_addr::Ipv4Address;
+use wire_addr::{IpProtocol, Ipv4Address};
 use wire_checksum::checksum;
-use wire_ends::IpProtocol;
 use wire_field::{Octets, array_at, debug_view, is_bit_set};
 
 /// A view of a borrowed IPv4 packet. A call requires only the bytes that it uses.

@@ -6,15 +6,14 @@ ghost use Rattle.wire_field.specs.Field.{with_field, with_range};
 ghost use Rattle.wire_field.specs.Borrow.{Checks, Holds, Locates, StaysIfErr};
 ghost use Rattle.wire_ipv4.specs.Ipv4.{Becomes, HasLengths, header_len, packet_bytes_mut, packet_slice, total_len, with_checksum, with_checksum_field};
 ghost use Rattle.wire_ipv4.specs.Ipv4Borrow.{BorrowsPayload};
-ghost use Rattle.wire_ends.specs.Protocol.{number_of};
+ghost use Rattle.wire_addr.specs.Protocol.{number_of};
 
 use super::packet::Ipv4View;
 use super::{Ipv4Packet, Ipv4PacketMut};
 use byteorder::{ByteOrder, NetworkEndian};
 use net_base::{Error, Result};
-use wire_addr::Ipv4Address;
+use wire_addr::{IpProtocol, Ipv4Address};
 use wire_checksum::checksum;
-use wire_ends::IpProtocol;
 use wire_field::{Checked, Located, set_bits, set_bits_u16};
 
 impl<'a> Ipv4PacketMut<'a> {

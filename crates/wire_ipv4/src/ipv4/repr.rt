@@ -13,9 +13,8 @@ use arrayvec::ArrayString;
 use byteorder::{ByteOrder, NetworkEndian};
 use net_base::{ChecksumCapabilities, Error, Result};
 use std::fmt;
-use wire_addr::Ipv4Address;
+use wire_addr::{IpProtocol, Ipv4Address};
 use wire_checksum::for_emit;
-use wire_ends::IpProtocol;
 use wire_field::write_front;
 
 // The byte with the flags, of which only DF (don't fragment) is set, and the first bits of an

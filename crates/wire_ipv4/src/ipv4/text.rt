@@ -7,8 +7,7 @@ ghost use Rattle.wire_ipv4.specs.Ipv4Text.{addresses_text, fields_text, fragment
 
 use super::{IPV4_HEADER_LEN, Ipv4Packet};
 use std::fmt;
-use wire_addr::Ipv4Address;
-use wire_ends::IpProtocol;
+use wire_addr::{IpProtocol, Ipv4Address};
 
 /// Writes the fields of a header, or nothing if the bytes are fewer than a header without options.
 pub fn write_fields<W: fmt::Write>(

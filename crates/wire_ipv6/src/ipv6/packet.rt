@@ -9,8 +9,7 @@ use super::{IPV6_HEADER_LEN, Ipv6Repr};
 use byteorder::{ByteOrder, NetworkEndian};
 use net_base::{Error, Result};
 use std::fmt;
-use wire_addr::Ipv6Address;
-use wire_ends::IpProtocol;
+use wire_addr::{IpProtocol, Ipv6Address};
 use wire_field::{Octets, array_at, debug_view};
 
 /// A view of a borrowed IPv6 packet. A call requires only the bytes that it uses.

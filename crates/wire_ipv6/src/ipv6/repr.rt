@@ -11,8 +11,7 @@ use arrayvec::ArrayString;
 use itoa::Buffer;
 use net_base::{Error, Result};
 use std::fmt;
-use wire_addr::Ipv6Address;
-use wire_ends::IpProtocol;
+use wire_addr::{IpProtocol, Ipv6Address};
 
 // The first 4 bytes of the header: version 6, traffic class 0, flow label 0.
 const VERSION_6: u32 = 0x6000_0000;

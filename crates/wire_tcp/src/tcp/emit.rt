@@ -2,19 +2,19 @@
 
 ghost use Rattle.std.specs.Prelude.{◌≡◌, ◌+◌, ◌≤◌, ◌++◌, [], drop, length};
 ghost use Rattle.net_base.specs.Checksum.{computes};
-ghost use Rattle.wire_ends.specs.IpAddress.{version_of};
+ghost use Rattle.wire_addr.specs.IpAddress.{version_of};
 ghost use Rattle.wire_field.specs.Field.{with_range};
 ghost use Rattle.wire_field.specs.Filled.{Fills};
 ghost use Rattle.wire_tcp.specs.Tcp.{Becomes, packet_bytes_mut};
-ghost use Rattle.wire_tcp_parts.specs.TcpItems.{texts};
+ghost use Rattle.wire_tcp_options.specs.TcpItems.{texts};
 ghost use Rattle.wire_tcp.specs.TcpFixed.{fixed_bytes};
-ghost use Rattle.wire_tcp_parts.specs.TcpSeq.{number};
+ghost use Rattle.wire_tcp_options.specs.TcpSeq.{number};
 ghost use Rattle.wire_tcp.specs.TcpRepr.{ack_bits, bytes_of, flag_of, header_len_of, header_of, offset_and_flags, option_bytes, sack_items, segment_size_items, timestamp_items, window_scale_items};
 
 use super::{TCP_HEADER_LEN, TcpPacketMut, TcpRepr, for_emit};
 use net_base::ChecksumCapabilities;
-use wire_ends::IpAddress;
-use wire_tcp_parts::{TcpControl, TcpOption, TcpSeqNumber, TcpTimestampRepr, count_ranges};
+use wire_addr::IpAddress;
+use wire_tcp_options::{TcpControl, TcpOption, TcpSeqNumber, TcpTimestampRepr, count_ranges};
 
 // The flag ACK.
 const ACK: u16 = 0x010;

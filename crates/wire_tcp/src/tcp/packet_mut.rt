@@ -2,21 +2,21 @@
 
 ghost use Rattle.std.specs.Prelude.{◌≡◌, ◌↔◌, ◌≤◌, ◌/◌, IfOk, IsOk, length};
 ghost use Rattle.std.specs.Borrow.{sem};
-ghost use Rattle.wire_ends.specs.IpAddress.{version_of};
+ghost use Rattle.wire_addr.specs.IpAddress.{version_of};
 ghost use Rattle.wire_field.specs.Field.{with_field};
 ghost use Rattle.wire_field.specs.Borrow.{Checks, Holds, Locates, StaysIfErr};
 ghost use Rattle.wire_tcp.specs.Tcp.{Becomes, HasLengths, header_len, options_of, packet_bytes_mut, packet_slice, payload_of, with_checksum, with_checksum_field, with_dst_port, with_flag, with_src_port, with_window_len};
 ghost use Rattle.wire_tcp.specs.TcpBorrow.{BorrowsOptions, BorrowsPayload};
-ghost use Rattle.wire_tcp_parts.specs.TcpSeq.{number};
+ghost use Rattle.wire_tcp_options.specs.TcpSeq.{number};
 
 use super::packet::TcpView;
 use super::{TCP_HEADER_LEN, TcpPacket, TcpPacketMut};
 use byteorder::{ByteOrder, NetworkEndian};
 use net_base::{Error, Result};
+use wire_addr::{IpAddress, IpProtocol};
 use wire_checksum::checksum;
-use wire_ends::{IpAddress, IpProtocol};
 use wire_field::{Checked, Located, set_bits, set_bits_u16};
-use wire_tcp_parts::TcpSeqNumber;
+use wire_tcp_options::TcpSeqNumber;
 
 impl<'a> TcpPacketMut<'a> {
     /// A mutable view of bytes that `check_len` accepts, else an error. Rejected bytes are

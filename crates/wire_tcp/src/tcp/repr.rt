@@ -4,15 +4,15 @@ ghost use Rattle.std.specs.Prelude.{◌≡◌, ◌↔◌, ◌+◌, ◌^◌, ◌<
 ghost use Rattle.std.specs.Option.{option_map};
 ghost use Rattle.std.specs.Result.{result_ok};
 ghost use Rattle.net_base.specs.Checksum.{verifies};
-ghost use Rattle.wire_ends.specs.IpAddress.{version_of};
+ghost use Rattle.wire_addr.specs.IpAddress.{version_of};
 ghost use Rattle.wire_tcp.specs.Tcp.{HasLengths, header_len, packet_bytes};
-ghost use Rattle.wire_tcp_parts.specs.TcpSeq.{control_len};
+ghost use Rattle.wire_tcp_options.specs.TcpSeq.{control_len};
 ghost use Rattle.wire_tcp.specs.TcpRepr.{HasControl, HasNoControl, HasNoReading, IsQuiet, Reads, ack_number_of, header_len_of, header_of, tcp_of};
 
 use super::{TCP_HEADER_LEN, TcpPacket};
 use net_base::{ChecksumCapabilities, Error, Result};
-use wire_ends::IpAddress;
-use wire_tcp_parts::{SACK_BLOCKS, TcpControl, TcpSeqNumber, TcpTimestampRepr, count_ranges};
+use wire_addr::IpAddress;
+use wire_tcp_options::{SACK_BLOCKS, TcpControl, TcpSeqNumber, TcpTimestampRepr, count_ranges};
 
 // The largest window scale (RFC 7323, section 2.3).
 const MAX_WINDOW_SCALE: u8 = 14;

@@ -9,7 +9,7 @@ use super::TcpRepr;
 use arrayvec::ArrayString;
 use itoa::Buffer;
 use std::fmt;
-use wire_tcp_parts::{TcpControl, TcpSeqNumber};
+use wire_tcp_options::{TcpControl, TcpSeqNumber};
 
 impl fmt::Display for TcpRepr<'_> {
     ghost output = { λ v. Some (value_text (header_of v) (length v.payload.now)) };

@@ -3,13 +3,13 @@
 ghost use Rattle.std.specs.Prelude.{◌≡◌, [], None, Some, if◌then◌else◌};
 ghost use Rattle.std.specs.Fmt.{WritesOnOk};
 ghost use Rattle.wire_tcp.specs.Tcp.{HasLengths, packet_bytes};
-ghost use Rattle.wire_tcp_parts.specs.TcpSeq.{number};
+ghost use Rattle.wire_tcp_options.specs.TcpSeq.{number};
 ghost use Rattle.wire_tcp.specs.TcpText.{fields_text, flags_text, hex_word, numbered_some, numbers_text, options_text, packet_text, ranges_text, shown};
 
 use super::TcpPacket;
 use net_base::Error;
 use std::fmt;
-use wire_tcp_parts::{TcpOption, TcpSeqNumber};
+use wire_tcp_options::{TcpOption, TcpSeqNumber};
 
 impl fmt::Display for TcpPacket<'_> {
     ghost output = { λ packet. Some (packet_text (packet_bytes packet)) };

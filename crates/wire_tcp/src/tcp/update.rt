@@ -4,8 +4,8 @@ ghost use Rattle.std.specs.Prelude.{◌≡◌, ◌≢◌, ◌+◌, ◌%◌, ◌�
 ghost use Rattle.std.specs.Option.{option_map};
 ghost use Rattle.byteorder.specs.Endian.{big_bytes, big_number};
 ghost use Rattle.wire_checksum.specs.WordSum.{sum_of_bytes};
-ghost use Rattle.wire_ends.specs.IpAddress.{address_bytes};
-ghost use Rattle.wire_ends.specs.declared.ip_address.IpAddress.{IpAddress};
+ghost use Rattle.wire_addr.specs.IpAddress.{address_bytes};
+ghost use Rattle.wire_addr.specs.declared.ip_address.IpAddress.{IpAddress};
 ghost use Rattle.wire_field.specs.Field.{with_range};
 ghost use Rattle.wire_tcp.specs.Tcp.{Becomes, Verifies, dst_port_of, header_len, packet_bytes_mut, src_port_of, window_len_of, with_dst_port, with_src_port, with_updated_checksum, with_window_len};
 ghost use Rattle.wire_tcp.specs.TcpRepr.{Reads, TcpHeader};
@@ -13,10 +13,10 @@ ghost use Rattle.wire_tcp.specs.TcpSegmentSize.{max_seg_size_at, max_seg_size_of
 
 use super::{TCP_HEADER_LEN, TcpPacketMut};
 use byteorder::{ByteOrder, NetworkEndian};
+use wire_addr::IpAddress;
 use wire_checksum::checksum;
-use wire_ends::IpAddress;
 use wire_field::laws::bytes_fit;
-use wire_tcp_parts::max_segment_size_at;
+use wire_tcp_options::max_segment_size_at;
 
 impl<'a> TcpPacketMut<'a> {
     /// Updates the checksum after words that it covers changed. `old` and `new` are the sums of these

@@ -1,7 +1,7 @@
 //! Views of UDP packets, and their getters.
 
 ghost use Rattle.std.specs.Prelude.{◌≡◌, ◌↔◌, ◌≤◌, ◌⊎◌, IfOk, IsOk, IsTrue, Some, length};
-ghost use Rattle.wire_ends.specs.IpAddress.{version_of};
+ghost use Rattle.wire_addr.specs.IpAddress.{version_of};
 ghost use Rattle.wire_udp.specs.Udp.{HasChecksum, HasLengths, Verifies, checksum_of, dst_port_of, has_checksum, packet_bytes, packet_len, packet_slice, payload_of, pseudo_header_sum, src_port_of};
 ghost use Rattle.wire_udp.specs.UdpText.{packet_text};
 
@@ -9,8 +9,8 @@ use super::UDP_HEADER_LEN;
 use byteorder::{ByteOrder, NetworkEndian};
 use net_base::{Error, Result};
 use std::fmt;
+use wire_addr::{IpAddress, IpProtocol};
 use wire_checksum::checksum;
-use wire_ends::{IpAddress, IpProtocol};
 use wire_field::{Octets, debug_view};
 
 /// A view of a borrowed UDP packet. A call requires only the bytes that it uses.

@@ -2,7 +2,7 @@
 
 ghost use Rattle.std.specs.Prelude.{◌≡◌, ◌↔◌, ◌≤◌, ◌+◌, IfOk, IsOk, length};
 ghost use Rattle.std.specs.Borrow.{sem};
-ghost use Rattle.wire_ends.specs.IpAddress.{version_of};
+ghost use Rattle.wire_addr.specs.IpAddress.{version_of};
 ghost use Rattle.wire_field.specs.Field.{with_field, with_range};
 ghost use Rattle.wire_field.specs.Borrow.{Checks, Holds, Locates, StaysIfErr};
 ghost use Rattle.wire_udp.specs.Udp.{Becomes, HasLengths, packet_bytes_mut, packet_len, packet_slice, payload_of, with_checksum, with_checksum_field, with_dst_port, with_src_port};
@@ -12,8 +12,8 @@ use super::packet::UdpView;
 use super::{UDP_HEADER_LEN, UdpPacket, UdpPacketMut, checksum_for};
 use byteorder::{ByteOrder, NetworkEndian};
 use net_base::{Error, Result};
+use wire_addr::{IpAddress, IpProtocol};
 use wire_checksum::checksum;
-use wire_ends::{IpAddress, IpProtocol};
 use wire_field::{Checked, Located, write_at};
 
 impl<'a> UdpPacketMut<'a> {

@@ -3,7 +3,7 @@
 ghost use Rattle.std.specs.Prelude.{◌≡◌, ◌↔◌, ◌≤◌, ◌+◌, ◌++◌, [], Ok, OnOk, Some, drop, length};
 ghost use Rattle.std.specs.Result.{result_ok};
 ghost use Rattle.net_base.specs.Checksum.{computes, verifies};
-ghost use Rattle.wire_ends.specs.IpAddress.{version_of};
+ghost use Rattle.wire_addr.specs.IpAddress.{version_of};
 ghost use Rattle.wire_field.specs.Filled.{Fills};
 ghost use Rattle.wire_udp.specs.Udp.{Becomes, HasLengths, Reads, bytes_of, checksum_for, header_bytes, max_payload_len, packet_bytes, packet_bytes_mut, packet_sum, packet_with, payload_of, udp_of};
 ghost use Rattle.wire_udp.specs.UdpText.{value_text};
@@ -14,8 +14,8 @@ use arrayvec::ArrayString;
 use itoa::Buffer;
 use net_base::{ChecksumCapabilities, Error, Result};
 use std::fmt;
+use wire_addr::{IpAddress, IpProtocol};
 use wire_checksum::for_emit;
-use wire_ends::{IpAddress, IpProtocol};
 
 /// The ports of a UDP header. Its length and its checksum follow from the payload.
 #[derive(Debug, Clone, Copy, PartialEq, Eq)]

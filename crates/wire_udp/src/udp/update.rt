@@ -3,14 +3,14 @@
 
 ghost use Rattle.std.specs.Prelude.{◌≡◌, ◌≢◌, ◌%◌, ◌≤◌, Bool, List, ℕ, length};
 ghost use Rattle.wire_checksum.specs.WordSum.{sum_of_bytes};
-ghost use Rattle.wire_ends.specs.IpAddress.{address_bytes, version_of};
-ghost use Rattle.wire_ends.specs.declared.ip_address.IpAddress.{IpAddress};
+ghost use Rattle.wire_addr.specs.IpAddress.{address_bytes, version_of};
+ghost use Rattle.wire_addr.specs.declared.ip_address.IpAddress.{IpAddress};
 ghost use Rattle.wire_udp.specs.Udp.{Becomes, HasChecksum, HasLengths, Reads, dst_port_of, packet_bytes_mut, src_port_of, with_dst_port, with_src_port, with_updated_checksum};
 ghost use Rattle.wire_udp.specs.declared.udp.repr.UdpRepr.{UdpRepr};
 
 use super::{UdpPacketMut, checksum_for};
+use wire_addr::IpAddress;
 use wire_checksum::checksum;
-use wire_ends::IpAddress;
 use wire_field::laws::bytes_fit;
 
 impl<'a> UdpPacketMut<'a> {

@@ -1,6 +1,6 @@
 use Rattle.std.proofs.Common.{◌≡◌, ◌+◌, ◌*◌, ◌/◌, ◌%◌, length, rules, refl, ◌∙◌}
-use Rattle.wire_ends.specs.Protocol.{number_of}
-use Rattle.wire_ends.specs.IpAddress.{address_bytes}
+use Rattle.wire_addr.specs.Protocol.{number_of}
+use Rattle.wire_addr.specs.IpAddress.{address_bytes}
 use Rattle.wire_checksum.proofs.Chains.{and_more}
 use Rattle.wire_checksum.proofs.PseudoSums.{total-pseudo_header}
 use Rattle.wire_checksum.proofs.checksum.pseudo_header_total.Goals as goal

@@ -1,5 +1,5 @@
 use Rattle.std.proofs.Common.{◌≡◌, ◌+◌, ◌*◌, ◌%◌, ◌++◌, ◌∙◌, ap, sym, arith, length, length-append, rules}
-use Rattle.wire_ends.specs.IpAddress.{address_bytes}
+use Rattle.wire_addr.specs.IpAddress.{address_bytes}
 use Rattle.wire_checksum.specs.PseudoHeader.{pseudo_header_bytes}
 use Rattle.wire_checksum.specs.WordSum.{residue, sum_of_bytes}
 use Rattle.wire_checksum.proofs.Chains.{and_more}

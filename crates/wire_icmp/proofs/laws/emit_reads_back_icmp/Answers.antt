@@ -2,7 +2,7 @@ use Rattle.std.proofs.Common.{rules}
 use Rattle.wire_icmp.proofs.IcmpReadsBack.{IsInRange, reads_emitted}
 use Rattle.wire_icmp.proofs.IcmpSums.{AreWhole}
 use Rattle.wire_icmp.specs.Icmp.{header_of}
-use Rattle.wire_ends.specs.IpAddress.{version_of}
+use Rattle.wire_addr.specs.IpAddress.{version_of}
 use Rattle.wire_icmp.proofs.laws.emit_reads_back_icmp.Goals as goal
 
 pub returns : goal.returns

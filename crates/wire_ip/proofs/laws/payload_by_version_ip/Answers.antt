@@ -2,7 +2,7 @@ use Rattle.std.proofs.Common.{Err, IsTrue, Ok, Result, ap, refl, ◌∙◌}
 use Rattle.std.specs.Prelude.{IsOk}
 use Rattle.std.specs.Result.{is_err}
 use Rattle.std.proofs.lemmas.Bool.{false≢true}
-use Rattle.wire_ends.specs.declared.ip_version.IpVersion.TheVariants as version
+use Rattle.wire_addr.specs.declared.ip_version.IpVersion.TheVariants as version
 use Rattle.wire_ip.proofs.laws.payload_by_version_ip.Goals as goal
 
 -- a result that is not `Ok` is an error

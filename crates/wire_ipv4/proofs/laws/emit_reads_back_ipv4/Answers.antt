@@ -1,6 +1,6 @@
 use Rattle.std.proofs.Common.{◌<◌, rules}
 use Rattle.wire_ipv4.proofs.Ipv4ReadsBack.{IsInRange, reads_bytes_of}
-use Rattle.wire_ends.specs.Protocol.{number_of}
+use Rattle.wire_addr.specs.Protocol.{number_of}
 use Rattle.wire_ipv4.proofs.laws.emit_reads_back_ipv4.Goals as goal
 
 pub returns : goal.returns

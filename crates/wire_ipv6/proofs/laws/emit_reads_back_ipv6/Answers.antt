@@ -1,7 +1,7 @@
 use Rattle.std.proofs.Common.{◌<◌, rules}
 use Rattle.wire_ipv6.proofs.Ipv6Emitted.{IsInRange}
 use Rattle.wire_ipv6.proofs.Ipv6ReadsBack.{reads_bytes_of}
-use Rattle.wire_ends.specs.Protocol.{number_of}
+use Rattle.wire_addr.specs.Protocol.{number_of}
 use Rattle.wire_ipv6.proofs.laws.emit_reads_back_ipv6.Goals as goal
 
 pub returns : goal.returns

@@ -1,5 +1,5 @@
 use Rattle.std.proofs.Common.{◌≡◌, subst}
-use Rattle.wire_ends.specs.IpAddress.{version_of}
+use Rattle.wire_addr.specs.IpAddress.{version_of}
 use Rattle.wire_udp.specs.UdpFields.{address_after, address_before}
 use Rattle.wire_udp.specs.declared.laws.UdpUpdate.{UdpUpdate}
 use Rattle.wire_udp.proofs.laws.update_writes_two_fields_udp.Goals as goal

@@ -4,7 +4,7 @@ use Rattle.ip_wire.proofs.Composed.{reads_frame, reads_segment}
 use Rattle.ip_wire.proofs.TcpLayer.{length-written}
 use Rattle.ip_wire.specs.Frame.{segment}
 use Rattle.net_base.specs.Checksum.{computes}
-use Rattle.wire_ends.specs.IpAddress.{address_bytes}
+use Rattle.wire_addr.specs.IpAddress.{address_bytes}
 use Rattle.wire_ip.proofs.IpReadsBack.{IsInRange}
 use Rattle.wire_ip.specs.Ip.{dst_addr_of, payload_len_of, src_addr_of}
 use Rattle.wire_tcp.proofs.TcpReadsBack.{IsWritable}

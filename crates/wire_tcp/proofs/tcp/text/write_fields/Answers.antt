@@ -3,7 +3,7 @@ use Rattle.std.specs.Fmt.{WritesOnOk}
 use Rattle.wire_field.specs.Field.{field}
 use Rattle.wire_field.proofs.Readings.{flag_test}
 use Rattle.wire_tcp.specs.Tcp.{header_len}
-use Rattle.wire_tcp_parts.specs.TcpSeq.{number}
+use Rattle.wire_tcp_options.specs.TcpSeq.{number}
 use Rattle.wire_tcp.specs.TcpText.{fields_text, numbers_text}
 use Rattle.wire_tcp.proofs.TcpTexts.{fields_text-values}
 use Rattle.wire_tcp.proofs.tcp.text.write_fields.Goals as goal

@@ -1,7 +1,7 @@
 use Rattle.std.proofs.Common.{◌≡◌, ◌∙◌, None, refl, sym}
 use Rattle.ip_wire.proofs.Found.{unread-transport}
 use Rattle.ip_wire.specs.Frame.{transport_by}
-use Rattle.wire_ends.specs.declared.IpProtocol.TheVariants as protocol
+use Rattle.wire_addr.specs.declared.IpProtocol.TheVariants as protocol
 use Rattle.wire_ip.specs.Ip.{dst_addr_of, next_header_of, src_addr_of}
 use Rattle.net_base.specs.Checksum.{verifies}
 use Rattle.wire_udp.specs.Udp.{payload_of, udp_of}

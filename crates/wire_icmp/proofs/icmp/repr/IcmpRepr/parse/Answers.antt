@@ -1,6 +1,6 @@
 use Rattle.std.proofs.Common.{rules, Err}
 use Rattle.net_base.specs.Checksum.{verifies}
-use Rattle.wire_ends.specs.IpAddress.{version_of}
+use Rattle.wire_addr.specs.IpAddress.{version_of}
 use Rattle.wire_icmp.specs.Icmp.{choice_of}
 use Rattle.wire_icmp.proofs.IcmpComputed.{answer-icmp_of, icmp_of_Reads}
 use Rattle.wire_icmp.proofs.icmp.repr.IcmpRepr.parse.Goals as goal

@@ -1,7 +1,7 @@
 use Rattle.std.proofs.Common.{◌≡◌, Some, None}
 use Rattle.net_base.specs.Checksum.{verifies}
-use Rattle.wire_ends.specs.IpVersion.{packet_version}
-use Rattle.wire_ends.specs.declared.ip_version.IpVersion.TheVariants as version
+use Rattle.wire_addr.specs.IpVersion.{packet_version}
+use Rattle.wire_addr.specs.declared.ip_version.IpVersion.TheVariants as version
 use Rattle.wire_ipv4.specs.Ipv4.{ipv4_of}
 use Rattle.wire_ip.proofs.IpComputed.{answers-Err, answers-Ok, ip_of_Ipv4, ip_of_Ipv6, ip_of_None}
 use Rattle.wire_ipv6.specs.Ipv6.{ipv6_of}

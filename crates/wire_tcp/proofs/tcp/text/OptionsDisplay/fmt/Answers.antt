@@ -3,11 +3,11 @@ use Rattle.std.proofs.lemmas.Grind.{common_steps, put_two}
 use Rattle.std.proofs.lemmas.List.{append-nil}
 use Rattle.std.specs.Fmt.{HasWritten}
 use Rattle.std.specs.Result.{IsOk}
-use Rattle.wire_tcp_parts.proofs.Items.{item_read}
+use Rattle.wire_tcp_options.proofs.Items.{item_read}
 use Rattle.wire_tcp.proofs.TcpTexts.{options_text-empty, options_text-item, options_text-malformed, options_text-mark, shown-item}
-use Rattle.wire_tcp_parts.specs.TcpOption.{Begins}
+use Rattle.wire_tcp_options.specs.TcpOption.{Begins}
 use Rattle.wire_tcp.specs.TcpText.{item_text, options_text, shown}
-use Rattle.wire_tcp_parts.specs.declared.tcp.option.TcpOption.{TcpOption}
+use Rattle.wire_tcp_options.specs.declared.tcp.option.TcpOption.{TcpOption}
 use Rattle.wire_tcp.proofs.tcp.text.OptionsDisplay.fmt.Goals as goal
 use Rattle.std.proofs.lemmas.Bool.Decides.{nat_tests}
 

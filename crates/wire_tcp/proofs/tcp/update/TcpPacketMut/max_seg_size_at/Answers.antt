@@ -2,7 +2,7 @@ use Rattle.std.proofs.Common.{◌≡◌, ◌+◌, ℕ, List, Option, Some, None,
 use Rattle.std.specs.Option.{option_and_then, option_map}
 use Rattle.wire_tcp.specs.TcpRepr.{items_in}
 use Rattle.wire_tcp.proofs.TcpResized.{place_found}
-use Rattle.wire_tcp_parts.specs.TcpPlace.{segment_size_at}
+use Rattle.wire_tcp_options.specs.TcpPlace.{segment_size_at}
 use Rattle.wire_tcp.proofs.tcp.update.TcpPacketMut.max_seg_size_at.Goals as goal
 
 -- the index in these options

@@ -1,6 +1,6 @@
 use Rattle.std.proofs.Common.{◌≡◌, rules, arith}
 use Rattle.wire_checksum.specs.WordSum.{sum_of_bytes}
-use Rattle.wire_ends.specs.IpAddress.{address_bytes}
+use Rattle.wire_addr.specs.IpAddress.{address_bytes}
 use Rattle.wire_tcp.specs.Tcp.{packet_bytes_mut, with_updated_checksum}
 use Rattle.wire_tcp.proofs.Sums.{valid-dst_addr, valid-src_addr}
 use Rattle.wire_tcp.proofs.TcpChanged.{reads-summed}

@@ -1,6 +1,6 @@
 use Rattle.std.proofs.Common.{◌≡◌, subst, sym, refl, arith, rules}
 use Rattle.wire_checksum.specs.WordSum.{sum_of_bytes}
-use Rattle.wire_ends.specs.IpAddress.{address_bytes}
+use Rattle.wire_addr.specs.IpAddress.{address_bytes}
 use Rattle.wire_field.proofs.Spelled.{AreBytes}
 use Rattle.wire_udp.specs.Udp.{HasChecksum, packet_bytes_mut, with_updated_checksum}
 use Rattle.wire_udp.proofs.UdpUpdated.{reads-updated, valid-addresses}

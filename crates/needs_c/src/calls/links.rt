@@ -1,0 +1,65 @@
+//! Needs the contracts of calls that read packets by their link type.
+
+ghost use Rattle.std.specs.Prelude.{◌≡◌, ◌≢◌, pos};
+
+use c_exports::links::{lk_read_link, lk_read_linktype};
+use c_structs::FrameFields;
+use wire_link::Link;
+
+// Bytes begin with one link-layer header.
+fn read_link(link_type: u32, captured: &[u8], link: &mut Link, other: &mut Link) -> (i32, i32)
+    requires { link.old ≡ other.old }
+    ensures returned { result.0 ≡ result.1 }
+    ensures written { link.new ≡ other.new }
+{
+    (
+        lk_read_link(link_type, captured, link),
+        lk_read_link(link_type, captured, other),
+    )
+}
+
+// Captured bytes parse as one packet of a link type.
+fn read_linktype(
+    link_type: u32,
+    captured: &[u8],
+    len: usize,
+    frame: &mut FrameFields,
+    other: &mut FrameFields,
+) -> (i32, i32)
+    requires { frame.old ≡ other.old }
+    ensures returned { result.0 ≡ result.1 }
+    ensures written { frame.new ≡ other.new }
+{
+    (
+        lk_read_linktype(link_type, captured, len, frame),
+        lk_read_linktype(link_type, captured, len, other),
+    )
+}
+
+// A packet has the EtherType of its link-layer header. If the header is rejected, the packet is rejected too.
+fn link_of_packet(
+    link_type: u32,
+    bytes: &[u8],
+    link: &mut Link,
+    frame: &mut FrameFields,
+) -> (i32, i32)
+    ensures read { result.0 ≡ pos 0 → frame.new.ethernet.ethertype ≡ link.new.ethertype }
+    ensures rejected { result.0 ≢ pos 0 → result.1 ≢ pos 0 }
+{
+    (
+        lk_read_link(link_type, bytes, link),
+        lk_read_linktype(link_type, bytes, bytes.len(), frame),
+    )
+}
+
+// The payload is in the packet.
+fn payload_of_linktype<'a>(
+    link_type: u32,
+    bytes: &'a [u8],
+    captured: &[u8],
+    frame: &mut FrameFields,
+) -> &'a [u8] {
+    lk_read_linktype(link_type, captured, bytes.len(), frame);
+    let start = frame.payload_offset;
+    &bytes[start..start + frame.payload_len]
+}

@@ -1,5 +1,0 @@
-use Rattle.test_app_needs.proofs.RouterOnce.{one_error}
-use Rattle.test_app_needs.proofs.router.routes.error_once.Goals as goal
-
-pub returns : goal.returns
-returns c = one_error c.args.ours.now c.args.frame.now c.args.problem c.error.result c.error-2.result c.error.ensures c.error-2.ensures

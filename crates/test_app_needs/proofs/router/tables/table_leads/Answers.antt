@@ -1,8 +1,0 @@
-use Rattle.std.proofs.Common.{map}
-use Rattle.app_router.specs.Index.{block_of}
-use Rattle.test_app_needs.proofs.RouterOnce.{one_route}
-use Rattle.test_app_needs.proofs.router.tables.table_leads.Goals as goal
-
-pub returns : goal.returns
-returns c = one_route c.args.routes.now c.args.addr.now c.choose.result c.choose-2.result
-    (c.choose.ensures c.index.ensures (c.fill.ensures.table (map block_of c.args.routes.now) c.index.ensures)) c.choose-2.ensures

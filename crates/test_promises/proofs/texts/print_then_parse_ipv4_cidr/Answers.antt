@@ -1,9 +1,0 @@
-use Rattle.std.proofs.Common.{◌≡◌, rules, subst, sym}
-use Rattle.ip_wire.specs.BlockText.{ReadsIpv4Block}
-use Rattle.ip_wire.specs.Printed.{block_text, dotted}
-use Rattle.test_promises.proofs.texts.print_then_parse_ipv4_cidr.Goals as goal
-
-pub returns : goal.returns
-returns c =
-    let same : c.as_bytes.result.now ≡ block_text dotted c.args.block.now = search rules in
-    absurd (c.in-Err.ensures c.args.block.now (subst (λ t. ReadsIpv4Block t c.args.block.now) (sym same) c.print_reads_back_ipv4_cidr.ensures))
