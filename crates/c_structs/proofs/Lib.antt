@@ -34,4 +34,4 @@ mod TcpResummed
 mod TcpStamped
 mod TcpUsual
 mod UdpKept
-mod WrittenOnce
+pub mod WrittenOnce

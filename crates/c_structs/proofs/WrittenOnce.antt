@@ -50,7 +50,7 @@ slice-once bytes len why old new other a b v w = elim (cases_lt (length old) (le
         let (also, same) = w.no_room less in
         (is ∙ sym also, stays ∙ sym same)
 
-writes-once : (bytes : Option (List ℕ)) (why : Option Failure) (old new other : List ℕ) (a b : ℤ) → Writes bytes why old new a
+pub writes-once : (bytes : Option (List ℕ)) (why : Option Failure) (old new other : List ℕ) (a b : ℤ) → Writes bytes why old new a
     → Writes bytes why old other b → (a ≡ b) × (new ≡ other)
 writes-once None why old new other a b (none, stays) (also, same) = (none ∙ sym also, stays ∙ sym same)
 writes-once (Some bytes) why old new other a b v w = slice-once bytes (length bytes) why old new other a b v w

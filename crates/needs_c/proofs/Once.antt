@@ -1,5 +1,5 @@
 -- Calls with equal arguments return the same, and store the same.
-use Rattle.std.proofs.Common.{ℕ, ℤ, pos, negsuc, ◌≡◌, ◌∙◌, ◌+◌, ◌-◌, ◌%◌, ◌^◌, ◌≤◌, ◌<◌, ◌⊎◌, ◌↔◌, true, Option, None, Some, List, inl, inr, length, take, ap, arith, subst, sym, w32}
+use Rattle.std.proofs.Common.{ℕ, ℤ, pos, negsuc, ◌≡◌, ◌∙◌, ◌+◌, ◌-◌, ◌%◌, ◌^◌, ◌≤◌, ◌<◌, ◌↔◌, true, Option, List, inl, inr, length, take, ap, arith, subst, sym, w32}
 use Rattle.std.proofs.lemmas.Bool.{cases_lt}
 use Rattle.std.proofs.lemmas.Int.{of_z-to_z}
 use Rattle.std.proofs.lemmas.List.{length-take-le}
@@ -20,35 +20,12 @@ use Rattle.ip_wire.proofs.Readers.{hex_text_once}
 use Rattle.c_icmp.specs.Neighbours.{CarriesNdisc, ReadsNdisc}
 pub use Rattle.c_routing.proofs.Tables.{usable-itself as short_len}
 pub use Rattle.c_structs.proofs.Filled.{within-is as short_bytes}
+use Rattle.c_structs.proofs.WrittenOnce.{writes-once}
 use Rattle.c_structs.specs.TcpOptions.{ReadsItems}
-use Rattle.c_structs.specs.Written.{IsRead, Writes, WritesBytes, max_len, within}
+use Rattle.c_structs.specs.Written.{IsRead, Writes, max_len, within}
 use Rattle.c_structs.specs.declared.failures.Failure.{Failure}
 
 -- ---- what is written
-
-slice-once : (bytes : List ℕ) (len : ℕ) (why : Option Failure) (old new other : List ℕ) (a b : ℤ) → WritesBytes bytes len why old new a
-    → WritesBytes bytes len why old other b → (a ≡ b) × (new ≡ other)
-slice-once bytes len why old new other a b v w = elim (cases_lt (length old) (length bytes)) [
-  | inl less ↦ not-written (inl less)
-  | inr room ↦ elim (cases_lt max_len (length old)) [
-    | inl long ↦ not-written (inr long)
-    | inr fits ↦
-        let (is, written) = v.fits room fits in
-        let (also, same) = w.fits room fits in
-        (is ∙ sym also, written ∙ sym same)
-  ]
-]
-  where
-    not-written : (length old < length bytes) ⊎ (max_len < length old) → (a ≡ b) × (new ≡ other)
-    not-written less =
-        let (is, stays) = v.no_room less in
-        let (also, same) = w.no_room less in
-        (is ∙ sym also, stays ∙ sym same)
-
-writes-once : (bytes : Option (List ℕ)) (why : Option Failure) (old new other : List ℕ) (a b : ℤ) → Writes bytes why old new a
-    → Writes bytes why old other b → (a ≡ b) × (new ≡ other)
-writes-once None why old new other a b (none, stays) (also, same) = (none ∙ sym also, stays ∙ sym same)
-writes-once (Some bytes) why old new other a b v w = slice-once bytes (length bytes) why old new other a b v w
 
 pub writes_result : (bytes : Option (List ℕ)) (why : Option Failure) (old same new other : List ℕ) (a b : ℤ) → old ≡ same → Writes bytes why old new a
     → Writes bytes why same other b → a ≡ b
