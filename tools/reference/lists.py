@@ -15,7 +15,7 @@ GROUPS = {
     "net_base": "Errors and checksum choices", "ip_wire": "Whole frames", "wire_ethernet": "Ethernet",
     "wire_arp": "ARP", "wire_ip": "IP of either version", "wire_ipv4": "IPv4", "wire_ipv6": "IPv6", "wire_udp": "UDP",
     "wire_tcp": "TCP", "wire_tcp_options": "TCP options and sequence numbers", "wire_checksum": "Checksums",
-    "wire_addr": "Addresses and CIDR blocks", "wire_addr": "Either IP version: addresses, blocks, endpoints",
+    "wire_addr": "Addresses, CIDR blocks, endpoints and protocol numbers",
     "wire_icmp": "ICMP and neighbor discovery", "app_short": "Short applications",
     "wire_link": "Link-layer headers", "app_host": "Host",
     "app_router": "Router", "app_nat": "NAT", "app_edit": "Edits of a field",
