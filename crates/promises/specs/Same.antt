@@ -1,5 +1,5 @@
 -- When `==` returns true for values that borrow: two references are equal if the borrowed bytes are.
--- Pinned by: `apps/promises`, `promises/equality`
+-- Pinned by: `apps/calls`, `promises/equality`
 use Rattle.std.specs.Prelude.{Bool, ◌≡◌, ◌↔◌, ⊤, true}
 use Rattle.ip_wire.specs.Ipv4 as ipv4
 use Rattle.ip_wire.specs.TcpRepr as tcp

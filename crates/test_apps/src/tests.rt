@@ -2,11 +2,11 @@
 
 ghost use Rattle.std.specs.Prelude.{◌≡◌};
 
+mod calls;
 mod flows;
 mod hop_guard;
 mod links;
 mod nat;
-mod promises;
 mod replies;
 mod router;
 mod routes;
