@@ -18,6 +18,7 @@ use Rattle.wire_icmp.specs.Ndisc as ndisc
 use Rattle.wire_icmp.specs.declared.NdiscRepr.{NdiscRepr}
 use Rattle.ip_wire.proofs.Readers.{hex_text_once}
 use Rattle.c_icmp.specs.Neighbours.{CarriesNdisc, ReadsNdisc}
+pub use Rattle.ip_wire.proofs.EndTexts.{address_once, cidr_once}
 pub use Rattle.c_routing.proofs.Tables.{usable-itself as short_len}
 pub use Rattle.c_structs.proofs.Filled.{within-is as short_bytes}
 use Rattle.c_structs.proofs.WrittenOnce.{writes-once}

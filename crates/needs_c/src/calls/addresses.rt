@@ -13,7 +13,7 @@ use c_exports::addresses::{
 use c_structs::{Addr, Block, Endpoint};
 
 // A text parses as one address, or as none.
-#[tactic(auto, using(ip_wire::proofs::EndTexts::address_once))]
+#[tactic(auto, using(crate::proofs::Once::address_once))]
 fn parse_addr(text: &[u8], addr: &mut Addr, other: &mut Addr) -> (i32, i32)
     requires { addr.old ≡ other.old }
     ensures returned { result.0 ≡ result.1 }
@@ -32,7 +32,7 @@ fn print_addr(addr: &Addr, out: &mut [u8], other: &mut [u8]) -> (isize, isize)
 }
 
 // A text parses as one block, or as none.
-#[tactic(auto, using(ip_wire::proofs::EndTexts::cidr_once))]
+#[tactic(auto, using(crate::proofs::Once::cidr_once))]
 fn parse_block(text: &[u8], block: &mut Block, other: &mut Block) -> (i32, i32)
     requires { block.old ≡ other.old }
     ensures returned { result.0 ≡ result.1 }
