@@ -52,7 +52,8 @@ class Statements:
                 for item in module.items:
                     self.add(crate.name, module, item)
             self.definitions |= {f"{path[-1]}.{d.name}" for path, module in crate.specs.items() for d in module.items}
-        self.laws = {name[-1] for crate in ("ip_wire", "wire_icmp", "app_nat", "app_host", "app_edit", "c_structs")
+        crates = "ip_wire", "wire_icmp", "app_nat", "app_host", "app_edit", "c_read", "c_write"
+        self.laws = {name[-1] for crate in crates
                      for name, target in sources.exports(crate).items() if name[0] == "laws" and name[-1][0].islower()}
 
     def add(self, crate, module, item):

@@ -80,6 +80,8 @@ class Statements:
                 yield self.fact("definition", "", it.name, "\n    ".join(it.lines), module, module.uses)
 
     def fact(self, kind, owner, name, text, module, uses):
+        # A clause means a definition by its name, also where a function has the same.
+        uses = sorted(uses, key=lambda use: use.is_ghost)
         meanings = dict(self.sources.meanings(self.crate, module, uses, text))
         for path in meanings.values():
             if path[0] == "Rattle" and path[1] in self.sources.crates and path[2] == "proofs":

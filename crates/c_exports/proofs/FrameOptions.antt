@@ -1,7 +1,7 @@
 -- The fields of a frame with a TCP header.
 use Rattle.std.proofs.Common.{ℕ, ◌≡◌, nat_le, if◌then◌else◌, Bool, true, false, List, [], arith, length, refl}
 use Rattle.ip_wire.specs.Ethernet.{ethernet_of}
-use Rattle.c_structs.specs.FrameFields.{fields_of}
+use Rattle.c_read.specs.FrameFields.{fields_of}
 use Rattle.c_structs.specs.Written.{max_len, within}
 use Rattle.c_structs.specs.declared.types.FrameFields.{FrameFields}
 

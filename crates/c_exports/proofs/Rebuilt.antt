@@ -4,8 +4,8 @@ use Rattle.std.proofs.lemmas.Bool.Decides.{nat_tests}
 use Rattle.ip_wire.proofs.Settles.{Rebuilds-frame}
 use Rattle.ip_wire.specs.Frame.{rebuilt}
 use Rattle.c_structs.proofs.Filled.{within-is}
-use Rattle.c_structs.specs.Failures.{rebuild_failure}
-use Rattle.c_structs.specs.Frames.{rebuilt_of}
+use Rattle.c_write.specs.Failures.{rebuild_failure}
+use Rattle.c_write.specs.Frames.{rebuilt_of}
 use Rattle.c_structs.specs.Written.{Writes, max_len, within}
 
 -- with room for the frame that is read, the rebuilt one fits

@@ -3,13 +3,14 @@
 
 ghost use Rattle.std.specs.Prelude.{◌≡◌, None, Some, length, pos};
 ghost use Rattle.std.specs.Option.{option_map_or};
-ghost use Rattle.c_structs.specs.Failures.{arp_failure, ip_failure, options_failure, tcp_failure, udp_failure};
-ghost use Rattle.c_structs.specs.Headers.{arp_bytes, ip_bytes, link_bytes, tcp_bytes, tcp_header_len, udp_bytes};
+ghost use Rattle.c_write.specs.Failures.{arp_failure, ip_failure, options_failure, tcp_failure, udp_failure};
+ghost use Rattle.c_write.specs.Headers.{arp_bytes, ip_bytes, link_bytes, tcp_bytes, tcp_header_len, udp_bytes};
 ghost use Rattle.c_structs.specs.Written.{Writes, failed_by, is_set};
 
-use c_structs::{
-    Addr, Arp, Endpoint, Ethernet, Ip, MAX_LEN, Tcp, TcpOptions, arp_failure, emit_tcp, emit_udp,
-    failed, is_set, udp_failure,
+use c_structs::{Addr, Arp, Endpoint, Ethernet, Ip, MAX_LEN, Tcp, TcpOptions, failed, is_set};
+use c_write::{
+    arp_failure, emit_arp, emit_ethernet, emit_ip, emit_tcp, emit_udp, ip_failure, options_failure,
+    tcp_failure, tcp_header_len, udp_failure,
 };
 
 /// Writes an Ethernet header.
@@ -18,7 +19,7 @@ pub extern "C" fn lk_emit_ethernet(header: &Ethernet, out: &mut [u8]) -> isize
     ensures { Writes (Some (link_bytes header.now header.now.ethertype)) None out.old out.new result }
 {
     if out.len() <= MAX_LEN
-        && let Some(len) = header.try_emit(out)
+        && let Some(len) = emit_ethernet(header, out)
     {
         len as isize
     } else {
@@ -32,7 +33,7 @@ pub extern "C" fn lk_emit_arp(header: &Arp, src: &Addr, dst: &Addr, out: &mut [u
     ensures { Writes (arp_bytes header.now src.now dst.now) (arp_failure src.now dst.now) out.old out.new result }
 {
     if out.len() <= MAX_LEN
-        && let Some(len) = header.emit_between(src, dst, out)
+        && let Some(len) = emit_arp(header, src, dst, out)
     {
         len as isize
     } else {
@@ -53,11 +54,11 @@ pub extern "C" fn lk_emit_ip(
     ensures { Writes (ip_bytes header.now src.now dst.now payload_len (is_set computed)) (ip_failure header.now src.now dst.now payload_len) out.old out.new result }
 {
     if out.len() <= MAX_LEN
-        && let Some(len) = header.emit_between(src, dst, payload_len, is_set(computed), out)
+        && let Some(len) = emit_ip(header, src, dst, payload_len, is_set(computed), out)
     {
         len as isize
     } else {
-        failed(header.failure(src, dst, payload_len))
+        failed(ip_failure(header, src, dst, payload_len))
     }
 }
 
@@ -100,7 +101,7 @@ pub extern "C" fn lk_emit_tcp(
     {
         len as isize
     } else {
-        failed(header.failure(options, src, dst, payload.len()))
+        failed(tcp_failure(header, options, src, dst, payload.len()))
     }
 }
 
@@ -109,8 +110,8 @@ pub extern "C" fn lk_emit_tcp(
 pub extern "C" fn lk_tcp_header_len(options: &TcpOptions) -> isize
     ensures { result ≡ option_map_or pos (tcp_header_len options.now) (failed_by (options_failure options.now)) }
 {
-    match options.header_len() {
+    match tcp_header_len(options) {
         Some(len) => len as isize,
-        None => failed(options.failure()),
+        None => failed(options_failure(options)),
     }
 }

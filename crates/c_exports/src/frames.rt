@@ -2,18 +2,22 @@
 #![tactic(auto, using(crate::proofs::Written::all, crate::proofs::Written::none, crate::proofs::Written::too_long))]
 
 ghost use Rattle.std.specs.Prelude.{◌≡◌, length};
-ghost use Rattle.c_structs.specs.Failures.{arp_failure, tcp_frame_failure, udp_frame_failure};
-ghost use Rattle.c_structs.specs.Frames.{arp_frame, reply_to, tcp_frame, tcp_frame_around, udp_frame, udp_frame_around};
+ghost use Rattle.c_write.specs.Failures.{arp_failure, tcp_frame_failure, udp_frame_failure};
+ghost use Rattle.c_write.specs.Frames.{arp_frame, reply_to, tcp_frame, tcp_frame_around, udp_frame, udp_frame_around};
 ghost use Rattle.c_structs.specs.Written.{Writes};
 
-use c_structs::{FrameFields, MAX_LEN, TcpOptions, arp_failure, failed};
+use c_structs::{FrameFields, MAX_LEN, TcpOptions, failed};
+use c_write::{
+    arp_failure, emit_arp_frame, emit_tcp_frame, emit_udp_frame, tcp_frame_failure, turn_around,
+    udp_frame_failure, wrap_tcp_frame, wrap_udp_frame,
+};
 
 /// Turns a frame that was read into its reply.
 #[unsafe(no_mangle)]
 pub extern "C" fn lk_reply(frame: &mut FrameFields)
     ensures { frame.new ≡ reply_to frame.old }
 {
-    frame.turn();
+    turn_around(frame);
 }
 
 /// Writes a whole frame with a UDP packet and this payload.
@@ -22,11 +26,11 @@ pub extern "C" fn lk_emit_udp_frame(headers: &FrameFields, payload: &[u8], out: 
     ensures { Writes (udp_frame headers.now payload.now) (udp_frame_failure headers.now (length payload.now)) out.old out.new result }
 {
     if out.len() <= MAX_LEN
-        && let Some(len) = headers.emit_udp(payload, out)
+        && let Some(len) = emit_udp_frame(headers, payload, out)
     {
         len as isize
     } else {
-        failed(headers.udp_failure(payload.len()))
+        failed(udp_frame_failure(headers, payload.len()))
     }
 }
 
@@ -41,11 +45,11 @@ pub extern "C" fn lk_emit_tcp_frame(
     ensures { Writes (tcp_frame headers.now options.now payload.now) (tcp_frame_failure headers.now options.now (length payload.now)) out.old out.new result }
 {
     if out.len() <= MAX_LEN
-        && let Some(len) = headers.emit_tcp(options, payload, out)
+        && let Some(len) = emit_tcp_frame(headers, options, payload, out)
     {
         len as isize
     } else {
-        failed(headers.tcp_failure(options, payload.len()))
+        failed(tcp_frame_failure(headers, options, payload.len()))
     }
 }
 
@@ -59,11 +63,11 @@ pub extern "C" fn lk_wrap_udp_frame(
     ensures { Writes (udp_frame_around headers.now payload_len out.old) (udp_frame_failure headers.now payload_len) out.old out.new result }
 {
     if out.len() <= MAX_LEN
-        && let Some(len) = headers.emit_udp_around(payload_len, out)
+        && let Some(len) = wrap_udp_frame(headers, payload_len, out)
     {
         len as isize
     } else {
-        failed(headers.udp_failure(payload_len))
+        failed(udp_frame_failure(headers, payload_len))
     }
 }
 
@@ -78,11 +82,11 @@ pub extern "C" fn lk_wrap_tcp_frame(
     ensures { Writes (tcp_frame_around headers.now options.now payload_len out.old) (tcp_frame_failure headers.now options.now payload_len) out.old out.new result }
 {
     if out.len() <= MAX_LEN
-        && let Some(len) = headers.emit_tcp_around(options, payload_len, out)
+        && let Some(len) = wrap_tcp_frame(headers, options, payload_len, out)
     {
         len as isize
     } else {
-        failed(headers.tcp_failure(options, payload_len))
+        failed(tcp_frame_failure(headers, options, payload_len))
     }
 }
 
@@ -92,7 +96,7 @@ pub extern "C" fn lk_emit_arp_frame(headers: &FrameFields, out: &mut [u8]) -> is
     ensures { Writes (arp_frame headers.now) (arp_failure headers.now.src.addr headers.now.dst.addr) out.old out.new result }
 {
     if out.len() <= MAX_LEN
-        && let Some(len) = headers.emit_arp(out)
+        && let Some(len) = emit_arp_frame(headers, out)
     {
         len as isize
     } else {

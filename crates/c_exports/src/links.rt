@@ -1,10 +1,11 @@
 //! Calls that read packets by the link type of a capture.
 
 ghost use Rattle.std.specs.Prelude.{◌≡◌, ◌≤◌, ◌+◌, length, pos, take};
-ghost use Rattle.c_structs.specs.Links.{link_or, link_reason, linked_of};
+ghost use Rattle.c_read.specs.Links.{link_or, link_reason, linked_of};
 ghost use Rattle.c_structs.specs.Written.{usable, within};
 
-use c_structs::{FrameFields, read_link, usable, within};
+use c_read::{read_link, read_linked};
+use c_structs::{FrameFields, usable, within};
 use wire_link::Link;
 
 /// Stores the link-layer header that captured bytes begin with, and returns 0. Returns why it is rejected, and stores
@@ -31,7 +32,7 @@ pub extern "C" fn lk_read_linktype(
     ensures reason { result ≡ pos frame.new.reason }
 {
     let len = usable(len);
-    frame.read_linked(link_type, front(within(captured), len), len);
+    read_linked(frame, link_type, front(within(captured), len), len);
     i32::from(frame.reason)
 }
 

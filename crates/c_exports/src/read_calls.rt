@@ -1,14 +1,18 @@
 //! Calls that read frames.
 
 ghost use Rattle.std.specs.Prelude.{List, ℕ, ◌++◌, ◌≡◌, ◌≤◌, ◌+◌, ◌-◌, length, pos, take};
-ghost use Rattle.c_structs.specs.Captured.{IsCutOf, captured_of, captured_packet_of};
-ghost use Rattle.c_structs.specs.FrameFields.{fields_of, packet_fields_of};
-ghost use Rattle.c_structs.specs.FrameOptions.{HasOptions};
-ghost use Rattle.c_structs.specs.Ipv6Steps as ipv6_steps;
-ghost use Rattle.c_structs.specs.TcpOptions.{ReadsItems, tcp_options_of};
-ghost use Rattle.c_structs.specs.TcpSteps.{step};
+ghost use Rattle.c_read.specs.Captured.{IsCutOf, captured_of, captured_packet_of};
+ghost use Rattle.c_read.specs.FrameFields.{fields_of, packet_fields_of};
+ghost use Rattle.c_read.specs.FrameOptions.{HasOptions};
+ghost use Rattle.c_read.specs.Ipv6Steps as ipv6_steps;
+ghost use Rattle.c_read.specs.TcpOptions.{ReadsItems, tcp_options_of};
+ghost use Rattle.c_read.specs.TcpSteps.{step};
 ghost use Rattle.c_structs.specs.Written.{IsRead, max_len, usable, within};
 
+use c_read::{
+    next_ipv6_header, next_tcp_option, read_frame, read_frame_options, read_packet,
+    read_tcp_options,
+};
 use c_structs::{FrameFields, Ipv6HeaderPlace, TcpOptionPlace, TcpOptions, usable, within};
 
 const VERSION_MAJOR: u32 = 0;
@@ -33,7 +37,7 @@ pub extern "C" fn lk_read_frame(bytes: &[u8], frame: &mut FrameFields) -> i32
     ensures within { frame.new.payload_offset + frame.new.payload_len ≤ length bytes.now }
     ensures reason { result ≡ pos (fields_of (within bytes.now)).reason }
 {
-    frame.read(within(bytes));
+    read_frame(frame, within(bytes));
     i32::from(frame.reason)
 }
 
@@ -45,7 +49,7 @@ pub extern "C" fn lk_read_packet(bytes: &[u8], frame: &mut FrameFields) -> i32
     ensures within { frame.new.payload_offset + frame.new.payload_len ≤ length bytes.now }
     ensures reason { result ≡ pos (packet_fields_of (within bytes.now)).reason }
 {
-    frame.read_packet(within(bytes));
+    read_packet(frame, within(bytes));
     i32::from(frame.reason)
 }
 
@@ -94,7 +98,7 @@ fn read_captured(captured: &[u8], len: usize, frame: &mut FrameFields) -> i32
     if len <= captured.len() {
         return lk_read_frame(&captured[..len], frame);
     }
-    frame.read_captured(captured, len);
+    c_read::read_captured(frame, captured, len);
     i32::from(frame.reason)
 }
 
@@ -111,7 +115,7 @@ fn read_captured_packet(captured: &[u8], len: usize, frame: &mut FrameFields) ->
     if len <= captured.len() {
         return lk_read_packet(&captured[..len], frame);
     }
-    frame.read_captured_packet(captured, len);
+    c_read::read_captured_packet(frame, captured, len);
     i32::from(frame.reason)
 }
 
@@ -121,7 +125,11 @@ fn read_captured_packet(captured: &[u8], len: usize, frame: &mut FrameFields) ->
 pub extern "C" fn lk_read_tcp_options(header: &[u8], options: &mut TcpOptions) -> i32
     ensures { IsRead ReadsItems tcp_options_of (within header.now) options.old options.new result }
 {
-    if options.read(within(header)) { 1 } else { 0 }
+    if read_tcp_options(options, within(header)) {
+        1
+    } else {
+        0
+    }
 }
 
 /// Parses an Ethernet frame as `lk_read_frame` does. Stores the options of the TCP header too, or zeros if none was read.
@@ -137,7 +145,7 @@ pub extern "C" fn lk_read_frame_options(
     ensures reason { result ≡ pos (fields_of (within bytes.now)).reason }
 {
     let reason = lk_read_frame(bytes, frame);
-    options.read_in(frame, bytes);
+    read_frame_options(options, frame, bytes);
     reason
 }
 
@@ -148,7 +156,7 @@ pub extern "C" fn lk_next_tcp_option(header: &[u8], option: &mut TcpOptionPlace)
     ensures returned { result ≡ (step (within header.now) option.old).0 }
     ensures stored { option.new ≡ (step (within header.now) option.old).1 }
 {
-    option.step(within(header))
+    next_tcp_option(option, within(header))
 }
 
 /// Steps to the next header of an IPv6 packet, and returns 1. Returns 0 if no extension header follows, and -1 if there
@@ -158,5 +166,5 @@ pub extern "C" fn lk_next_ipv6_header(packet: &[u8], header: &mut Ipv6HeaderPlac
     ensures returned { result ≡ (ipv6_steps.step (within packet.now) header.old).0 }
     ensures stored { header.new ≡ (ipv6_steps.step (within packet.now) header.old).1 }
 {
-    header.step(within(packet))
+    next_ipv6_header(header, within(packet))
 }

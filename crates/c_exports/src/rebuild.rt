@@ -3,11 +3,12 @@
 
 ghost use Rattle.std.specs.Prelude.{◌≡◌, ◌≤◌, length, pos};
 ghost use Rattle.ip_wire.specs.Frame.{rebuilt};
-ghost use Rattle.c_structs.specs.Frames.{rebuilt_of};
-ghost use Rattle.c_structs.specs.Failures.{rebuild_failure};
+ghost use Rattle.c_write.specs.Frames.{rebuilt_of};
+ghost use Rattle.c_write.specs.Failures.{rebuild_failure};
 ghost use Rattle.c_structs.specs.Written.{Writes, max_len, within};
 
-use c_structs::{MAX_LEN, failed, rebuild_failure, rebuild_frame, within};
+use c_structs::{MAX_LEN, failed, within};
+use c_write::{rebuild_failure, rebuild_frame};
 
 /// Parses a frame, and writes it with its headers emitted again. Returns its length, which is at most that
 /// of the parsed frame.

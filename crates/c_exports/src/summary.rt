@@ -2,10 +2,10 @@
 
 ghost use Rattle.std.specs.Prelude.{◌≡◌, None, Some};
 ghost use Rattle.c_structs.specs.Written.{Prints};
-ghost use Rattle.c_summary.specs.Summary.{frame_line};
+ghost use Rattle.c_read.specs.Summary.{frame_line};
 
+use c_read::print_frame;
 use c_structs::FrameFields;
-use c_summary::print_frame;
 
 /// Prints a frame in one line.
 #[unsafe(no_mangle)]

@@ -3,14 +3,15 @@ use Rattle.std.proofs.Common.{ℕ, ◌≡◌, ◌∙◌, ◌+◌, ◌≤◌, ◌
 use Rattle.std.proofs.lemmas.Bool.Decides.{nat_tests}
 use Rattle.std.proofs.lemmas.Grind.{common_steps}
 use Rattle.std.proofs.lemmas.Option.{none-some}
-use Rattle.std.specs.Option.{option_and_then, option_map, unwrap_or}
+use Rattle.std.specs.Option.{option_and_then, option_map}
 use Rattle.ip_wire.specs.Types.{IpAddress, IpRepr}
 use Rattle.wire_field.specs.Filled as filled
 use Rattle.wire_icmp.specs.Icmp.{emitted}
 use Rattle.wire_icmp.specs.declared.icmp.header.IcmpHeader.{IcmpHeader}
 use Rattle.c_structs.specs.Addresses.{pair_of}
-use Rattle.c_structs.specs.Frames.{framed, headers_bytes, ip_header}
-use Rattle.c_structs.specs.Headers.{only_if}
+use Rattle.c_write.proofs.Framed.{same-Some}
+use Rattle.c_write.specs.Frames.{framed, headers_bytes, ip_header}
+use Rattle.c_write.specs.Headers.{only_if}
 use Rattle.c_structs.specs.Written.{Fills}
 use Rattle.c_structs.specs.declared.types.Addr.{Addr}
 use Rattle.c_structs.specs.declared.types.FrameFields.{FrameFields}
@@ -19,9 +20,6 @@ use Rattle.c_structs.specs.declared.types.Icmp.{Icmp}
 
 length-emitted : (h : IcmpHeader) (payload : List ℕ) (src dst : IpAddress) (computed : Bool) → length (emitted h payload src dst computed) ≡ 8 + length payload
 length-emitted h payload src dst computed = simp length-append (omega arith)
-
-same-Some : {T : Type 0} (x y : T) → Some x ≡ Some y → x ≡ y
-same-Some x y e = ap (λ o. unwrap_or o x) e
 
 filtered-length : (b : Bool) (bytes packet : List ℕ) (size : ℕ) → length bytes ≡ size → only_if b bytes ≡ Some packet → length packet ≡ size
 filtered-length true bytes packet size is e = ap length (sym (same-Some bytes packet e)) ∙ is

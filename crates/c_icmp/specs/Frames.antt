@@ -2,8 +2,8 @@
 -- Pinned by: `worked/icmp`, `judge`
 use Rattle.std.specs.Prelude.{ℕ, ◌+◌, ◌==◌, nat_lt, if◌then◌else◌, true, List, Option, None, Some}
 use Rattle.std.specs.Option.{option_and_then, option_or}
-use Rattle.c_structs.specs.Failures.{frame_failure, most_payload, pair_failure}
-use Rattle.c_structs.specs.Frames.{framed}
+use Rattle.c_write.specs.Failures.{frame_failure, most_payload, pair_failure}
+use Rattle.c_write.specs.Frames.{framed}
 use Rattle.c_structs.specs.declared.failures.Failure.{Failure}
 use Rattle.c_structs.specs.declared.failures.Failure.TheVariants as failure
 use Rattle.c_structs.specs.declared.types.Addr.{Addr}

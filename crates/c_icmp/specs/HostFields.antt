@@ -7,7 +7,7 @@ use Rattle.app_host.specs.declared.host.Host.{Host}
 use Rattle.app_host.specs.declared.interface.Interface.{Interface}
 use Rattle.app_host.specs.declared.tcp_reply.Offer.{Offer}
 use Rattle.ip_wire.specs.TcpRepr.{seq_of}
-use Rattle.c_structs.specs.Headers.{is_yes}
+use Rattle.c_write.specs.Headers.{is_yes}
 use Rattle.c_structs.specs.Written.{failure_code}
 use Rattle.c_structs.specs.declared.failures.Failure.TheVariants as failure
 use Rattle.c_icmp.specs.Interfaces.{WritesReplyTo, interface_of}

@@ -5,7 +5,7 @@ use Rattle.std.specs.Option.{option_and_then}
 use Rattle.wire_icmp.specs.Icmp.{emitted}
 use Rattle.wire_icmp.specs.declared.icmp.header.IcmpHeader.{IcmpHeader}
 use Rattle.c_structs.specs.Addresses.{pair_of}
-use Rattle.c_structs.specs.Headers.{only_if}
+use Rattle.c_write.specs.Headers.{only_if}
 use Rattle.c_structs.specs.declared.types.Addr.{Addr}
 use Rattle.c_structs.specs.declared.types.Icmp.{Icmp}
 

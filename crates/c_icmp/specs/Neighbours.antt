@@ -10,9 +10,9 @@ use Rattle.wire_icmp.specs.Ndisc.{Reads, bytes_of}
 use Rattle.wire_icmp.specs.declared.ndisc.repr.NdiscRepr.{NdiscRepr}
 use Rattle.wire_icmp.specs.declared.ndisc.repr.NdiscRepr.TheVariants.{NeighborSolicit, NeighborAdvert}
 use Rattle.c_structs.specs.Addresses.{addr_of}
-use Rattle.c_structs.specs.Frames.{framed}
-use Rattle.c_structs.specs.FrameFields.{no_ip}
-use Rattle.c_structs.specs.Headers.{is_yes, only_if, where_set}
+use Rattle.c_write.specs.Frames.{framed}
+use Rattle.c_structs.specs.Nothing.{no_ip}
+use Rattle.c_write.specs.Headers.{is_yes, only_if, where_set}
 use Rattle.c_structs.specs.Written.{flag}
 use Rattle.c_structs.specs.declared.failures.Failure.{Failure}
 use Rattle.c_structs.specs.declared.failures.Failure.TheVariants as failure

@@ -8,7 +8,8 @@ ghost use Rattle.c_structs.specs.Written.{Fills};
 ghost use Rattle.c_icmp.specs.Frames.{icmp_failure, icmp_frame, icmp_frame_failure, protocol_number};
 ghost use Rattle.c_icmp.specs.Messages.{header_value, icmp_bytes};
 
-use c_structs::{Addr, Failure, FrameFields, Icmp, most_payload, pair_failure};
+use c_structs::{Addr, Failure, FrameFields, Icmp};
+use c_write::{emit_headers, frame_failure, headers_len, ip_header, most_payload, pair_failure};
 use ip_wire::ChecksumCapabilities;
 use wire_icmp::{ICMP_HEADER_LEN, IcmpHeader};
 
@@ -88,14 +89,14 @@ pub fn emit_icmp_frame(headers: &FrameFields, payload: &[u8], out: &mut [u8]) ->
     }
     let version = headers.src.addr.version;
     let len = ICMP_HEADER_LEN + payload.len();
-    let ip_header = headers.ip_header(version, protocol_number(version), len)?;
-    let start = headers.headers_len(&ip_header);
+    let ip_header = ip_header(headers, version, protocol_number(version), len)?;
+    let start = headers_len(&ip_header);
     let end = start + len;
     if out.len() < end {
         return None;
     }
     let (front, message) = out.split_at_mut(start);
-    headers.emit_headers(&ip_header, front);
+    emit_headers(headers, &ip_header, front);
     let (src, dst) = (&headers.src.addr, &headers.dst.addr);
     match emit_icmp(&headers.icmp, src, dst, payload, true, message) {
         Some(_) => Some(end),
@@ -108,7 +109,7 @@ pub fn emit_icmp_frame(headers: &FrameFields, payload: &[u8], out: &mut [u8]) ->
 pub fn icmp_frame_failure(headers: &FrameFields, payload_len: usize) -> Option<Failure>
     ensures { result ≡ icmp_frame_failure headers.now payload_len }
 {
-    let failure = headers.failure(true);
+    let failure = frame_failure(headers, true);
     let most = most_payload(headers.src.addr.version);
     if failure.is_some() {
         failure

@@ -9,6 +9,7 @@ ghost use Rattle.c_icmp.specs.Neighbours.{CarriesNdisc, ReadsNdisc, has_ipv6, ha
 use crate::emit::ICMPV6;
 use crate::types::Ndisc;
 use c_structs::{Addr, Failure, FrameFields, Ip};
+use c_write::{emit_headers, headers_len, ip_header};
 use ip_wire::{
     Carried, ChecksumCapabilities, EthernetAddress, Frame, IpAddress, IpProtocol, IpRepr, Ipv6Repr,
     Transport,
@@ -157,14 +158,14 @@ pub fn emit_ndisc_frame(frame: &FrameFields, ndisc: &Ndisc, out: &mut [u8]) -> O
     headers.ip = ndisc_ip();
     let value = ndisc.value();
     let len = value.buffer_len();
-    let ip_header = headers.ip_header(6, ICMPV6, len)?;
-    let start = headers.headers_len(&ip_header);
+    let ip_header = ip_header(&headers, 6, ICMPV6, len)?;
+    let start = headers_len(&ip_header);
     let end = start + len;
     if out.len() < end {
         return None;
     }
     let (front, message) = out.split_at_mut(start);
-    headers.emit_headers(&ip_header, front);
+    emit_headers(&headers, &ip_header, front);
     let (src, dst) = (headers.src.addr.ipv6(), headers.dst.addr.ipv6());
     match value.try_emit(message, &src, &dst, &ChecksumCapabilities::default()) {
         Some(_) => Some(end),

@@ -16,7 +16,7 @@ use Rattle.ip_wire.specs.declared.Checksum.{Checksum}
 use Rattle.ip_wire.specs.declared.Checksum.TheVariants as checksum
 use Rattle.ip_wire.specs.declared.ChecksumCapabilities.{ChecksumCapabilities}
 use Rattle.c_structs.specs.Codes.{verdict_code}
-use Rattle.c_structs.specs.FrameFields.{tcp_verdict}
+use Rattle.c_structs.specs.Verdicts.{tcp_verdict}
 use Rattle.c_structs.specs.Written.{max_len, within}
 use Rattle.c_structs.specs.declared.codes.Verdict.TheVariants as verdict
 

@@ -4,7 +4,9 @@ use crate::derived::Frames;
 use crate::digest::Digest;
 use crate::frames::{Kind, ROOM, pool};
 use crate::random::Random;
-use c_structs::{Endpoint, FrameFields, rebuild_frame};
+use c_read::read_frame;
+use c_structs::{Endpoint, FrameFields};
+use c_write::rebuild_frame;
 use std::alloc::{AllocError, Global};
 
 /// Reads and rebuilds this many frames. Of one of four rebuilt frames the digest has all bytes, of the others the
@@ -21,7 +23,7 @@ pub fn run(alloc: Global, random: &mut Random, count: u32) -> Result<Digest, All
         let damage = Damage::new(random, frame.len());
         damage.turn(frame);
         let bytes = frame.get(..damage.len).unwrap_or(&[]);
-        fields.read(bytes);
+        read_frame(&mut fields, bytes);
         let rebuilt = rebuild_frame(bytes, again.as_mut_slice());
         add_fields(&fields, &mut digest);
         match rebuilt.and_then(|n| again.as_slice().get(..n)) {

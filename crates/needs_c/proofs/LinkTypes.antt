@@ -11,11 +11,12 @@ use Rattle.wire_link.specs.declared.link_type.LinkType.TheVariants as kind
 use Rattle.ip_wire.specs.Ethernet.{protocol_of}
 use Rattle.ip_wire.specs.Types.{EthernetProtocol}
 use Rattle.ip_wire.specs.declared.EthernetProtocol.TheVariants as ethertype
-use Rattle.c_structs.proofs.CutOf.{arp-keeps, ipv4-keeps, ipv6-keeps}
-use Rattle.c_structs.specs.Captured.{cut_carried}
+use Rattle.c_read.proofs.CutOf.{arp-keeps, ipv4-keeps, ipv6-keeps}
+use Rattle.c_read.specs.Captured.{cut_carried}
 use Rattle.c_structs.specs.Codes.{reason_code}
-use Rattle.c_structs.specs.FrameFields.{nothing_of, rejected, with_carried}
-use Rattle.c_structs.specs.Links.{carried_by, ethernet_in, fault_reason, found_or, link_or, link_reason, linked_after, linked_by, linked_of, with_linked}
+use Rattle.c_structs.specs.Nothing.{nothing_of}
+use Rattle.c_read.specs.FrameFields.{rejected, with_carried}
+use Rattle.c_read.specs.Links.{carried_by, ethernet_in, fault_reason, found_or, link_or, link_reason, linked_after, linked_by, linked_of, with_linked}
 use Rattle.c_structs.specs.Written.{max_len, usable, within}
 use Rattle.c_structs.specs.declared.codes.Reason.TheVariants as reason
 use Rattle.c_structs.specs.declared.types.FrameFields.{FrameFields}

@@ -22,7 +22,7 @@ pub use Rattle.ip_wire.proofs.EndTexts.{address_once, cidr_once}
 pub use Rattle.c_routing.proofs.Tables.{usable-itself as short_len}
 pub use Rattle.c_structs.proofs.Filled.{within-is as short_bytes}
 use Rattle.c_structs.proofs.WrittenOnce.{writes-once}
-use Rattle.c_structs.specs.TcpOptions.{ReadsItems}
+use Rattle.c_read.specs.TcpOptions.{ReadsItems}
 use Rattle.c_structs.specs.Written.{IsRead, Writes, max_len, within}
 use Rattle.c_structs.specs.declared.failures.Failure.{Failure}
 

@@ -1,8 +1,8 @@
 -- The options of the TCP header in a frame: one list.
 use Rattle.std.proofs.Common.{ℕ, ◌≡◌, ◌≢◌, ◌∙◌, List, ap, arith, inl, inr, sym}
 use Rattle.std.proofs.lemmas.Bool.{cases_lt}
-use Rattle.c_structs.specs.FrameOptions.{HasOptions, header_in}
-use Rattle.c_structs.specs.TcpOptions.{tcp_options_of}
+use Rattle.c_read.specs.FrameOptions.{HasOptions, header_in}
+use Rattle.c_read.specs.TcpOptions.{tcp_options_of}
 use Rattle.c_structs.specs.declared.types.FrameFields.{FrameFields}
 use Rattle.c_structs.specs.declared.types.TcpOptions.{TcpOptions}
 use Rattle.needs_c.proofs.Once.{one_options}

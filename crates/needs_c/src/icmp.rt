@@ -4,21 +4,22 @@ ghost use Rattle.std.specs.Prelude.{◌≡◌, ◌≢◌, ◌≤◌, ◌+◌, �
 ghost use Rattle.ip_wire.specs.Ethernet as ethernet;
 ghost use Rattle.ip_wire.specs.Types.{EthernetRepr, IpRepr};
 ghost use Rattle.ip_wire.specs.Field.{field};
-ghost use Rattle.c_structs.specs.Captured.{captured_of, captured_packet_of};
-ghost use Rattle.c_structs.specs.FrameFields.{bare_of, fields_of, packet_fields_of};
-ghost use Rattle.c_structs.specs.Links.{linked_of};
-ghost use Rattle.c_structs.specs.Messages.{CarriesIcmp, IsIcmp};
-ghost use Rattle.c_structs.specs.Stored.{IsTypeOf, headed, headed_by};
+ghost use Rattle.c_read.specs.Captured.{captured_of, captured_packet_of};
+ghost use Rattle.c_read.specs.FrameFields.{bare_of, fields_of, packet_fields_of};
+ghost use Rattle.c_read.specs.Links.{linked_of};
+ghost use Rattle.c_read.specs.Messages.{CarriesIcmp, IsIcmp};
+ghost use Rattle.c_read.specs.Stored.{IsTypeOf, headed, headed_by};
 
-use c_structs::{FrameFields, laws};
+use c_read::{laws, read_frame, read_packet};
+use c_structs::FrameFields;
 
 /// A frame or packet without an ICMP message has a type of 0, and its transport is not 3.
 fn other_frames_have_no_icmp(bytes: &[u8], frame: &mut FrameFields, packet: &mut FrameFields)
     ensures frame { ((ip : IpRepr) (m : List ℕ) → ¬ CarriesIcmp bytes.now ip m) → (frame.new.icmp.msg_type ≡ 0) × (frame.new.transport ≢ 3) }
     ensures packet { ((ip : IpRepr) (m : List ℕ) → ¬ IsIcmp bytes.now ip m) → (packet.new.icmp.msg_type ≡ 0) × (packet.new.transport ≢ 3) }
 {
-    frame.read(bytes);
-    packet.read_packet(bytes);
+    read_frame(frame, bytes);
+    read_packet(packet, bytes);
     laws::other_frames_have_no_icmp(bytes);
 }
 
@@ -47,7 +48,7 @@ fn messages_are_stored(bytes: &[u8], frame: &mut FrameFields)
         × (frame.new.payload_offset ≡ frame.new.transport_offset + 8)
         × (frame.new.payload_len + 8 ≡ length m) × (frame.new.icmp.msg_type ≡ field m 0 8) }
 {
-    frame.read(bytes);
+    read_frame(frame, bytes);
     laws::messages_are_stored(bytes);
 }
 
@@ -57,7 +58,7 @@ fn messages_are_stored_of_packets(bytes: &[u8], packet: &mut FrameFields)
         × (packet.new.payload_offset ≡ packet.new.transport_offset + 8)
         × (packet.new.payload_len + 8 ≡ length m) × (packet.new.icmp.code ≡ field m 8 8) }
 {
-    packet.read_packet(bytes);
+    read_packet(packet, bytes);
     laws::messages_are_stored(bytes);
 }
 

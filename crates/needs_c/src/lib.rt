@@ -4,5 +4,6 @@
 
 mod calls;
 mod edits;
+mod failures;
 mod icmp;
 mod structs;

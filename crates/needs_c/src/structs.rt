@@ -1,19 +1,16 @@
 //! Needs the laws of the structs of C.
 
-ghost use Rattle.std.specs.Prelude.{◌≡◌, ◌≢◌, ◌≤◌, ◌+◌, List, None, ℕ, drop, false, is_some, length, slice_range, true};
+ghost use Rattle.std.specs.Prelude.{◌≡◌, ◌≢◌, ◌≤◌, ◌+◌, List, ℕ, drop, false, length, slice_range, true};
 ghost use Rattle.ip_wire.specs.Ethernet as ethernet;
 ghost use Rattle.ip_wire.specs.Frame.{Carried, ReadsFrame, datagram, packet, packet_payload, type_of};
 ghost use Rattle.ip_wire.specs.Ip.{ReadsHeader};
 ghost use Rattle.ip_wire.specs.Ipv4 as ipv4;
 ghost use Rattle.ip_wire.specs.Types.{EthernetRepr, IpRepr, Ipv4, Ipv4Repr, UdpRepr};
 ghost use Rattle.ip_wire.specs.declared.EthernetProtocol.TheVariants as ethertype;
-ghost use Rattle.c_structs.specs.Addresses.{block_of, ip_of};
-ghost use Rattle.c_structs.specs.Failures.{addr_failure, arp_failure, block_failure, ip_failure, options_failure, rebuild_failure, tcp_failure, tcp_frame_failure, udp_failure, udp_frame_failure};
-ghost use Rattle.c_structs.specs.Frames.{arp_frame, rebuilt_of, tcp_frame, udp_frame};
-ghost use Rattle.c_structs.specs.Headers.{arp_bytes, ip_bytes, tcp_bytes, tcp_header_len, udp_bytes};
-ghost use Rattle.c_structs.specs.Stored.{HasVerdicts, IsTypeOf, Stores, unchecked};
+ghost use Rattle.c_read.specs.Stored.{HasVerdicts, IsTypeOf, Stores, unchecked};
 
-use c_structs::{Addr, Arp, Block, Endpoint, FrameFields, Ip, Tcp, TcpOptions, laws};
+use c_read::{laws, read_frame};
+use c_structs::FrameFields;
 use ip_wire::ChecksumCapabilities;
 
 /// The fields of a frame with a UDP packet: both ports, and the place of the payload.
@@ -22,7 +19,7 @@ fn fields_are_parsed(frame: &[u8], caps: ChecksumCapabilities, fields: &mut Fram
         → (fields.new.src.port ≡ udp.src_port) × (fields.new.dst.port ≡ udp.dst_port) × (fields.new.payload_len ≡ length payload) }
     ensures any { (v : EthernetRepr) (w : Carried) → ReadsFrame unchecked frame.now v w → Stores fields.new frame.now v w }
 {
-    fields.read(frame);
+    read_frame(fields, frame);
     laws::fields_are_parsed(frame, caps);
 }
 
@@ -35,7 +32,7 @@ fn fields_are_parsed_with_checksums(
     ensures right { (v : EthernetRepr) (w : Carried) → ReadsFrame unchecked frame.now v w → HasVerdicts caps fields.new → ReadsFrame caps frame.now v w }
     ensures only { (v : EthernetRepr) (w : Carried) → ReadsFrame unchecked frame.now v w → ReadsFrame caps frame.now v w → HasVerdicts caps fields.new }
 {
-    fields.read(frame);
+    read_frame(fields, frame);
     laws::fields_are_parsed(frame, caps);
 }
 
@@ -44,7 +41,7 @@ fn fields_are_parsed_only_then(frame: &[u8], caps: ChecksumCapabilities, fields:
     ensures { fields.new.reason ≡ 0 → fields.new.network ≢ 0 → fields.new.is_fragment ≡ 0
         → (v : EthernetRepr) × (w : Carried) × ReadsFrame unchecked frame.now v w }
 {
-    fields.read(frame);
+    read_frame(fields, frame);
     laws::fields_are_parsed(frame, caps);
 }
 
@@ -56,7 +53,7 @@ fn fields_before_are_parsed(frame: &[u8], fields: &mut FrameFields)
         → ipv4.Reads (drop 14 frame.now) false w → ipv4.is_fragment (drop 14 frame.now) ≡ true
         → fields.new.payload_len ≡ length (packet_payload (Ipv4 w) (drop 14 frame.now)) }
 {
-    fields.read(frame);
+    read_frame(fields, frame);
     laws::fields_before_are_parsed(frame);
 }
 
@@ -66,7 +63,7 @@ fn fields_before_are_parsed_of_rejected(frame: &[u8], fields: &mut FrameFields)
         → ReadsHeader (drop 14 frame.now) false w → fields.new.reason ≢ 0
         → slice_range frame.now fields.new.payload_offset (fields.new.payload_offset + fields.new.payload_len) ≡ packet_payload w (drop 14 frame.now) }
 {
-    fields.read(frame);
+    read_frame(fields, frame);
     laws::fields_before_are_parsed(frame);
 }
 
@@ -75,7 +72,7 @@ fn fields_before_are_parsed_of_unread(frame: &[u8], fields: &mut FrameFields)
     ensures { (v : EthernetRepr) → ethernet.Reads frame.now v → fields.new.network ≡ 0
         → slice_range frame.now fields.new.payload_offset (fields.new.payload_offset + fields.new.payload_len) ≡ drop 14 frame.now }
 {
-    fields.read(frame);
+    read_frame(fields, frame);
     laws::fields_before_are_parsed(frame);
 }
 
@@ -84,7 +81,7 @@ fn rejected_is_no_transport(frame: &[u8], fields: &mut FrameFields)
     ensures rejected { fields.new.reason ≢ 0 → fields.new.transport ≡ 0 }
     ensures parsed { fields.new.reason ≡ 0 → fields.new.rejected ≡ 0 }
 {
-    fields.read(frame);
+    read_frame(fields, frame);
     laws::rejected_is_no_transport(frame);
 }
 
@@ -97,47 +94,4 @@ fn frame_has_packet(frame: &[u8], whole: &mut FrameFields, packet: &mut FrameFie
         → whole.new.payload_len ≡ packet.new.payload_len }
 {
     laws::frame_has_packet(frame, whole, packet);
-}
-
-/// Addresses, blocks and options without a failure have a value.
-fn failures_are_exact(addr: Addr, block: Block, options: TcpOptions)
-    ensures addr { addr_failure addr ≡ None → is_some (ip_of addr) ≡ true }
-    ensures block { block_failure block ≡ None → is_some (block_of block) ≡ true }
-    ensures options { options_failure options ≡ None → is_some (tcp_header_len options) ≡ true }
-{
-    laws::failures_are_exact();
-}
-
-/// Headers without a failure have bytes.
-fn failures_are_exact_of_headers(
-    arp: Arp,
-    ip: Ip,
-    tcp: Tcp,
-    options: TcpOptions,
-    src: Endpoint,
-    dst: Endpoint,
-    payload: &[u8],
-    computed: bool,
-)
-    ensures arp { arp_failure src.addr dst.addr ≡ None → is_some (arp_bytes arp src.addr dst.addr) ≡ true }
-    ensures ip { ip_failure ip src.addr dst.addr (length payload.now) ≡ None → is_some (ip_bytes ip src.addr dst.addr (length payload.now) computed) ≡ true }
-    ensures udp { udp_failure src dst (length payload.now) ≡ None → is_some (udp_bytes src dst payload.now computed) ≡ true }
-    ensures tcp { tcp_failure tcp options src dst (length payload.now) ≡ None → is_some (tcp_bytes tcp options src dst payload.now computed) ≡ true }
-{
-    laws::failures_are_exact();
-}
-
-/// Frames without a failure have bytes.
-fn failures_are_exact_of_frames(
-    fields: FrameFields,
-    options: TcpOptions,
-    payload: &[u8],
-    frame: &[u8],
-)
-    ensures udp { udp_frame_failure fields (length payload.now) ≡ None → is_some (udp_frame fields payload.now) ≡ true }
-    ensures tcp { tcp_frame_failure fields options (length payload.now) ≡ None → is_some (tcp_frame fields options payload.now) ≡ true }
-    ensures arp { arp_failure fields.src.addr fields.dst.addr ≡ None → is_some (arp_frame fields) ≡ true }
-    ensures rebuilt { rebuild_failure frame.now ≡ None → is_some (rebuilt_of frame.now) ≡ true }
-{
-    laws::failures_are_exact();
 }

@@ -1,8 +1,8 @@
 //! Needs the contracts of calls that parse.
 
 ghost use Rattle.std.specs.Prelude.{List, ℕ, ◌++◌, ◌≡◌, ◌≤◌, ◌+◌, length};
-ghost use Rattle.c_structs.specs.Captured.{IsCutOf};
-ghost use Rattle.c_structs.specs.FrameFields.{fields_of, packet_fields_of};
+ghost use Rattle.c_read.specs.Captured.{IsCutOf};
+ghost use Rattle.c_read.specs.FrameFields.{fields_of, packet_fields_of};
 
 use c_exports::read_calls::{
     lk_next_ipv6_header, lk_next_tcp_option, lk_read_captured, lk_read_captured_packet,

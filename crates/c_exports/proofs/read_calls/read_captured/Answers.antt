@@ -1,10 +1,10 @@
 use Rattle.std.proofs.Common.{ℕ, ◌≡◌, ◌≤◌, ◌∙◌, ◌-◌, List, ap, arith, length, sym, take}
-use Rattle.c_structs.proofs.CapturedOf.{captured_of-whole}
+use Rattle.c_read.proofs.CapturedOf.{captured_of-whole}
 use Rattle.std.proofs.lemmas.Grind.{common_steps}
 use Rattle.c_structs.proofs.Filled.{within-is}
-use Rattle.c_structs.specs.FrameFields.{fields_of}
-use Rattle.c_structs.proofs.CutFrame.{read-cut}
-use Rattle.c_structs.specs.Captured.{captured_of}
+use Rattle.c_read.specs.FrameFields.{fields_of}
+use Rattle.c_read.proofs.CutFrame.{read-cut}
+use Rattle.c_read.specs.Captured.{captured_of}
 use Rattle.c_structs.specs.Written.{max_len, within}
 use Rattle.c_exports.proofs.read_calls.read_captured.Goals as goal
 

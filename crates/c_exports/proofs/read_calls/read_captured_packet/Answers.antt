@@ -1,10 +1,10 @@
 use Rattle.std.proofs.Common.{ℕ, ◌≡◌, ◌≤◌, ◌∙◌, ◌-◌, List, ap, arith, length, sym, take}
-use Rattle.c_structs.proofs.CapturedOf.{captured_packet_of-whole}
+use Rattle.c_read.proofs.CapturedOf.{captured_packet_of-whole}
 use Rattle.std.proofs.lemmas.Grind.{common_steps}
 use Rattle.c_structs.proofs.Filled.{within-is}
-use Rattle.c_structs.specs.FrameFields.{packet_fields_of}
-use Rattle.c_structs.proofs.CutFrame.{read-packet-cut}
-use Rattle.c_structs.specs.Captured.{captured_packet_of}
+use Rattle.c_read.specs.FrameFields.{packet_fields_of}
+use Rattle.c_read.proofs.CutFrame.{read-packet-cut}
+use Rattle.c_read.specs.Captured.{captured_packet_of}
 use Rattle.c_structs.specs.Written.{max_len, within}
 use Rattle.c_exports.proofs.read_calls.read_captured_packet.Goals as goal
 

@@ -1,5 +1,5 @@
 use Rattle.std.proofs.Common.{◌≡◌, ◌∙◌, ◌+◌, ◌≤◌, Some, arith, length, subst, sym, true}
-use Rattle.c_structs.specs.Frames.{ip_header}
+use Rattle.c_write.specs.Frames.{ip_header}
 use Rattle.c_icmp.proofs.Packets.{framed-filled, length-icmp}
 use Rattle.c_icmp.specs.Frames.{protocol_number}
 use Rattle.c_icmp.specs.Messages.{icmp_bytes}

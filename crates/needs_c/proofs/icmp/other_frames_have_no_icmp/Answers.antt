@@ -4,7 +4,7 @@ use Rattle.needs_c.proofs.icmp.other_frames_have_no_icmp.Goals as goal
 
 pub returns-clause-frame : goal.returns-clause-frame
 returns-clause-frame c none =
-    let (not, icmp) = c.other_frames_have_no_icmp.ensures.frame none in rw c.read.ensures.value (ap (λ (h : Icmp). h.msg_type) icmp, not)
+    let (not, icmp) = c.other_frames_have_no_icmp.ensures.frame none in rw c.read_frame.ensures.value (ap (λ (h : Icmp). h.msg_type) icmp, not)
 
 pub returns-clause-packet : goal.returns-clause-packet
 returns-clause-packet c none =

@@ -2,4 +2,4 @@ use Rattle.needs_c.proofs.structs.fields_before_are_parsed_of_rejected.Goals as 
 
 pub returns : goal.returns
 returns c v w reads is ip =
-    rw c.read.ensures.value (λ reason. (c.fields_before_are_parsed.ensures.rejected v w reads is ip reason).payload.octets)
+    rw c.read_frame.ensures.value (λ reason. (c.fields_before_are_parsed.ensures.rejected v w reads is ip reason).payload.octets)

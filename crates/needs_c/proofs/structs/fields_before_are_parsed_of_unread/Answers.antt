@@ -2,4 +2,4 @@ use Rattle.needs_c.proofs.structs.fields_before_are_parsed_of_unread.Goals as go
 
 pub returns : goal.returns
 returns c v reads =
-    rw c.read.ensures.value (λ network. (c.fields_before_are_parsed.ensures.unread v reads network).payload.octets)
+    rw c.read_frame.ensures.value (λ network. (c.fields_before_are_parsed.ensures.unread v reads network).payload.octets)

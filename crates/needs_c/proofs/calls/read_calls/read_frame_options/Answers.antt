@@ -1,7 +1,7 @@
 use Rattle.std.proofs.Common.{◌≡◌, ◌∙◌, subst, sym}
 use Rattle.needs_c.proofs.OptionsOnce.{frame_options_once}
 use Rattle.c_structs.specs.declared.types.FrameFields.{FrameFields}
-use Rattle.c_structs.specs.FrameOptions.{HasOptions}
+use Rattle.c_read.specs.FrameOptions.{HasOptions}
 use Rattle.c_structs.specs.Written.{within}
 use Rattle.needs_c.proofs.calls.read_calls.read_frame_options.Goals as goal
 

@@ -1,5 +1,5 @@
 use Rattle.std.proofs.Common.{ap, of_z, to_z, w32}
-use Rattle.c_structs.specs.TcpOptions.{ReadsItems, tcp_options_of}
+use Rattle.c_read.specs.TcpOptions.{ReadsItems, tcp_options_of}
 use Rattle.needs_c.proofs.Once.{one_options, read_once}
 use Rattle.needs_c.proofs.calls.read_calls.read_tcp_options.Goals as goal
 

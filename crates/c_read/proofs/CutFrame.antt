@@ -1,0 +1,151 @@
+-- The struct of captured bytes, by that of the whole frame.
+use Rattle.std.proofs.Common.{ℕ, ◌≡◌, ◌∙◌, ◌≤◌, ◌<◌, inl, inr, ◌+◌, ◌-◌, ◌==◌, if◌then◌else◌, Bool, true, false, List, [], ◌∷◌, ◌++◌, append-nil, ap, drop, length, refl, slice_range, sym, take, arith}
+use Rattle.std.proofs.lemmas.Bool.{cases_lt}
+use Rattle.std.proofs.lemmas.Grind.{common_steps}
+use Rattle.std.proofs.lemmas.List.{drop-append-le}
+use Rattle.ip_wire.specs.Ethernet as ethernet
+use Rattle.ip_wire.specs.Field.{field}
+use Rattle.ip_wire.specs.Types.{EthernetProtocol, EthernetRepr}
+use Rattle.ip_wire.specs.declared.EthernetProtocol.TheVariants as ethertype
+use Rattle.c_structs.specs.Nothing.{nothing_of}
+use Rattle.c_structs.specs.declared.codes.Reason.TheVariants as reason
+use Rattle.c_structs.specs.declared.types.FrameFields.{FrameFields}
+use Rattle.c_read.proofs.CapturedOf.{captured_of-long, captured_of-short, captured_of-whole, captured_packet_of-long, captured_packet_of-short, captured_packet_of-whole}
+use Rattle.c_read.proofs.CutArp.{cut-arp}
+use Rattle.c_read.proofs.CutBytes.{field-front, longer, lt-false, lt-true, range-front}
+use Rattle.c_read.proofs.CutIpv4.{cut-ipv4, dropped}
+use Rattle.c_read.proofs.CutIpv6.{cut-ipv6}
+use Rattle.c_read.proofs.CutOf.{IsStart, cut-as, same-of}
+use Rattle.c_read.proofs.FieldsOf.{fields_of_long, fields_of_short, packet_fields_of-some}
+use Rattle.c_read.specs.Captured.{IsCutOf, before, captured_of, captured_packet_of, cut_carried, cut_ipv4, cut_ipv6, cut_packet, link, transport_header}
+use Rattle.c_read.specs.FrameFields.{bare_of, fields_of, packet_fields_of, rejected, with_carried, with_ipv4, with_ipv6, with_link, with_packet}
+
+-- ---- packets
+
+unsent : (f : FrameFields) → IsStart f → f ≡ before transport_header f
+unsent f start = start ∙ sym (ap (before transport_header) start)
+
+pub cut-carried : (f : FrameFields) (t : EthernetProtocol) (bytes rest : List ℕ) → IsStart f → f.payload_len ≡ length (bytes ++ rest)
+    → IsCutOf (cut_carried f t bytes) (with_carried f t (bytes ++ rest))
+cut-carried f ethertype.Arp bytes rest start len = cut-arp f bytes rest start len
+cut-carried f ethertype.Ipv4 bytes rest start len = cut-ipv4 f bytes rest start (unsent f start) len
+cut-carried f ethertype.Ipv6 bytes rest start len = cut-ipv6 f bytes rest start len
+cut-carried f (ethertype.Unknown n) bytes rest start len = same-of f f refl
+
+abbrev by-version : FrameFields → ℕ → FrameFields → FrameFields → FrameFields
+by-version f version x y = if version == 4 then x else if version == 6 then y else rejected f reason.BadVersion
+
+choice : (a c : Bool) (x y z x2 y2 : FrameFields) → IsCutOf x x2 → IsCutOf y y2 → IsCutOf (if a then x else if c then y else z) (if a then x2 else if c then y2 else z)
+choice true c x y z x2 y2 p q = p
+choice false true x y z x2 y2 p q = q
+choice false false x y z x2 y2 p q = same-of z z refl
+
+packet-cut : (f : FrameFields) (bytes rest : List ℕ) → 1 ≤ length bytes → IsStart f → f.payload_len ≡ length (bytes ++ rest)
+    → IsCutOf (cut_packet f bytes) (with_packet f (bytes ++ rest))
+packet-cut f bytes rest h start len =
+    let all = bytes ++ rest in
+    let version : field all 0 4 ≡ field bytes 0 4 = field-front bytes rest 0 4 (omega (arith, h)) in
+    cut-as _ _ _ _ refl (ap (λ (n : ℕ). by-version f n (with_ipv4 f all) (with_ipv6 f all)) version)
+    (choice (field bytes 0 4 == 4) (field bytes 0 4 == 6) (cut_ipv4 f bytes) (cut_ipv6 f bytes) (rejected f reason.BadVersion) (with_ipv4 f all) (with_ipv6 f all)
+    (cut-ipv4 f bytes rest start (unsent f start) len) (cut-ipv6 f bytes rest start len))
+
+-- ---- frames
+
+abbrev value : List ℕ → List ℕ → ℕ → EthernetRepr
+value dst src type = record { dst_addr = record { 0 = dst }; src_addr = record { 0 = src }; ethertype = ethernet.protocol_of type }
+
+value-front : (bytes rest : List ℕ) → 14 ≤ length bytes → ethernet.header_of (bytes ++ rest) ≡ ethernet.header_of bytes
+value-front bytes rest h =
+    let all = bytes ++ rest in
+    ap (λ (l : List ℕ). value l (slice_range all 6 12) (field all 96 16)) (range-front bytes rest 0 6 (omega arith) (omega (arith, h)))
+    ∙ ap (λ (l : List ℕ). value (slice_range bytes 0 6) l (field all 96 16)) (range-front bytes rest 6 12 (omega arith) (omega (arith, h)))
+    ∙ ap (λ (n : ℕ). value (slice_range bytes 0 6) (slice_range bytes 6 12) n) (field-front bytes rest 96 16 (omega (arith, h)))
+
+-- the struct after an Ethernet header, and what it carries
+abbrev linked : EthernetRepr → ℕ → ℕ → List ℕ → FrameFields
+linked v len payload_len payload = with_carried (with_link (nothing_of len) v payload_len) v.ethertype payload
+
+frame-cut : (bytes rest : List ℕ) → 0 < length rest → IsCutOf (captured_of bytes (length rest)) (fields_of (bytes ++ rest))
+frame-cut bytes rest missing =
+    let all = bytes ++ rest in
+    let size = longer bytes rest in
+    let len = length bytes + length rest in
+    elim (cases_lt (length bytes) 14) [
+      | inl few ↦
+          let cut = captured_of-short bytes (length rest) missing few in
+          elim (cases_lt len 14) [
+            | inl none ↦
+                same-of _ _ (cut ∙ ap (λ (b : Bool). rejected (nothing_of len) (if b then reason.TooShort else reason.HeaderCut)) (lt-true len 14 none)
+                ∙ sym (fields_of_short all (omega (arith, size, none)) ∙ ap nothing_of size))
+            | inr more ↦
+                cut-as _ _ _ _ (cut ∙ ap (λ (b : Bool). rejected (nothing_of len) (if b then reason.TooShort else reason.HeaderCut)) (lt-false len 14 more)) refl
+                (inr (link, record { reason = refl; fields = refl }))
+          ]
+      | inr h ↦
+          let v = ethernet.header_of bytes in
+          let payload : drop 14 all ≡ drop 14 bytes ++ rest = drop-append-le 14 bytes rest h in
+          let count : length (drop 14 all) ≡ len - 14 = dropped 14 all ∙ ap (λ (n : ℕ). n - 14) size in
+          let whole =
+          fields_of_long all (omega (arith, size, h))
+          ∙ ap (λ (w : EthernetRepr). linked w (length all) (length (drop 14 all)) (drop 14 all)) (value-front bytes rest h)
+          ∙ ap (λ (n : ℕ). linked v n (length (drop 14 all)) (drop 14 all)) size
+          ∙ ap (λ (n : ℕ). linked v len n (drop 14 all)) count
+          ∙ ap (linked v len (len - 14)) payload
+          in
+          cut-as _ _ _ _ (captured_of-long bytes (length rest) missing h) whole
+          (cut-carried (with_link (nothing_of len) v (len - 14)) v.ethertype (drop 14 bytes) rest refl (sym count ∙ ap length payload))
+    ]
+
+bare-cut : (bytes rest : List ℕ) → 0 < length rest → IsCutOf (captured_packet_of bytes (length rest)) (packet_fields_of (bytes ++ rest))
+bare-cut bytes rest missing =
+    let all = bytes ++ rest in
+    let size = longer bytes rest in
+    let len = length bytes + length rest in
+    elim (cases_lt (length bytes) 1) [
+      | inl few ↦
+          cut-as _ _ _ _
+          (captured_packet_of-short bytes (length rest) missing few
+          ∙ ap (λ (b : Bool). rejected (bare_of len) (if b then reason.TooShort else reason.HeaderCut)) (lt-false len 1 (omega (arith, missing)))) refl
+          (inr (link, record { reason = refl; fields = refl }))
+      | inr h ↦
+          cut-as _ _ _ _ (captured_packet_of-long bytes (length rest) missing h)
+          (packet_fields_of-some all (omega (arith, size, h)) ∙ ap (λ (n : ℕ). with_packet (bare_of n) all) size)
+          (packet-cut (bare_of len) bytes rest h refl (sym size))
+    ]
+
+-- ---- with nothing missing too
+
+pub captured-cut : (bytes rest : List ℕ) → IsCutOf (captured_of bytes (length rest)) (fields_of (bytes ++ rest))
+captured-cut bytes [] = same-of _ _ (captured_of-whole bytes ∙ ap fields_of (sym (append-nil bytes)))
+captured-cut bytes (x ∷ rest) = frame-cut bytes (x ∷ rest) (omega arith)
+
+pub captured-packet-cut : (bytes rest : List ℕ) → IsCutOf (captured_packet_of bytes (length rest)) (packet_fields_of (bytes ++ rest))
+captured-packet-cut bytes [] = same-of _ _ (captured_packet_of-whole bytes ∙ ap packet_fields_of (sym (append-nil bytes)))
+captured-packet-cut bytes (x ∷ rest) = bare-cut bytes (x ∷ rest) (omega arith)
+
+-- the arguments of a call, of which no byte is left out
+taken : {A : Type 0} (of : List ℕ → ℕ → A) (bytes rest : List ℕ) (len : ℕ) → length bytes + length rest ≡ len → of (take len bytes) (len - length bytes) ≡ of bytes (length rest)
+taken of bytes rest len is =
+    let all : take len bytes ≡ bytes = grind (arith, common_steps) in
+    let missing : len - length bytes ≡ length rest = omega (arith, is) in
+    ap (λ (b : List ℕ). of b (len - length bytes)) all ∙ ap (of bytes) missing
+
+pub read-cut : (bytes rest : List ℕ) (len : ℕ) (f : FrameFields) → f ≡ captured_of (take len bytes) (len - length bytes) → length bytes + length rest ≡ len
+    → IsCutOf f (fields_of (bytes ++ rest))
+read-cut bytes rest len f is sum = cut-as _ _ _ _ (is ∙ taken captured_of bytes rest len sum) refl (captured-cut bytes rest)
+
+pub read-packet-cut : (bytes rest : List ℕ) (len : ℕ) (f : FrameFields) → f ≡ captured_packet_of (take len bytes) (len - length bytes) → length bytes + length rest ≡ len
+    → IsCutOf f (packet_fields_of (bytes ++ rest))
+read-packet-cut bytes rest len f is sum = cut-as _ _ _ _ (is ∙ taken captured_packet_of bytes rest len sum) refl (captured-packet-cut bytes rest)
+
+-- nothing is missing
+pub read-whole : (bytes : List ℕ) (len : ℕ) (f : FrameFields) → f ≡ captured_of (take len bytes) (len - length bytes) → len ≤ length bytes → f ≡ fields_of (take len bytes)
+read-whole bytes len f is h =
+    let none : len - length bytes ≡ 0 = omega (arith, h) in
+    is ∙ ap (captured_of (take len bytes)) none ∙ captured_of-whole (take len bytes)
+
+pub read-packet-whole : (bytes : List ℕ) (len : ℕ) (f : FrameFields) → f ≡ captured_packet_of (take len bytes) (len - length bytes) → len ≤ length bytes
+    → f ≡ packet_fields_of (take len bytes)
+read-packet-whole bytes len f is h =
+    let none : len - length bytes ≡ 0 = omega (arith, h) in
+    is ∙ ap (captured_packet_of (take len bytes)) none ∙ captured_packet_of-whole (take len bytes)

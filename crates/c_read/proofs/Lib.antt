@@ -1,0 +1,21 @@
+pub mod CapturedOf
+mod CutArp
+mod CutBytes
+pub mod CutFrame
+mod CutIpv4
+mod CutIpv6
+mod CutMessage
+pub mod CutOf
+mod CutTcp
+mod CutUdp
+mod CutWorked
+mod FieldsOf
+mod FrameOptions
+pub mod InFrame
+mod Messages
+mod RejectedApart
+mod Steps
+mod StoredFrame
+mod StoredHeaders
+mod StoredParts
+mod TcpUsual

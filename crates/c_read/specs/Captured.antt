@@ -1,0 +1,207 @@
+-- The struct of a frame of which only the first bytes were captured. The payload's length in the struct counts all
+-- bytes of the frame. The bytes are those that were captured, and fewer.
+-- Pinned by: `CutWorked`
+use Rattle.std.specs.Prelude.{ℕ, ◌≡◌, ◌⊎◌, ◌+◌, ◌-◌, ◌==◌, ◌||◌, not, nat_le, nat_lt, if◌then◌else◌, Bool, false, List, drop, length}
+use Rattle.std.specs.Option.{option_map_or}
+use Rattle.ip_wire.specs.Ethernet as ethernet
+use Rattle.ip_wire.specs.Field.{field}
+use Rattle.ip_wire.specs.Ip.{dst_addr_of, next_header_of, src_addr_of}
+use Rattle.ip_wire.specs.Ipv4 as ipv4
+use Rattle.ip_wire.specs.Ipv6 as ipv6
+use Rattle.ip_wire.specs.Ipv6Fragment as fragment
+use Rattle.ip_wire.specs.Tcp as tcp
+use Rattle.ip_wire.specs.TcpRepr.{tcp_of}
+use Rattle.ip_wire.specs.Udp as udp
+use Rattle.ip_wire.specs.Types.{EthernetProtocol, EthernetRepr, IpAddress, IpProtocol, IpRepr, Ipv4, Ipv6}
+use Rattle.ip_wire.specs.declared.EthernetProtocol.TheVariants as ethertype
+use Rattle.ip_wire.specs.declared.IpProtocol.TheVariants as protocol
+use Rattle.c_structs.specs.Codes.{reason_code, transport_code, verdict_code}
+use Rattle.c_structs.specs.Nothing.{nothing_of, no_icmp, no_tcp}
+use Rattle.c_structs.specs.Verdicts.{cut_udp_verdict}
+use Rattle.c_structs.specs.declared.codes.Reason.TheVariants as reason
+use Rattle.c_structs.specs.declared.codes.TransportKind.TheVariants as transport
+use Rattle.c_structs.specs.declared.codes.Verdict.TheVariants as verdict
+use Rattle.c_structs.specs.declared.types.FrameFields.{FrameFields}
+use Rattle.c_read.specs.FrameFields.{bare_of, after_header, fields_of, has_message, ipv4_fault, ipv6_fault, packet_fields_of, rejected, rejected_transport, tcp_fault, with_arp, with_fragment_header, with_icmp, with_ipv4, with_ipv4_fields, with_ipv6, with_ipv6_fields, with_link, with_tcp_fields, with_udp, with_udp_fields}
+
+-- ---- the headers
+
+-- the fields after a header of at least `least` bytes was rejected, because it was not captured or because the frame
+-- is too short for it
+abbrev pub cut_header : FrameFields → ℕ → FrameFields
+cut_header f least = rejected f (if nat_lt f.payload_len least then reason.TooShort else reason.HeaderCut)
+
+-- The fields with those of a UDP packet. A packet that was captured as a whole, or whose length is invalid, is stored
+-- as in a whole frame.
+abbrev pub cut_udp : FrameFields → IpAddress → IpAddress → List ℕ → FrameFields
+cut_udp f src dst bytes =
+    if nat_lt (length bytes) 8 then cut_header f 8
+    else if nat_le (udp.packet_len bytes) (length bytes) || nat_lt f.payload_len (udp.packet_len bytes) then with_udp f src dst bytes
+    else let next = with_udp_fields f bytes (cut_udp_verdict src bytes) in
+    if field bytes 16 16 == 0 then rejected_transport next reason.PortZero else after_header next 8 (udp.packet_len bytes - 8)
+
+-- the fields with those of a TCP segment; its checksum covers all of it, and cannot be verified
+abbrev pub cut_tcp : FrameFields → IpAddress → IpAddress → List ℕ → FrameFields
+cut_tcp f src dst bytes =
+    if nat_lt (length bytes) 20 then cut_header f 20
+    else let next = with_tcp_fields f bytes verdict.ChecksumCut in
+    option_map_or (λ v. after_header next (tcp.header_len bytes) (f.payload_len - tcp.header_len bytes)) (tcp_of src dst false bytes)
+    (rejected_transport next (tcp_fault bytes f.payload_len))
+
+-- the fields with those of the payload of a packet of this protocol between two addresses, if it is UDP, TCP or ICMP; the
+-- checksum of a message covers all of it, and cannot be verified
+abbrev pub cut_transport_by : FrameFields → IpProtocol → IpAddress → IpAddress → List ℕ → FrameFields
+cut_transport_by f protocol.Udp src dst bytes = cut_udp f src dst bytes
+cut_transport_by f protocol.Tcp src dst bytes = cut_tcp f src dst bytes
+cut_transport_by f p src dst bytes = if has_message p src bytes then with_icmp f bytes verdict.ChecksumCut else f
+
+-- the fields with those of the payload of a packet with this header
+abbrev pub cut_payload : FrameFields → IpRepr → List ℕ → FrameFields
+cut_payload f v bytes = cut_transport_by f (next_header_of v) (src_addr_of v) (dst_addr_of v) bytes
+
+-- the fields with those of an ARP packet
+abbrev pub cut_arp : FrameFields → List ℕ → FrameFields
+cut_arp f bytes = if nat_lt (length bytes) 28 then cut_header f 28 else with_arp f bytes
+
+-- the fields with those of an IPv4 packet whose header was captured, but not all of its payload
+abbrev pub begun_ipv4 : FrameFields → List ℕ → FrameFields
+begun_ipv4 f bytes =
+    let v = ipv4.header_of bytes in let next = with_ipv4_fields f bytes v v.payload_len in
+    if ipv4.is_fragment bytes then next else cut_payload next (Ipv4 v) (drop (ipv4.header_len bytes) bytes)
+
+-- whether the bytes are no IPv4 header, whatever follows them
+abbrev pub is_no_ipv4 : FrameFields → List ℕ → Bool
+is_no_ipv4 f bytes =
+    not (field bytes 0 4 == 4) || nat_lt (ipv4.header_len bytes) 20 || nat_lt (ipv4.total_len bytes) (ipv4.header_len bytes)
+    || nat_lt f.payload_len (ipv4.total_len bytes)
+
+-- The fields with those of an IPv4 packet. A packet that was captured as a whole is stored as in a whole frame.
+abbrev pub cut_ipv4 : FrameFields → List ℕ → FrameFields
+cut_ipv4 f bytes =
+    if nat_lt (length bytes) 20 then cut_header f 20
+    else if nat_le (ipv4.total_len bytes) (length bytes) then with_ipv4 f bytes
+    else if is_no_ipv4 f bytes then rejected f (ipv4_fault bytes)
+    else if nat_lt (length bytes) (ipv4.header_len bytes) then rejected f reason.HeaderCut
+    else begun_ipv4 f bytes
+
+-- the fields with those of an IPv6 fragment header; it is not parsed if the payload itself is too short for it
+abbrev pub cut_fragment : FrameFields → List ℕ → FrameFields
+cut_fragment f bytes =
+    if nat_lt f.payload_len 8 then f
+    else if nat_lt (length bytes) 8 then rejected f reason.HeaderCut
+    else with_fragment_header f (fragment.header_of (drop 2 bytes))
+
+-- the fields with those of a fragment header, if the protocol of an IPv6 packet says that there is one
+abbrev pub cut_fragment_by : FrameFields → IpProtocol → List ℕ → FrameFields
+cut_fragment_by f protocol.Ipv6Frag bytes = cut_fragment f bytes
+cut_fragment_by f _ bytes = f
+
+-- the fields with those of an IPv6 packet whose header was captured, but not all of its payload
+abbrev pub begun_ipv6 : FrameFields → List ℕ → FrameFields
+begun_ipv6 f bytes =
+    let v = ipv6.header_of bytes in let next = cut_fragment_by (with_ipv6_fields f bytes v v.payload_len) v.next_header (drop 40 bytes) in
+    cut_payload next (Ipv6 v) (drop 40 bytes)
+
+-- the fields with those of an IPv6 packet
+abbrev pub cut_ipv6 : FrameFields → List ℕ → FrameFields
+cut_ipv6 f bytes =
+    if nat_lt (length bytes) 40 then cut_header f 40
+    else if nat_le (ipv6.total_len bytes) (length bytes) then with_ipv6 f bytes
+    else if not (field bytes 0 4 == 6) || nat_lt f.payload_len (ipv6.total_len bytes) then rejected f (ipv6_fault bytes)
+    else begun_ipv6 f bytes
+
+-- the fields with those of an IP packet of either version
+abbrev pub cut_packet : FrameFields → List ℕ → FrameFields
+cut_packet f bytes =
+    if field bytes 0 4 == 4 then cut_ipv4 f bytes
+    else if field bytes 0 4 == 6 then cut_ipv6 f bytes
+    else rejected f reason.BadVersion
+
+-- the fields with those of the payload of a frame of this type
+abbrev pub cut_carried : FrameFields → EthernetProtocol → List ℕ → FrameFields
+cut_carried f ethertype.Arp bytes = cut_arp f bytes
+cut_carried f ethertype.Ipv4 bytes = cut_ipv4 f bytes
+cut_carried f ethertype.Ipv6 bytes = cut_ipv6 f bytes
+cut_carried f (ethertype.Unknown n) bytes = f
+
+-- the fields with those of a frame with this Ethernet header
+abbrev pub cut_frame : FrameFields → EthernetRepr → List ℕ → FrameFields
+cut_frame f v bytes = cut_carried (with_link f v (f.payload_len - 14)) v.ethertype bytes
+
+-- ---- the frame
+
+-- the values of a frame of which these bytes were captured, and `missing` bytes after them were not
+unfoldable pub captured_of : List ℕ → ℕ → FrameFields
+captured_of bytes missing =
+    if missing == 0 then fields_of bytes
+    else let f = nothing_of (length bytes + missing) in
+    if nat_lt (length bytes) 14 then cut_header f 14 else cut_frame f (ethernet.header_of bytes) (drop 14 bytes)
+
+-- the values of a packet without an Ethernet header of which these bytes were captured, and `missing` bytes after
+-- them were not
+unfoldable pub captured_packet_of : List ℕ → ℕ → FrameFields
+captured_packet_of bytes missing =
+    if missing == 0 then packet_fields_of bytes
+    else let f = bare_of (length bytes + missing) in
+    if nat_lt (length bytes) 1 then cut_header f 1 else cut_packet f bytes
+
+-- ---- the same by the struct of the whole frame
+
+-- a header that was not captured as a whole; `options` are those of TCP
+pub data CutHeader : Type 0 where
+  link : CutHeader
+  network : CutHeader
+  fragment_header : CutHeader
+  transport_header : CutHeader
+  options : CutHeader
+
+-- the fields of the whole frame without those of a header that was cut, and of what follows it
+abbrev pub before : CutHeader → FrameFields → FrameFields
+before link g = nothing_of 0
+before network g = record (nothing_of 0) { ethernet = g.ethernet }
+before fragment_header g = record g {
+  ip = record g.ip { ident = 0; fragment_offset = 0; more_fragments = 0 };
+  is_fragment = 0;
+}
+before transport_header g = record g {
+  transport_offset = 0;
+  src = record g.src { port = 0 };
+  dst = record g.dst { port = 0 };
+  tcp = no_tcp;
+  transport = transport_code transport.None;
+  rejected = transport_code transport.None;
+  transport_checksum = verdict_code verdict.None;
+  icmp = no_icmp;
+}
+before options g = record g {
+  transport = transport_code transport.None;
+  rejected = transport_code transport.Tcp;
+  transport_checksum = verdict_code verdict.ChecksumCut;
+  icmp = no_icmp;
+}
+
+-- a header was cut: the fields before it are those of the whole frame, and the payload begins at it
+pub record IsCutAt (h : CutHeader) (f g : FrameFields) : Type 0 where
+  pub reason : f.reason ≡ reason_code reason.HeaderCut
+  pub fields : f ≡ record (before h g) { reason = f.reason; payload_offset = f.payload_offset; payload_len = f.payload_len }
+
+-- no header was cut: all fields are those of the whole frame, but a checksum may cover bytes that are missing
+pub record HasHeaders (f g : FrameFields) : Type 0 where
+  pub checksum : (f.transport_checksum ≡ g.transport_checksum) ⊎ (f.transport_checksum ≡ verdict_code verdict.ChecksumCut)
+  pub fields : f ≡ record g { transport_checksum = f.transport_checksum }
+
+-- the header of an ICMP message was cut, and is not rejected: the message is payload
+pub record LacksMessage (f g : FrameFields) : Type 0 where
+  pub named : g.transport ≡ transport_code transport.Icmp
+  pub fields : f ≡ record g {
+    transport_offset = 0;
+    payload_offset = g.transport_offset;
+    payload_len = g.payload_len + 8;
+    transport = transport_code transport.None;
+    transport_checksum = verdict_code verdict.None;
+    icmp = no_icmp;
+  }
+
+-- the fields of a frame of which only a part was captured, by those of the whole frame
+abbrev pub IsCutOf : FrameFields → FrameFields → Type 0
+IsCutOf f g = (HasHeaders f g ⊎ LacksMessage f g) ⊎ ((h : CutHeader) × IsCutAt h f g)

@@ -1,0 +1,11 @@
+pub mod Captured
+pub mod FrameFields
+pub mod FrameOptions
+pub mod Ipv6Steps
+pub mod Links
+pub mod Messages
+pub mod Stored
+pub mod Summary
+pub mod TcpOptions
+pub mod TcpSteps
+pub mod TcpUsual

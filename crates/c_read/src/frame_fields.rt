@@ -1,0 +1,306 @@
+//! The values of a frame, stored in the struct of C.
+
+ghost use Rattle.std.specs.Prelude.{◌≡◌, ◌≤◌, ◌+◌, drop, length};
+ghost use Rattle.ip_wire.specs.Arp as arp;
+ghost use Rattle.ip_wire.specs.Ethernet as ethernet;
+ghost use Rattle.ip_wire.specs.Ipv4 as ipv4;
+ghost use Rattle.ip_wire.specs.Ipv6 as ipv6;
+ghost use Rattle.ip_wire.specs.Ipv6Fragment as fragment;
+ghost use Rattle.ip_wire.specs.Protocol.{protocol_of};
+ghost use Rattle.c_structs.specs.Addresses.{endpoint_of};
+ghost use Rattle.c_read.specs.FrameFields.{after_header, fields_of, packet_fields_of, rejected, with_arp, with_fragment_by, with_fragment_header, with_frame, with_ipv4, with_ipv4_fields, with_ipv6, with_ipv6_fields, with_link, with_message, with_packet};
+
+use crate::faults::{ARP_LEN, arp_fault, ipv4_fault, ipv6_fault};
+use crate::transport_fields::store_transport;
+use crate::verdicts::ipv4_verdict;
+use byteorder::{ByteOrder, NetworkEndian};
+use c_structs::{
+    Addr, DONT_FRAGMENT, DSCP_UNIT, Endpoint, FLOW_LABELS, FrameFields, MORE_FRAGMENTS,
+    NetworkKind, Reason,
+};
+use ip_wire::{
+    ArpPacket, ArpRepr, ChecksumCapabilities, ETHERNET_HEADER_LEN, EthernetAddress, EthernetFrame,
+    EthernetProtocol, IPV6_HEADER_LEN, IpAddress, IpProtocol, Ipv4Address, Ipv4Packet, Ipv4Repr,
+    Ipv6FragmentHeader, Ipv6Packet, Ipv6Repr,
+};
+use wire_field::array_at;
+
+// The byte of the EtherType in an Ethernet header.
+const ETHERTYPE: usize = 12;
+
+// The length of an IPv6 fragment header, in bytes (RFC 8200, section 4.5).
+pub(super) const FRAGMENT_HEADER_LEN: usize = 8;
+
+// An address of a header without ports.
+#[inline(always)]
+fn without_port(address: IpAddress) -> Endpoint
+    ensures { result ≡ endpoint_of address 0 }
+{
+    Endpoint {
+        addr: Addr::of(address),
+        port: 0,
+    }
+}
+
+/// Stores the values of a frame, up to a header that is rejected.
+#[inline(always)]
+pub fn read_frame(fields: &mut FrameFields, bytes: &[u8])
+    ensures value { fields.new ≡ fields_of bytes.now }
+    ensures within { fields.new.payload_offset + fields.new.payload_len ≤ length bytes.now }
+{
+    *fields = FrameFields::nothing(bytes.len());
+    let frame = EthernetFrame::new_unchecked(bytes);
+    if frame.check_len().is_ok() {
+        store_frame(fields, &frame);
+    }
+}
+
+/// Stores the values of an IP packet without an Ethernet header, up to a header that is rejected.
+#[inline(always)]
+pub fn read_packet(fields: &mut FrameFields, bytes: &[u8])
+    ensures value { fields.new ≡ packet_fields_of bytes.now }
+    ensures within { fields.new.payload_offset + fields.new.payload_len ≤ length bytes.now }
+{
+    *fields = FrameFields::nothing(bytes.len());
+    if !bytes.is_empty() {
+        fields.reason = Reason::Read.code();
+        store_packet(fields, bytes);
+    }
+}
+
+// Stores an IP packet of either version.
+#[inline(always)]
+fn store_packet(fields: &mut FrameFields, bytes: &[u8])
+    requires offset { fields.old.payload_offset ≤ 28 }
+    requires len { fields.old.payload_len ≡ length bytes.now }
+    requires version { 1 ≤ length bytes.now }
+    ensures value { fields.new ≡ with_packet fields.old bytes.now }
+    ensures within { fields.new.payload_offset + fields.new.payload_len ≤ fields.old.payload_offset + length bytes.now }
+{
+    match Ipv4Packet::new_unchecked(bytes).version() {
+        4 => store_ipv4(fields, bytes),
+        6 => store_ipv6(fields, bytes),
+        _ => reject(fields, Reason::BadVersion),
+    }
+}
+
+// Moves the payload after a header of this length.
+pub(super) fn step_after(fields: &mut FrameFields, header_len: usize, payload_len: usize)
+    requires { fields.old.payload_offset + header_len ≤ 200 }
+    ensures { fields.new ≡ after_header fields.old header_len payload_len }
+{
+    fields.payload_offset += header_len;
+    fields.payload_len = payload_len;
+}
+
+// Stores why the next header is rejected.
+pub(super) fn reject(fields: &mut FrameFields, reason: Reason)
+    ensures { fields.new ≡ rejected fields.old reason }
+{
+    fields.reason = reason.code();
+}
+
+// Stores a frame with a whole header.
+#[inline(always)]
+fn store_frame(fields: &mut FrameFields, frame: &EthernetFrame<'_>)
+    requires offset { fields.old.payload_offset ≡ 0 }
+    requires header { 14 ≤ length (ethernet.frame_bytes frame.now) }
+    ensures value { let bytes = ethernet.frame_bytes frame.now in
+        fields.new ≡ with_frame fields.old (ethernet.header_of bytes) (drop 14 bytes) }
+    ensures within { fields.new.payload_offset + fields.new.payload_len ≤ length (ethernet.frame_bytes frame.now) }
+{
+    // Read before anything is stored: the compiler does not know that the struct and the frame are apart.
+    let ethertype = NetworkEndian::read_u16(&frame.as_bytes()[ETHERTYPE..ETHERNET_HEADER_LEN]);
+    let payload = frame.payload();
+    store_link(fields, frame, payload.len());
+    match EthernetProtocol::from(ethertype) {
+        EthernetProtocol::Arp => store_arp(fields, payload),
+        EthernetProtocol::Ipv4 => store_ipv4(fields, payload),
+        EthernetProtocol::Ipv6 => store_ipv6(fields, payload),
+        EthernetProtocol::Unknown(_) => {}
+    }
+}
+
+// Stores the Ethernet header of a frame with a payload of this length.
+#[inline(always)]
+pub(super) fn store_link(fields: &mut FrameFields, frame: &EthernetFrame<'_>, payload_len: usize)
+    requires offset { fields.old.payload_offset ≡ 0 }
+    requires header { 14 ≤ length (ethernet.frame_bytes frame.now) }
+    ensures { fields.new ≡ with_link fields.old (ethernet.header_of (ethernet.frame_bytes frame.now)) payload_len }
+{
+    fields.ethernet.ethertype = frame.ethertype().number();
+    let EthernetAddress(src) = frame.src_addr();
+    fields.ethernet.src = src;
+    let EthernetAddress(dst) = frame.dst_addr();
+    fields.ethernet.dst = dst;
+    fields.reason = Reason::Read.code();
+    step_after(fields, ETHERNET_HEADER_LEN, payload_len);
+}
+
+// Stores an ARP packet.
+pub(super) fn store_arp(fields: &mut FrameFields, bytes: &[u8])
+    requires offset { fields.old.payload_offset ≤ 28 }
+    requires len { length bytes.now ≤ fields.old.payload_len }
+    ensures value { fields.new ≡ with_arp fields.old bytes.now }
+    ensures within { fields.new.payload_offset + fields.new.payload_len ≤ fields.old.payload_offset + fields.old.payload_len }
+{
+    match ArpRepr::parse(&ArpPacket::new_unchecked(bytes)) {
+        Ok(_) => store_message(fields, bytes),
+        Err(_) => reject(fields, arp_fault(bytes)),
+    }
+}
+
+// Stores the values of an ARP packet for Ethernet and IPv4, after which there is only padding. They
+// are copied from the packet one by one.
+fn store_message(fields: &mut FrameFields, bytes: &[u8])
+    requires offset { fields.old.payload_offset ≤ 28 }
+    requires whole { 28 ≤ length bytes.now }
+    ensures value { fields.new ≡ with_message fields.old (arp.value_of bytes.now) }
+    ensures offset { fields.new.payload_offset ≡ fields.old.payload_offset + 28 }
+    ensures len { fields.new.payload_len ≡ 0 }
+{
+    fields.network = NetworkKind::Arp.code();
+    fields.network_offset = fields.payload_offset;
+    let src_addr = Ipv4Address::from_octets(array_at(bytes, 14));
+    fields.src = without_port(IpAddress::Ipv4(src_addr));
+    let dst_addr = Ipv4Address::from_octets(array_at(bytes, 24));
+    fields.dst = without_port(IpAddress::Ipv4(dst_addr));
+    fields.arp.operation = ArpPacket::new_unchecked(bytes).operation().number();
+    fields.arp.src_hardware = array_at(bytes, 8);
+    fields.arp.dst_hardware = array_at(bytes, 18);
+    step_after(fields, ARP_LEN, 0);
+}
+
+// Stores an IPv4 packet. The payload of a fragment is not parsed.
+#[inline(always)]
+pub(super) fn store_ipv4(fields: &mut FrameFields, bytes: &[u8])
+    requires offset { fields.old.payload_offset ≤ 28 }
+    requires len { length bytes.now ≤ fields.old.payload_len }
+    ensures value { fields.new ≡ with_ipv4 fields.old bytes.now }
+    ensures within { fields.new.payload_offset + fields.new.payload_len ≤ fields.old.payload_offset + fields.old.payload_len }
+{
+    let packet = Ipv4Packet::new_unchecked(bytes);
+    match Ipv4Repr::parse(&packet, &ChecksumCapabilities::ignored()) {
+        Ok(header) => {
+            let payload = packet.payload();
+            store_ipv4_header(fields, &packet, &header, payload.len());
+            if fields.is_fragment == 0 {
+                let src_addr = IpAddress::Ipv4(header.src_addr);
+                let dst_addr = IpAddress::Ipv4(header.dst_addr);
+                let protocol = fields.ip.protocol;
+                store_transport(fields, protocol, &src_addr, &dst_addr, payload);
+            }
+        }
+        Err(_) => reject(fields, ipv4_fault(&packet)),
+    }
+}
+
+// Stores the header of an IPv4 packet with a payload of this length.
+#[inline(always)]
+pub(super) fn store_ipv4_header(
+    fields: &mut FrameFields,
+    packet: &Ipv4Packet<'_>,
+    header: &Ipv4Repr,
+    payload_len: usize,
+)
+    requires offset { fields.old.payload_offset ≤ 28 }
+    requires least { 20 ≤ length (ipv4.packet_bytes packet.now) }
+    requires header { ipv4.header_len (ipv4.packet_bytes packet.now) ≤ length (ipv4.packet_bytes packet.now) }
+    ensures { fields.new ≡ with_ipv4_fields fields.old (ipv4.packet_bytes packet.now) header.now payload_len }
+{
+    // Read before anything is stored: the compiler does not know that the struct and the packet are apart.
+    let header_len = usize::from(packet.header_len());
+    let service = packet.as_bytes()[1];
+    let fragment = NetworkEndian::read_u16(&packet.as_bytes()[6..8]);
+    fields.network = NetworkKind::Ipv4.code();
+    fields.network_offset = fields.payload_offset;
+    fields.src = without_port(IpAddress::Ipv4(header.src_addr));
+    fields.dst = without_port(IpAddress::Ipv4(header.dst_addr));
+    fields.ip.ident = u32::from(packet.ident());
+    fields.ip.flow_label = 0;
+    fields.ip.fragment_offset = fragment % MORE_FRAGMENTS * 8;
+    fields.ip.protocol = packet.as_bytes()[9];
+    fields.ip.hop_limit = header.hop_limit;
+    fields.ip.dscp = service / 4;
+    fields.ip.ecn = service % 4;
+    fields.ip.more_fragments = (fragment / MORE_FRAGMENTS % 2) as u8;
+    fields.ip.dont_fragment = (fragment / DONT_FRAGMENT % 2) as u8;
+    fields.is_fragment = u8::from(fragment % DONT_FRAGMENT != 0);
+    fields.ipv4_checksum = ipv4_verdict(packet).code();
+    step_after(fields, header_len, payload_len);
+}
+
+// Stores an IPv6 packet. The payload after a fragment header is not parsed.
+#[inline(always)]
+pub(super) fn store_ipv6(fields: &mut FrameFields, bytes: &[u8])
+    requires offset { fields.old.payload_offset ≤ 28 }
+    requires len { length bytes.now ≤ fields.old.payload_len }
+    ensures value { fields.new ≡ with_ipv6 fields.old bytes.now }
+    ensures within { fields.new.payload_offset + fields.new.payload_len ≤ fields.old.payload_offset + fields.old.payload_len }
+{
+    let packet = Ipv6Packet::new_unchecked(bytes);
+    match Ipv6Repr::parse(&packet) {
+        Ok(header) => {
+            let payload = packet.payload();
+            store_ipv6_header(fields, &packet, &header, payload.len());
+            let protocol = fields.ip.protocol;
+            store_fragment(fields, protocol, payload);
+            let src_addr = IpAddress::Ipv6(header.src_addr);
+            let dst_addr = IpAddress::Ipv6(header.dst_addr);
+            store_transport(fields, protocol, &src_addr, &dst_addr, payload);
+        }
+        Err(_) => reject(fields, ipv6_fault(&packet)),
+    }
+}
+
+// Stores the header of an IPv6 packet with a payload of this length.
+#[inline(always)]
+pub(super) fn store_ipv6_header(
+    fields: &mut FrameFields,
+    packet: &Ipv6Packet<'_>,
+    header: &Ipv6Repr,
+    payload_len: usize,
+)
+    requires offset { fields.old.payload_offset ≤ 28 }
+    requires header { 40 ≤ length (ipv6.packet_bytes packet.now) }
+    ensures { fields.new ≡ with_ipv6_fields fields.old (ipv6.packet_bytes packet.now) header.now payload_len }
+{
+    let first = NetworkEndian::read_u32(&packet.as_bytes()[..4]);
+    fields.network = NetworkKind::Ipv6.code();
+    fields.network_offset = fields.payload_offset;
+    fields.src = without_port(IpAddress::Ipv6(header.src_addr));
+    fields.dst = without_port(IpAddress::Ipv6(header.dst_addr));
+    fields.ip.flow_label = first % FLOW_LABELS;
+    fields.ip.protocol = packet.as_bytes()[6];
+    fields.ip.hop_limit = header.hop_limit;
+    fields.ip.dscp = (first / DSCP_UNIT % 64) as u8;
+    fields.ip.ecn = (first / FLOW_LABELS % 4) as u8;
+    step_after(fields, IPV6_HEADER_LEN, payload_len);
+}
+
+// Stores the fragment header that the payload of an IPv6 packet begins with, if the protocol number says
+// so and it is there as a whole. The payload begins at it.
+fn store_fragment(fields: &mut FrameFields, protocol: u8, bytes: &[u8])
+    ensures value { fields.new ≡ with_fragment_by fields.old (protocol_of protocol) bytes.now }
+    ensures offset { fields.new.payload_offset ≡ fields.old.payload_offset }
+    ensures len { fields.new.payload_len ≡ fields.old.payload_len }
+{
+    if let IpProtocol::Ipv6Frag = IpProtocol::from(protocol)
+        && bytes.len() >= FRAGMENT_HEADER_LEN
+    {
+        store_fragment_header(fields, &Ipv6FragmentHeader::new_unchecked(&bytes[2..]));
+    }
+}
+
+// Stores a fragment header.
+#[inline(always)]
+pub(super) fn store_fragment_header(fields: &mut FrameFields, header: &Ipv6FragmentHeader<'_>)
+    requires { 6 ≤ length (fragment.header_bytes header.now) }
+    ensures { fields.new ≡ with_fragment_header fields.old (fragment.header_of (fragment.header_bytes header.now)) }
+{
+    let (offset, more_fragments) = (header.frag_offset(), header.more_frags());
+    fields.ip.ident = header.ident();
+    fields.ip.fragment_offset = 8 * offset;
+    fields.ip.more_fragments = u8::from(more_fragments);
+    fields.is_fragment = u8::from(more_fragments || offset != 0);
+}

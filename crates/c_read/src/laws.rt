@@ -1,0 +1,57 @@
+//! Laws of the stored values. Most bodies are empty: the law follows from the definitions.
+
+ghost use Rattle.std.specs.Prelude.{◌≡◌, ◌↔◌, ◌≢◌, ◌≤◌, drop, false, length, true};
+ghost use Rattle.ip_wire.specs.Ethernet as ethernet;
+ghost use Rattle.ip_wire.specs.Frame.{Carried, ReadsFrame, type_of};
+ghost use Rattle.ip_wire.specs.Ip.{ReadsHeader};
+ghost use Rattle.ip_wire.specs.Ipv4 as ipv4;
+ghost use Rattle.ip_wire.specs.declared.EthernetProtocol.TheVariants as ethertype;
+ghost use Rattle.ip_wire.specs.Types.{EthernetRepr, IpRepr, Ipv4Repr};
+ghost use Rattle.c_read.specs.FrameFields.{fields_of};
+ghost use Rattle.c_read.specs.Stored.{HasVerdicts, IsTypeOf, Stores, StoresFragment, StoresRejected, StoresUnread, in_frame, unchecked};
+
+mod messages;
+
+use crate::frame_fields::{read_frame, read_packet};
+use c_structs::FrameFields;
+use ip_wire::{ChecksumCapabilities, ETHERNET_HEADER_LEN};
+pub use messages::{messages_are_stored, only_messages_have_icmp, other_frames_have_no_icmp};
+
+/// The struct of a frame that is parsed whole stores each value of its headers under the name of the
+/// value, and locates the innermost payload. The verified checksums are valid exactly if their fields
+/// say that they are right, or for UDP that the sender left them out.
+pub fn fields_are_parsed(frame: &[u8], caps: ChecksumCapabilities)
+    ensures stores { (v : EthernetRepr) (w : Carried) → ReadsFrame unchecked frame.now v w → Stores (fields_of frame.now) frame.now v w }
+    ensures verdicts { (v : EthernetRepr) (w : Carried) → ReadsFrame unchecked frame.now v w
+        → (ReadsFrame caps frame.now v w) ↔ (HasVerdicts caps (fields_of frame.now)) }
+    ensures only { (fields_of frame.now).reason ≡ 0 → (fields_of frame.now).network ≢ 0 → (fields_of frame.now).is_fragment ≡ 0
+        → (v : EthernetRepr) × (w : Carried) × ReadsFrame unchecked frame.now v w }
+{}
+
+/// At a fragment of IPv4, at a rejected header and at an unknown EtherType the struct stores the values
+/// of the headers before it, and locates what follows them. It stores the ports and the values of a
+/// rejected UDP or TCP header too, unless this is too short, and the first test that fails.
+pub fn fields_before_are_parsed(frame: &[u8])
+    ensures fragment { (v : EthernetRepr) (w : Ipv4Repr) → ethernet.Reads frame.now v → v.ethertype ≡ ethertype.Ipv4
+        → ipv4.Reads (drop 14 frame.now) false w → ipv4.is_fragment (drop 14 frame.now) ≡ true → StoresFragment (fields_of frame.now) frame.now v w }
+    ensures rejected { (v : EthernetRepr) (w : IpRepr) → ethernet.Reads frame.now v → v.ethertype ≡ type_of w
+        → ReadsHeader (drop 14 frame.now) false w → (fields_of frame.now).reason ≢ 0 → StoresRejected (fields_of frame.now) frame.now v w }
+    ensures unread { (v : EthernetRepr) → ethernet.Reads frame.now v → (fields_of frame.now).network ≡ 0
+        → StoresUnread (fields_of frame.now) frame.now v }
+{}
+
+/// `transport` names no header where one is rejected, and `rejected` none where none is.
+pub fn rejected_is_no_transport(frame: &[u8])
+    ensures rejected { (fields_of frame.now).reason ≢ 0 → (fields_of frame.now).transport ≡ 0 }
+    ensures parsed { (fields_of frame.now).reason ≡ 0 → (fields_of frame.now).rejected ≡ 0 }
+{}
+
+/// The struct of a packet in a frame is that of the packet by itself, with the values of the Ethernet header, and
+/// with each offset 14 more.
+pub fn frame_has_packet(frame: &[u8], whole: &mut FrameFields, packet: &mut FrameFields)
+    requires { 14 ≤ length frame.now }
+    ensures { (v : EthernetRepr) → ethernet.Reads frame.now v → IsTypeOf v.ethertype (drop 14 frame.now) → whole.new ≡ in_frame v packet.new }
+{
+    read_frame(whole, frame);
+    read_packet(packet, &frame[ETHERNET_HEADER_LEN..]);
+}

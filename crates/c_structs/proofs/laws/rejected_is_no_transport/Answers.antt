@@ -1,7 +1,0 @@
-use Rattle.c_structs.proofs.RejectedApart.{frame-apart}
-use Rattle.c_structs.proofs.laws.rejected_is_no_transport.Goals as goal
-
-pub returns : goal.returns
-returns c =
-    let apart = frame-apart c.args.frame.now in
-    record { rejected = apart.none; parsed = apart.all }

@@ -1,0 +1,16 @@
+use Rattle.std.proofs.Common.{◌≡◌, ◌+◌, drop, true}
+use Rattle.ip_wire.specs.Ip.{dst_addr_of, header_len_of, src_addr_of}
+use Rattle.ip_wire.specs.Udp.{bytes_of}
+use Rattle.c_write.proofs.Framed.{after-headers}
+use Rattle.c_write.specs.Frames.{headers_bytes}
+use Rattle.c_write.specs.Headers.{ports_of}
+use Rattle.c_write.proofs.frames.wrap_udp.Goals as goal
+
+pub returns : goal.returns
+returns c =
+    let f = c.args.fields.now in
+    let v = c.args.ip_header.now in
+    let old = c.args.out.now in
+    let following : c.split_at_mut-headers.result.1.now ≡ drop (14 + header_len_of v) old = rw c.headers_len.ensures at c.split_at_mut-headers.ensures.back in
+    after-headers (λ payload. bytes_of (ports_of f.src f.dst) payload (src_addr_of v) (dst_addr_of v) true) (headers_bytes f v) old c.emit_headers.new.out _ c.wrap.new.out
+    (14 + header_len_of v) 8 c.args.payload_len c.emit_headers.ensures following (rw (c.src_addr-src_addr.ensures, c.dst_addr-dst_addr.ensures) at c.wrap.ensures)

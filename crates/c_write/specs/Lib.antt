@@ -1,0 +1,5 @@
+pub mod Failures
+pub mod Frames
+pub mod Headers
+pub mod Resummed
+pub mod TcpKept
