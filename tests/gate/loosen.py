@@ -1,10 +1,9 @@
 #!/usr/bin/env python3
 """Weakens public statements, and tells which weaker ones nothing notices: tests/gate/loosen.py [--beside-gate | --untried | NAME..]
 
-A public statement is a law, the contract of a call of the C library, or the condition of a call on a length. It is weakened
-by a false premise (laws), by leaving out a clause (laws, calls of the C library), by allowing one more result (calls of the C
-library), or by asking for one byte more (conditions). Its needs are the functions of the crates needs_* that call it. In
-a copy of their crate each of them calls a function with the weaker contract instead, over the libraries that make test
+A public statement is a law, or the condition of a call on a length. A law is weakened by a false premise, or by leaving out
+a clause; a condition by asking for one byte more. The needs of a statement are the functions of the crates needs_* that call
+it. In a copy of their crate each of them calls a function with the weaker contract instead, over the libraries that make test
 proved. One of them must not be proved then.
 
 A weaker statement that no need notices loses nothing if it implies what it lost, by itself or with the definitions alone. Any
@@ -45,15 +44,8 @@ GHOST_USE = re.compile(r"^ghost use [^;]*;\n", re.M)
 # What a clause of a generic view says of its bytes.
 BYTES = re.compile(r"\bB\.octets \(([^()]*)\)")
 # Words that a weaker contract may use besides those that its module imports.
-WORDS = "◌≡◌ ◌<◌ ◌⊎◌ negsuc".split()
+WORDS = "◌≡◌ ◌<◌".split()
 NO_PREMISE = Clause("requires", "never", "⊥")
-# The crates of whose calls each clause is weakened, and not only conditions.
-CALLS = {"c_exports"}
-# One more result, by the type of the result.
-ONE_MORE = {"isize": "result ≡ negsuc 0", "i32": "result ≡ negsuc 0"}
-# What the proof of such a result cites: it was a number of so many bits in between.
-IN_A_WIDTH = ["Common.{SFits, inl, rules, w32, w64}", "lemmas.Int.{to_z-of_z}"]
-WIDTHS = {"i32": "w32", "isize": "w64"}
 VERDICT = re.compile(r"^fn \w+::(\S+): (.*)$", re.M)
 NOTICED = re.compile(r"no proof: expected answers|not proved(?!.*; it calls)")
 
@@ -110,18 +102,13 @@ def weakened(statement):
     def with_instead(clause, *more):
         return [it for it in item.clauses if it is not clause] + list(more)
 
-    is_call = statement.crate in CALLS and not is_law(statement)
-    one_more = ONE_MORE.get(re.match(r"\w*", item.text.partition("-> ")[2])[0])
     if is_law(statement):
         promises = [clause for clause in item.clauses if clause.kind == "ensures"]
         yield Weaker(statement, "false premise", [*item.clauses, NO_PREMISE], promises)
     for clause in item.clauses:
         label = f" {clause.name}" if clause.name else ""
-        if clause.kind == "ensures" and (is_law(statement) or is_call):
+        if clause.kind == "ensures" and is_law(statement):
             yield Weaker(statement, f"without{label or ' its clause'}", with_instead(clause), [clause])
-        if clause.kind == "ensures" and one_more and is_call:
-            wider = Clause("ensures", clause.name, f"({clause.text}) ⊎ ({one_more})")
-            yield Weaker(statement, f"one result more{label}", with_instead(clause, wider), [clause])
         if clause.kind == "requires" and " ≤ length " in clause.text and not is_met_exactly(statement, clause):
             longer = Clause("requires", clause.name, clause.text.replace(" ≤ length ", " < length "))
             yield Weaker(statement, f"one byte more{label}", with_instead(clause, longer), [])
@@ -246,37 +233,20 @@ class Trial:
         self.add_answers(weaker, module, name)
 
     def add_answers(self, weaker, module, name):
-        """Adds the proof of a weaker law, or of a call with one result more: each clause is one of the stronger function's."""
+        """Adds the proof of a weaker law: each clause is one of the stronger law's."""
         item = weaker.statement.item
         kept = [it for it in weaker.clauses if it.kind == "ensures"]
-        is_wider = weaker.how.startswith("one result more")
-        width = WIDTHS[item.text.rpartition(" -> ")[2]] if is_wider else ""
-        if not kept or not (is_law(weaker.statement) or is_wider):
+        if not kept or not is_law(weaker.statement):
             return
-        text = "".join(f"use Rattle.std.proofs.{it}\n" for it in IN_A_WIDTH) if is_wider else ""
-        text += f"use Rattle.{self.crate}.proofs.{module}.{name}.Goals as goal\n"
+        text = f"use Rattle.{self.crate}.proofs.{module}.{name}.Goals as goal\n"
         # `g` is what a generic function assumes of its types.
         given = "g c" if re.match(r"[^(]*<(?!')", item.text) else "c"
         for clause in kept:
             goal = f"returns-clause-{clause.name}" if len(kept) > 1 else "returns"
             term = f"c.{item.name}.ensures" + (f".{clause.name}" if clause.name else "")
-            if is_wider:
-                term = self.over_numbers(item, clause, term)
-            term = term if clause in item.clauses else f"inl ({term})"
             term = f"record {{ {clause.name} = {term} }}" if clause.name and len(kept) == 1 else term
-            if is_wider and "result" in words_of(clause.text):
-                result = f"c.{item.name}.result"
-                term = f"let fits : SFits {width} {result} = search rules in rw (to_z-of_z {width} {result} fits) ({term})"
             text += f"\npub {goal} : goal.{goal}\n{goal} {given} = {term}\n"
         self.answers[f"proofs/{module}/{name}"] = text
-
-    @staticmethod
-    def over_numbers(item, clause, term):
-        """What a call ensures, for parameters of 32 bits instead of the numbers that they are in between."""
-        taken = [name for name in re.findall(r"(\w+): i32\b", item.text) if name in words_of(clause.text)]
-        fits = "".join(f"let fits-{name} : SFits w32 c.args.{name} = search rules in " for name in taken)
-        same = ", ".join(f"to_z-of_z w32 c.args.{name} fits-{name}" for name in taken)
-        return f"({fits}rw ({same}) at {term})" if taken else term
 
     @staticmethod
     def copy_answers(proofs, need, copy, law, name):

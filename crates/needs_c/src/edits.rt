@@ -1,4 +1,4 @@
-//! Needs the contracts and laws of the edits of a field.
+//! Needs the laws of the edits of a field.
 
 ghost use Rattle.std.specs.Prelude.{◌≡◌, ◌≢◌, ◌≤◌, ◌+◌, ◌%◌, Some, false, length, slice_range, true};
 ghost use Rattle.app_edit.specs.Edited.{can_be_left, edited, is_left, pseudo_header_sum, segment_sum, word_at};
@@ -13,75 +13,7 @@ ghost use Rattle.ip_wire.specs.WordSum.{sum_of_bytes};
 ghost use Rattle.ip_wire.specs.declared.IpProtocol.TheVariants.{Tcp, Udp};
 ghost use Rattle.ip_wire.specs.declared.IpVersion.TheVariants.{Ipv4};
 
-use app_edit::{
-    Offload, Side, fill_checksum, laws, set_addr, set_bytes, set_dscp, set_hop_limit, set_port,
-};
-use ip_wire::IpAddress;
-
-/// Each edit is made in one way, or not at all.
-fn edit_once(frame: &mut [u8], other: &mut [u8], number: u8) -> (bool, bool)
-    requires { frame.old ≡ other.old }
-    ensures returned { result.0 ≡ result.1 }
-    ensures written { frame.new ≡ other.new }
-{
-    let _ = (set_hop_limit(frame, number), set_hop_limit(other, number));
-    (set_dscp(frame, number), set_dscp(other, number))
-}
-
-/// An address is written in one way, or not at all.
-fn address_once(
-    frame: &mut [u8],
-    other: &mut [u8],
-    side: Side,
-    addr: &IpAddress,
-    offload: Offload,
-) -> (bool, bool)
-    requires { frame.old ≡ other.old }
-    ensures returned { result.0 ≡ result.1 }
-    ensures written { frame.new ≡ other.new }
-{
-    (
-        set_addr(frame, side, addr, offload),
-        set_addr(other, side, addr, offload),
-    )
-}
-
-/// A port is written in one way, or not at all. So is a checksum.
-fn port_once(
-    frame: &mut [u8],
-    other: &mut [u8],
-    side: Side,
-    port: u16,
-    offload: Offload,
-) -> (bool, bool)
-    requires { frame.old ≡ other.old }
-    ensures returned { result.0 ≡ result.1 }
-    ensures written { frame.new ≡ other.new }
-{
-    let _ = (
-        set_port(frame, side, port, offload),
-        set_port(other, side, port, offload),
-    );
-    (fill_checksum(frame), fill_checksum(other))
-}
-
-/// Bytes are written in one way, or not at all.
-fn bytes_once(
-    frame: &mut [u8],
-    other: &mut [u8],
-    at: usize,
-    bytes: &[u8],
-    offload: Offload,
-) -> (bool, bool)
-    requires { frame.old ≡ other.old }
-    ensures returned { result.0 ≡ result.1 }
-    ensures written { frame.new ≡ other.new }
-{
-    (
-        set_bytes(frame, at, bytes, offload),
-        set_bytes(other, at, bytes, offload),
-    )
-}
+use app_edit::laws;
 
 /// Two bytes up to the checksum of a header are written.
 fn header_sum_stays_before(frame: &[u8], bytes: &[u8; 2])

@@ -7,8 +7,7 @@ ghost use Rattle.ip_wire.specs.Endpoint.{ReadsEndpoint};
 ghost use Rattle.ip_wire.specs.Read.{ReadsEthernet};
 
 use c_exports::addresses::{
-    lk_contains, lk_is_multicast, lk_is_unicast, lk_parse_addr, lk_parse_block, lk_parse_endpoint,
-    lk_parse_ethernet, lk_print_addr, lk_print_block, lk_print_endpoint, lk_print_ethernet,
+    lk_contains, lk_parse_addr, lk_parse_block, lk_parse_endpoint, lk_parse_ethernet, lk_print_addr,
 };
 use c_structs::{Addr, Block, Endpoint};
 
@@ -39,15 +38,6 @@ fn parse_block(text: &[u8], block: &mut Block, other: &mut Block) -> (i32, i32)
     ensures written { block.new ≡ other.new }
 {
     (lk_parse_block(text, block), lk_parse_block(text, other))
-}
-
-// A block has one text.
-fn print_block(block: &Block, out: &mut [u8], other: &mut [u8]) -> (isize, isize)
-    requires { out.old ≡ other.old }
-    ensures returned { result.0 ≡ result.1 }
-    ensures written { out.new ≡ other.new }
-{
-    (lk_print_block(block, out), lk_print_block(block, other))
 }
 
 // An address is in a block, or it is not.
@@ -88,18 +78,6 @@ fn parse_endpoint(text: &[u8], endpoint: &mut Endpoint, other: &mut Endpoint) ->
     results
 }
 
-// An endpoint has one text.
-fn print_endpoint(endpoint: &Endpoint, out: &mut [u8], other: &mut [u8]) -> (isize, isize)
-    requires { out.old ≡ other.old }
-    ensures returned { result.0 ≡ result.1 }
-    ensures written { out.new ≡ other.new }
-{
-    (
-        lk_print_endpoint(endpoint, out),
-        lk_print_endpoint(endpoint, other),
-    )
-}
-
 // No text is stored as two Ethernet addresses.
 fn one_ethernet(
     text: &[u8],
@@ -129,30 +107,4 @@ fn parse_ethernet(text: &[u8], octets: &mut [u8; 6], other: &mut [u8; 6]) -> (i3
     );
     one_ethernet(text, &old, &same, octets, other, results);
     results
-}
-
-// An Ethernet address has one text.
-fn print_ethernet(octets: &[u8; 6], out: &mut [u8], other: &mut [u8]) -> (isize, isize)
-    requires { out.old ≡ other.old }
-    ensures returned { result.0 ≡ result.1 }
-    ensures written { out.new ≡ other.new }
-{
-    (
-        lk_print_ethernet(octets, out),
-        lk_print_ethernet(octets, other),
-    )
-}
-
-// An address is a multicast address, or it is not.
-fn is_multicast(addr: &Addr) -> (i32, i32)
-    ensures { result.0 ≡ result.1 }
-{
-    (lk_is_multicast(addr), lk_is_multicast(addr))
-}
-
-// An address is a unicast address, or it is not.
-fn is_unicast(addr: &Addr) -> (i32, i32)
-    ensures { result.0 ≡ result.1 }
-{
-    (lk_is_unicast(addr), lk_is_unicast(addr))
 }

@@ -6,36 +6,6 @@ use c_exports::links::{lk_read_link, lk_read_linktype};
 use c_structs::FrameFields;
 use wire_link::Link;
 
-// Bytes begin with one link-layer header.
-fn read_link(link_type: u32, captured: &[u8], link: &mut Link, other: &mut Link) -> (i32, i32)
-    requires { link.old ≡ other.old }
-    ensures returned { result.0 ≡ result.1 }
-    ensures written { link.new ≡ other.new }
-{
-    (
-        lk_read_link(link_type, captured, link),
-        lk_read_link(link_type, captured, other),
-    )
-}
-
-// Captured bytes parse as one packet of a link type.
-fn read_linktype(
-    link_type: u32,
-    captured: &[u8],
-    len: usize,
-    frame: &mut FrameFields,
-    other: &mut FrameFields,
-) -> (i32, i32)
-    requires { frame.old ≡ other.old }
-    ensures returned { result.0 ≡ result.1 }
-    ensures written { frame.new ≡ other.new }
-{
-    (
-        lk_read_linktype(link_type, captured, len, frame),
-        lk_read_linktype(link_type, captured, len, other),
-    )
-}
-
 // A packet has the EtherType of its link-layer header. If the header is rejected, the packet is rejected too.
 fn link_of_packet(
     link_type: u32,

@@ -5,69 +5,10 @@ ghost use Rattle.c_read.specs.Captured.{IsCutOf};
 ghost use Rattle.c_read.specs.FrameFields.{fields_of, packet_fields_of};
 
 use c_exports::read_calls::{
-    lk_next_ipv6_header, lk_next_tcp_option, lk_read_captured, lk_read_captured_packet,
-    lk_read_frame, lk_read_frame_options, lk_read_packet, lk_read_tcp_options, lk_version,
+    lk_read_captured, lk_read_captured_packet, lk_read_frame, lk_read_frame_options,
+    lk_read_packet, lk_read_tcp_options,
 };
-use c_structs::{FrameFields, Ipv6HeaderPlace, TcpOptionPlace, TcpOptions};
-
-// The library has one version.
-fn version() -> (u32, u32)
-    ensures { result.0 ≡ result.1 }
-{
-    (lk_version(), lk_version())
-}
-
-// Bytes parse as one frame.
-fn read_frame(bytes: &[u8], frame: &mut FrameFields, other: &mut FrameFields) -> (i32, i32)
-    requires { frame.old ≡ other.old }
-    ensures returned { result.0 ≡ result.1 }
-    ensures written { frame.new ≡ other.new }
-{
-    (lk_read_frame(bytes, frame), lk_read_frame(bytes, other))
-}
-
-// Bytes parse as one packet.
-fn read_packet(bytes: &[u8], frame: &mut FrameFields, other: &mut FrameFields) -> (i32, i32)
-    requires { frame.old ≡ other.old }
-    ensures returned { result.0 ≡ result.1 }
-    ensures written { frame.new ≡ other.new }
-{
-    (lk_read_packet(bytes, frame), lk_read_packet(bytes, other))
-}
-
-// Captured bytes parse as one frame.
-fn read_captured(
-    captured: &[u8],
-    len: usize,
-    frame: &mut FrameFields,
-    other: &mut FrameFields,
-) -> (i32, i32)
-    requires { frame.old ≡ other.old }
-    ensures returned { result.0 ≡ result.1 }
-    ensures written { frame.new ≡ other.new }
-{
-    (
-        lk_read_captured(captured, len, frame),
-        lk_read_captured(captured, len, other),
-    )
-}
-
-// Captured bytes parse as one packet.
-fn read_captured_packet(
-    captured: &[u8],
-    len: usize,
-    frame: &mut FrameFields,
-    other: &mut FrameFields,
-) -> (i32, i32)
-    requires { frame.old ≡ other.old }
-    ensures returned { result.0 ≡ result.1 }
-    ensures written { frame.new ≡ other.new }
-{
-    (
-        lk_read_captured_packet(captured, len, frame),
-        lk_read_captured_packet(captured, len, other),
-    )
-}
+use c_structs::{FrameFields, TcpOptions};
 
 // A TCP header has one list of options.
 fn read_tcp_options(header: &[u8], options: &mut TcpOptions, other: &mut TcpOptions) -> (i32, i32)
@@ -96,38 +37,6 @@ fn read_frame_options(
     (
         lk_read_frame_options(bytes, frame, options),
         lk_read_frame_options(bytes, other, others),
-    )
-}
-
-// An option of TCP has one successor.
-fn next_tcp_option(
-    header: &[u8],
-    option: &mut TcpOptionPlace,
-    other: &mut TcpOptionPlace,
-) -> (i32, i32)
-    requires { option.old ≡ other.old }
-    ensures returned { result.0 ≡ result.1 }
-    ensures written { option.new ≡ other.new }
-{
-    (
-        lk_next_tcp_option(header, option),
-        lk_next_tcp_option(header, other),
-    )
-}
-
-// A header of an IPv6 packet has one successor.
-fn next_ipv6_header(
-    packet: &[u8],
-    header: &mut Ipv6HeaderPlace,
-    other: &mut Ipv6HeaderPlace,
-) -> (i32, i32)
-    requires { header.old ≡ other.old }
-    ensures returned { result.0 ≡ result.1 }
-    ensures written { header.new ≡ other.new }
-{
-    (
-        lk_next_ipv6_header(packet, header),
-        lk_next_ipv6_header(packet, other),
     )
 }
 

@@ -2,7 +2,7 @@
 
 ghost use Rattle.std.specs.Prelude.{◌≡◌};
 
-use c_exports::routing::{lk_clamp_mss, lk_clamp_mss_as, lk_forward, lk_translate};
+use c_exports::routing::{lk_clamp_mss_as, lk_forward, lk_translate};
 use c_structs::Endpoint;
 
 // A frame is forwarded in one way, or rejected for one reason.
@@ -24,18 +24,6 @@ fn translate(frame: &mut [u8], other: &mut [u8], side: i32, end: &Endpoint) -> (
     (
         lk_translate(frame, side, end),
         lk_translate(other, side, end),
-    )
-}
-
-// A frame is clamped in one way, or not at all.
-fn clamp_mss(frame: &mut [u8], other: &mut [u8], max_seg_size: u16) -> (i32, i32)
-    requires { frame.old ≡ other.old }
-    ensures returned { result.0 ≡ result.1 }
-    ensures written { frame.new ≡ other.new }
-{
-    (
-        lk_clamp_mss(frame, max_seg_size),
-        lk_clamp_mss(other, max_seg_size),
     )
 }
 

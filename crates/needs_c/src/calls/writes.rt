@@ -1,0 +1,52 @@
+//! Needs what `Writes` and `Edits` promise: one result, and the same bytes. Other calls promise it by the same words.
+
+ghost use Rattle.std.specs.Prelude.{◌≡◌, ◌≤◌, length, pos};
+ghost use Rattle.ip_wire.specs.Frame.{rebuilt};
+
+use c_exports::edits::lk_set_port_as;
+use c_exports::emit::lk_emit_ip;
+use c_exports::rebuild::lk_rebuild;
+use c_structs::{Addr, Ip};
+
+// An IP header has one form.
+#[tactic(auto, using(crate::proofs::Once::writes_result, crate::proofs::Once::writes_bytes))]
+fn emit_ip(
+    header: &Ip,
+    src: &Addr,
+    dst: &Addr,
+    payload_len: usize,
+    computed: i32,
+    out: &mut [u8],
+    other: &mut [u8],
+) -> (isize, isize)
+    requires { out.old ≡ other.old }
+    ensures returned { result.0 ≡ result.1 }
+    ensures written { out.new ≡ other.new }
+{
+    (
+        lk_emit_ip(header, src, dst, payload_len, computed, out),
+        lk_emit_ip(header, src, dst, payload_len, computed, other),
+    )
+}
+
+// A port is written in one way, as the caller says, or not at all.
+fn set_port_as(frame: &mut [u8], other: &mut [u8], side: i32, port: u16, offload: i32) -> (i32, i32)
+    requires { frame.old ≡ other.old }
+    ensures returned { result.0 ≡ result.1 }
+    ensures written { frame.new ≡ other.new }
+{
+    (
+        lk_set_port_as(frame, side, port, offload),
+        lk_set_port_as(other, side, port, offload),
+    )
+}
+
+// A rebuilt frame fits into as many bytes as the frame has.
+fn rebuild_fits(frame: &[u8], out: &mut [u8]) -> isize
+    requires header { 14 ≤ length frame.now }
+    requires room { length out.old ≡ length frame.now }
+    requires usable { length frame.now ≤ 1099511627775 }
+    ensures { result ≡ pos (length (rebuilt frame.now)) }
+{
+    lk_rebuild(frame, out)
+}
