@@ -3,7 +3,7 @@
 use crate::devices::{FrameSink, FrameSource};
 use crate::memory::{MemorySink, MemorySource};
 use crate::run::{RunError, run};
-use crate::tests::examples::EXAMPLES;
+use crate::tests::examples::{EXAMPLES, FOUR_SACK_BLOCKS};
 use crate::tests::fakes::{FailingSource, StuckSink};
 use std::alloc::Global;
 
@@ -33,6 +33,12 @@ fn a_line_has_a_block(rt: HostRuntime) {
     for (input, output) in EXAMPLES {
         assert!(rt; leaves(rt.alloc(), input, ROOM, Ok(()), output));
     }
+}
+
+#[test]
+fn four_sack_blocks_are_kept(rt: HostRuntime) {
+    let (input, output) = FOUR_SACK_BLOCKS;
+    assert!(rt; leaves(rt.alloc(), input, ROOM, Ok(()), output));
 }
 
 #[test]
