@@ -329,15 +329,35 @@ mod tests {
     use super::{finish, plain};
     use crate::checksum::data;
 
+    // Rows of bytes: counted, full, random, and words of 8 bytes of which each pair leaves a carry.
+    fn rows() -> [[u8; 8192]; 4] {
+        let mut rows = [[0xff; 8192]; 4];
+        let mut number: u64 = 1;
+        for i in 0..8192 {
+            // Knuth's generator MMIX. Its upper bits are random.
+            number = number
+                .wrapping_mul(6_364_136_223_846_793_005)
+                .wrapping_add(1_442_695_040_888_963_407);
+            rows[0][i] = (i % 251) as u8;
+            rows[2][i] = (number >> 56) as u8;
+            rows[3][i] = match i % 16 {
+                0..=7 => 0xff,
+                8 => 1,
+                _ => 0,
+            };
+        }
+        rows
+    }
+
     #[test]
     fn sums_as_the_plain_loop(rt: HostRuntime) {
-        let mut bytes = [0; 300];
-        for (i, byte) in bytes.iter_mut().enumerate() {
-            *byte = (i * 7 % 256) as u8 ^ (i / 37) as u8;
-        }
-        for len in 0..=300 {
-            let part = &bytes[..len];
-            assert_eq!(rt; data(part), finish(plain(part)), "of {len} bytes");
+        for row in &rows() {
+            for len in 0..=300 {
+                let part = &row[..len];
+                assert_eq!(rt; data(part), finish(plain(part)), "of {len} bytes");
+            }
+            // So many bytes are summed by lanes.
+            assert_eq!(rt; data(row), finish(plain(row)));
         }
     }
 }
