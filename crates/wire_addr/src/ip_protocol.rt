@@ -48,30 +48,30 @@ impl IpProtocol {
             IpProtocol::Unknown(other) => other,
         }
     }
+}
 
-    /// Appends the printed text: the name, or `0x` and two hex digits. There must be room for 10 bytes.
-    pub fn push_to<const CAP: usize>(self, text: &mut ArrayString<CAP>)
-        requires { array_string_len text.old + 10 ≤ CAP }
-        ensures bytes { text.new.bytes ≡ text.old.bytes ++ protocol_text self }
-        ensures len { array_string_len text.new ≤ array_string_len text.old + 10 }
-    {
-        match self {
-            IpProtocol::HopByHop => text.push_str("Hop-by-Hop"),
-            IpProtocol::Icmp => text.push_str("ICMP"),
-            IpProtocol::Igmp => text.push_str("IGMP"),
-            IpProtocol::Tcp => text.push_str("TCP"),
-            IpProtocol::Udp => text.push_str("UDP"),
-            IpProtocol::Ipv6Route => text.push_str("IPv6-Route"),
-            IpProtocol::Ipv6Frag => text.push_str("IPv6-Frag"),
-            IpProtocol::IpSecEsp => text.push_str("IPsec-ESP"),
-            IpProtocol::IpSecAh => text.push_str("IPsec-AH"),
-            IpProtocol::Icmpv6 => text.push_str("ICMPv6"),
-            IpProtocol::Ipv6NoNxt => text.push_str("IPv6-NoNxt"),
-            IpProtocol::Ipv6Opts => text.push_str("IPv6-Opts"),
-            IpProtocol::Unknown(id) => {
-                text.push_str("0x");
-                push_hex_byte(text, id);
-            }
+/// Appends the name of a protocol, or `0x` and two hex digits.
+pub fn push_protocol<const CAP: usize>(text: &mut ArrayString<CAP>, protocol: IpProtocol)
+    requires { array_string_len text.old + 10 ≤ CAP }
+    ensures bytes { text.new.bytes ≡ text.old.bytes ++ protocol_text protocol }
+    ensures len { array_string_len text.new ≤ array_string_len text.old + 10 }
+{
+    match protocol {
+        IpProtocol::HopByHop => text.push_str("Hop-by-Hop"),
+        IpProtocol::Icmp => text.push_str("ICMP"),
+        IpProtocol::Igmp => text.push_str("IGMP"),
+        IpProtocol::Tcp => text.push_str("TCP"),
+        IpProtocol::Udp => text.push_str("UDP"),
+        IpProtocol::Ipv6Route => text.push_str("IPv6-Route"),
+        IpProtocol::Ipv6Frag => text.push_str("IPv6-Frag"),
+        IpProtocol::IpSecEsp => text.push_str("IPsec-ESP"),
+        IpProtocol::IpSecAh => text.push_str("IPsec-AH"),
+        IpProtocol::Icmpv6 => text.push_str("ICMPv6"),
+        IpProtocol::Ipv6NoNxt => text.push_str("IPv6-NoNxt"),
+        IpProtocol::Ipv6Opts => text.push_str("IPv6-Opts"),
+        IpProtocol::Unknown(id) => {
+            text.push_str("0x");
+            push_hex_byte(text, id);
         }
     }
 }
@@ -113,7 +113,7 @@ impl fmt::Display for IpProtocol {
 
     fn fmt<W: fmt::Write>(&self, f: &mut fmt::Formatter<W>) -> fmt::Result {
         let mut text = ArrayString::<10>::new();
-        self.push_to(&mut text);
+        push_protocol(&mut text, *self);
         f.write_str(text.as_str())
     }
 }

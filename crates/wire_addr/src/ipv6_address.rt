@@ -10,7 +10,7 @@ ghost use Rattle.wire_addr.specs.Prefix.{IsMasked, IsNetmask, number_of};
 ghost use Rattle.wire_addr.specs.Printed.{ipv6_text};
 
 use crate::prefix::mask_128;
-use crate::print::push_groups;
+use crate::print::{push_dotted, push_groups};
 use crate::{HardwareAddress, Ipv4Address, Ipv6Cidr, Ipv6MulticastScope};
 use arrayvec::ArrayString;
 use std::fmt;
@@ -264,29 +264,8 @@ impl Ipv6Address {
         ensures { result.bytes ≡ ipv6_text self.now }
     {
         let mut text = ArrayString::new();
-        self.push_to(&mut text);
+        push_ipv6(&mut text, self);
         text
-    }
-
-    /// Appends the printed text. There must be room for 39 bytes.
-    pub fn push_to<const CAP: usize>(&self, text: &mut ArrayString<CAP>)
-        requires { array_string_len text.old + 39 ≤ CAP }
-        ensures bytes { text.new.bytes ≡ text.old.bytes ++ ipv6_text self.now }
-        ensures len { array_string_len text.new ≤ array_string_len text.old + 39 }
-    {
-        if let Some(ipv4) = self.to_ipv4_mapped() {
-            text.push_str("::ffff:");
-            return ipv4.push_to(text);
-        }
-        let groups = self.segments();
-        let (start, len) = longest_zero_run(&groups);
-        if len >= MIN_RUN {
-            push_groups(text, &groups[..start]);
-            text.push_str("::");
-            push_groups(text, &groups[start + len..]);
-        } else {
-            push_groups(text, &groups);
-        }
     }
 
     /// The IPv4 address in an IPv4-mapped address, else `None`.
@@ -338,6 +317,27 @@ impl From<[u16; 8]> for Ipv6Address {
     }
 }
 
+/// Appends an IPv6 address as `Ipv6Address::text` does.
+pub fn push_ipv6<const CAP: usize>(text: &mut ArrayString<CAP>, address: &Ipv6Address)
+    requires { array_string_len text.old + 39 ≤ CAP }
+    ensures bytes { text.new.bytes ≡ text.old.bytes ++ ipv6_text address.now }
+    ensures len { array_string_len text.new ≤ array_string_len text.old + 39 }
+{
+    if let Some(ipv4) = address.to_ipv4_mapped() {
+        text.push_str("::ffff:");
+        return push_dotted(text, ipv4.octets());
+    }
+    let groups = address.segments();
+    let (start, len) = longest_zero_run(&groups);
+    if len >= MIN_RUN {
+        push_groups(text, &groups[..start]);
+        text.push_str("::");
+        push_groups(text, &groups[start + len..]);
+    } else {
+        push_groups(text, &groups);
+    }
+}
+
 /// The place of the longest run of zeros, the first of several, and its length.
 fn longest_zero_run(groups: &[u16; 8]) -> (usize, usize)
     ensures value { result ≡ longest_zero_run groups.now }
@@ -359,7 +359,7 @@ impl fmt::Display for Ipv6Address {
 
     fn fmt<W: fmt::Write>(&self, f: &mut fmt::Formatter<W>) -> fmt::Result {
         let mut text = ArrayString::<39>::new();
-        self.push_to(&mut text);
+        push_ipv6(&mut text, self);
         f.write_str(text.as_str())
     }
 }

@@ -3,7 +3,7 @@
 ghost use Rattle.std.specs.Prelude.{◌≡◌, ◌+◌, ◌-◌, ◌*◌, ◌/◌, ◌%◌, ◌≤◌, [], ◌∷◌, ◌++◌, decimal, drop, length, take};
 ghost use Rattle.std.specs.Str.{IsAscii};
 ghost use Rattle.arrayvec.specs.ArrayString.{array_string_len};
-ghost use Rattle.wire_addr.specs.Printed.{WritesAt, colon_hex, dotted, hex, hex_byte};
+ghost use Rattle.wire_addr.specs.Printed.{WritesAt, colon_hex, dashed, dotted, hex, hex_byte};
 
 use crate::tables::{decimal_dots, hex_pair};
 use arrayvec::ArrayString;
@@ -118,8 +118,8 @@ fn push_decimal_dot<const CAP: usize>(text: &mut ArrayString<CAP>, n: u8)
     push_front(text, &decimal_dots(n), decimal_len(n) + 1);
 }
 
-/// Appends four decimal numbers joined by `.`.
-pub(crate) fn push_dotted<const CAP: usize>(text: &mut ArrayString<CAP>, octets: [u8; 4])
+/// Appends an IPv4 address: four decimal numbers joined by `.`.
+pub fn push_dotted<const CAP: usize>(text: &mut ArrayString<CAP>, octets: [u8; 4])
     requires { array_string_len text.old + 15 ≤ CAP }
     ensures bytes { text.new.bytes ≡ text.old.bytes ++ dotted octets }
     ensures len { array_string_len text.new ≤ array_string_len text.old + 15 }
@@ -140,6 +140,25 @@ pub fn push_hex_byte<const CAP: usize>(text: &mut ArrayString<CAP>, octet: u8)
 {
     let (high, low) = hex_pair(octet);
     push_ascii(text, &[high, low]);
+}
+
+/// Appends an Ethernet address: two lower-case hex digits for each byte, joined by `-`.
+#[inline(always)]
+pub fn push_dashed<const CAP: usize>(text: &mut ArrayString<CAP>, octets: [u8; 6])
+    requires { array_string_len text.old + 17 ≤ CAP }
+    ensures bytes { text.new.bytes ≡ text.old.bytes ++ dashed octets }
+    ensures len { array_string_len text.new ≡ array_string_len text.old + 17 }
+{
+    let [a, b, c, d, e, f] = octets;
+    let (a, b, c) = (hex_pair(a), hex_pair(b), hex_pair(c));
+    let (d, e, f) = (hex_pair(d), hex_pair(e), hex_pair(f));
+    push_ascii(
+        text,
+        &[
+            a.0, a.1, b'-', b.0, b.1, b'-', c.0, c.1, b'-', d.0, d.1, b'-', e.0, e.1, b'-', f.0,
+            f.1,
+        ],
+    );
 }
 
 /// Appends a group in hex with no leading zeros.

@@ -14,7 +14,7 @@ use arrayvec::ArrayString;
 use byteorder::{ByteOrder, NetworkEndian};
 use net_base::{Error, Result};
 use std::fmt;
-use wire_addr::{EthernetAddress, push_hex_byte};
+use wire_addr::{EthernetAddress, push_dashed, push_hex_byte};
 use wire_field::{Checked, Located, Octets, debug_view, write_six};
 
 /// The length of a frame's header.
@@ -352,9 +352,9 @@ impl EthernetRepr {
         ensures { text.new.bytes ≡ header_text self.now }
     {
         text.push_str("EthernetII src=");
-        self.src_addr.push_to(text);
+        push_dashed(text, self.src_addr.0);
         text.push_str(" dst=");
-        self.dst_addr.push_to(text);
+        push_dashed(text, self.dst_addr.0);
         text.push_str(" type=");
         self.ethertype.push_to(text);
     }

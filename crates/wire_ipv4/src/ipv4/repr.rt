@@ -13,7 +13,7 @@ use arrayvec::ArrayString;
 use byteorder::{ByteOrder, NetworkEndian};
 use net_base::{ChecksumCapabilities, Error, Result};
 use std::fmt;
-use wire_addr::{IpProtocol, Ipv4Address};
+use wire_addr::{IpProtocol, Ipv4Address, push_dotted, push_protocol};
 use wire_checksum::for_emit;
 use wire_field::write_front;
 
@@ -112,11 +112,11 @@ impl Ipv4Repr {
         ensures { text.new.bytes ≡ value_text self.now }
     {
         text.push_str("IPv4 src=");
-        self.src_addr.push_to(text);
+        push_dotted(text, self.src_addr.octets());
         text.push_str(" dst=");
-        self.dst_addr.push_to(text);
+        push_dotted(text, self.dst_addr.octets());
         text.push_str(" proto=");
-        self.next_header.push_to(text);
+        push_protocol(text, self.next_header);
     }
 }
 

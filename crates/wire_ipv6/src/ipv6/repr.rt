@@ -11,7 +11,7 @@ use arrayvec::ArrayString;
 use itoa::Buffer;
 use net_base::{Error, Result};
 use std::fmt;
-use wire_addr::{IpProtocol, Ipv6Address};
+use wire_addr::{IpProtocol, Ipv6Address, push_ipv6, push_protocol};
 
 // The first 4 bytes of the header: version 6, traffic class 0, flow label 0.
 const VERSION_6: u32 = 0x6000_0000;
@@ -77,11 +77,11 @@ impl Ipv6Repr {
         ensures { text.new.bytes ≡ value_text self.now }
     {
         text.push_str("IPv6 src=");
-        self.src_addr.push_to(text);
+        push_ipv6(text, &self.src_addr);
         text.push_str(" dst=");
-        self.dst_addr.push_to(text);
+        push_ipv6(text, &self.dst_addr);
         text.push_str(" nxt_hdr=");
-        self.next_header.push_to(text);
+        push_protocol(text, self.next_header);
         text.push_str(" hop_limit=");
         text.push_str(Buffer::new().format(self.hop_limit));
     }

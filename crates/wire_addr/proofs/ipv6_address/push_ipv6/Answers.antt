@@ -1,7 +1,7 @@
 use Rattle.std.proofs.Common.{arith, rules}
 use Rattle.std.proofs.lemmas.Grind.{common_steps}
 use Rattle.wire_addr.proofs.Ipv6Texts.{ipv6_text_mapped, ipv6_text_other}
-use Rattle.wire_addr.proofs.ipv6_address.Ipv6Address.push_to.Goals as goal
+use Rattle.wire_addr.proofs.ipv6_address.push_ipv6.Goals as goal
 
 pub returns-in-Some : goal.returns-in-Some
 returns-in-Some g c = rw (ipv6_text_mapped _ _ c.in-Some.ensures) (first_of (search rules, grind (arith, common_steps)))

@@ -3,7 +3,7 @@ use Rattle.std.proofs.lemmas.List.Elements.{All-from_recursion}
 use Rattle.std.proofs.lemmas.Str.Ascii.{IsAscii-from_all}
 use Rattle.wire_addr.specs.Printed.{dashed}
 use Rattle.wire_addr.proofs.Eui64.{six_items}
-use Rattle.wire_addr.proofs.ethernet_address.EthernetAddress.push_to.Goals as goal
+use Rattle.wire_addr.proofs.print.push_dashed.Goals as goal
 
 -- six pairs of ASCII bytes with dashes between them
 pairs_ascii : (a a' b b' c c' d d' e e' f f' : ℕ) → (a < 128) × (a' < 128) → (b < 128) × (b' < 128) → (c < 128) × (c' < 128) → (d < 128) × (d' < 128) → (e < 128) × (e' < 128) → (f < 128) × (f' < 128)
@@ -21,7 +21,7 @@ push_ascii-requires g c =
 pub returns-clause-bytes : goal.returns-clause-bytes
 returns-clause-bytes g c =
     let pairs = (rw (c.hex_pair-a.ensures.high, c.hex_pair-a.ensures.low, c.hex_pair-b.ensures.high, c.hex_pair-b.ensures.low, c.hex_pair-c.ensures.high, c.hex_pair-c.ensures.low, c.hex_pair-d.ensures.high, c.hex_pair-d.ensures.low, c.hex_pair-e.ensures.high, c.hex_pair-e.ensures.low, c.hex_pair-f.ensures.high, c.hex_pair-f.ensures.low) at c.push_ascii.ensures.bytes) in
-    pairs ∙ ap (λ bytes. c.args.text.now.bytes ++ bytes) (sym (ap dashed (six_items c.args.self.now.0 (search rules))))
+    pairs ∙ ap (λ bytes. c.args.text.now.bytes ++ bytes) (sym (ap dashed (six_items c.args.octets (search rules))))
 
 pub returns-clause-len : goal.returns-clause-len
 returns-clause-len g c = c.push_ascii.ensures.len
