@@ -8,6 +8,7 @@ ghost use Rattle.wire_addr.specs.Reading as Reading;
 
 use crate::bytes_text::octets;
 use crate::number_text::first_group;
+use byteorder::{ByteOrder, NetworkEndian};
 
 fn are_zeros(groups: &[u16]) -> bool
     ensures { result ≡ list_all (λ g. g == 0) groups.now }
@@ -68,9 +69,8 @@ fn all_groups(groups: &[u16; 8], len: usize, before: Option<usize>) -> Option<[u
 fn mapped(octets: [u8; 4]) -> [u16; 8]
     ensures { result ≡ mapped_groups ++ groups_of octets }
 {
-    let [a, b, c, d] = octets;
-    let high = u16::from_be_bytes([a, b]);
-    let low = u16::from_be_bytes([c, d]);
+    let high = NetworkEndian::read_u16(&octets);
+    let low = NetworkEndian::read_u16(&octets[2..]);
     [0, 0, 0, 0, 0, 0xffff, high, low]
 }
 

@@ -13,6 +13,7 @@ use crate::prefix::mask_128;
 use crate::print::{push_dotted, push_groups};
 use crate::{HardwareAddress, Ipv4Address, Ipv6Cidr, Ipv6MulticastScope};
 use arrayvec::ArrayString;
+use byteorder::{ByteOrder, NetworkEndian};
 use std::fmt;
 use std::marker::Model;
 
@@ -100,7 +101,9 @@ impl Ipv6Address {
         ensures value { number_of result ≡ bits }
         ensures octets { IsByteArray 16 result }
     {
-        Ipv6Address(bits.to_be_bytes())
+        let mut octets = [0; 16];
+        NetworkEndian::write_u128(&mut octets, bits);
+        Ipv6Address(octets)
     }
 
     /// The bytes as a big-endian number.
@@ -109,24 +112,17 @@ impl Ipv6Address {
         ensures value { result ≡ number_of self }
         ensures octets { IsByteArray 16 self }
     {
-        u128::from_be_bytes(self.0)
+        NetworkEndian::read_u128(&self.0)
     }
 
     /// The eight groups of 16 bits, in the order in which they are sent.
+    #[tactic(auto, using(crate::proofs::GroupBytes::read_groups))]
     pub fn segments(&self) -> [u16; 8]
         ensures { result ≡ groups_of self.now }
     {
-        let [a, b, c, d, e, f, g, h, i, j, k, l, m, n, o, p] = self.0;
-        [
-            u16::from_be_bytes([a, b]),
-            u16::from_be_bytes([c, d]),
-            u16::from_be_bytes([e, f]),
-            u16::from_be_bytes([g, h]),
-            u16::from_be_bytes([i, j]),
-            u16::from_be_bytes([k, l]),
-            u16::from_be_bytes([m, n]),
-            u16::from_be_bytes([o, p]),
-        ]
+        let mut groups = [0; 8];
+        NetworkEndian::read_u16_into(&self.0, &mut groups);
+        groups
     }
 
     /// Returns `true` for `::`.
@@ -293,27 +289,9 @@ impl From<[u16; 8]> for Ipv6Address {
     ghost from_gives = { λ groups address. address ≡ address_bytes groups };
 
     fn from(groups: [u16; 8]) -> Ipv6Address {
-        let [a, b, c, d, e, f, g, h] = groups;
-        let [
-            [a, b],
-            [c, d],
-            [e, f],
-            [g, h],
-            [i, j],
-            [k, l],
-            [m, n],
-            [o, p],
-        ] = [
-            a.to_be_bytes(),
-            b.to_be_bytes(),
-            c.to_be_bytes(),
-            d.to_be_bytes(),
-            e.to_be_bytes(),
-            f.to_be_bytes(),
-            g.to_be_bytes(),
-            h.to_be_bytes(),
-        ];
-        Ipv6Address::from_octets([a, b, c, d, e, f, g, h, i, j, k, l, m, n, o, p])
+        let mut octets = [0; 16];
+        NetworkEndian::write_u16_into(&groups, &mut octets);
+        Ipv6Address::from_octets(octets)
     }
 }
 
