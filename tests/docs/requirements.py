@@ -19,8 +19,9 @@ DOCUMENT = "docs/audit/REQUIREMENTS.md"
 # The crates with test functions, by the first word of their names in the tables.
 TESTS = {"wire": "test_wire", "apps": "test_apps", "frames": "ip_frames"}
 LIBRARY = re.compile(r"net_base|ip_wire|wire_\w+")
-# The libraries whose types a Rattle program uses: those of `wire_*` through `ip_wire`.
-SHOWN = re.compile(r"net_base|(?:ip|app)_\w+")
+# The libraries whose types a Rattle program uses, also those of `wire_*` that `ip_wire` does not export. The types of the
+# crates for C are its structs and numbers.
+SHOWN = re.compile(r"net_base|(?:ip|app|wire)_\w+")
 # The crates that use the layer through `ip_wire` only. They may name the formats beside `ip_wire` too. Crates with tests or
 # needs of the layer name what they test, so that they are proved early.
 ABOVE = re.compile(r"ip_(?!wire\b)\w+|app_\w+|promises|needs_(?!layer\b)\w+|test_(?!wire\b|support\b)\w+")
@@ -158,7 +159,7 @@ def allocations(sources):
 
 
 def types_without_debug(sources):
-    """The public types of `net_base`, `ip_wire` and the crates above them that neither derive nor implement Debug."""
+    """The public types of the libraries for Rattle that neither derive nor implement Debug."""
     shown, types = set(), {}
     for crate in sources.crates.values():
         for path, module in crate.modules.items():

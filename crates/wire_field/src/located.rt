@@ -7,7 +7,7 @@ ghost use Rattle.wire_field.specs.Borrow.{BorrowsPart};
 use std::slice::from_raw_parts_mut;
 
 /// Bytes, and a range of them: those from `start` up to, but without, `end`.
-#[derive(Drop)]
+#[derive(Debug, Drop)]
 pub struct Located<'a> {
     pub bytes: &'a mut [u8],
     pub start: usize,

@@ -135,7 +135,7 @@ pub fn valid_checksum_reads_icmp(
 {}
 
 /// A call of a setter.
-#[derive(Clone, Copy)]
+#[derive(Debug, Clone, Copy)]
 pub enum IcmpSetting {
     MsgType(u8),
     MsgCode(u8),
@@ -159,7 +159,7 @@ pub fn setter_writes_one_field_icmp(packet: &mut IcmpPacketMut<'_>, setting: Icm
 }
 
 /// A call of a getter.
-#[derive(Clone, Copy)]
+#[derive(Debug, Clone, Copy)]
 pub enum IcmpGetting {
     MsgType,
     MsgCode,
