@@ -82,6 +82,7 @@ void make_worked_calls(void)
     worked_link();
     worked_options();
     worked_write();
+    worked_failures();
     worked_values();
     worked_route();
     worked_nat();

@@ -69,6 +69,7 @@ void worked_read(void);
 void worked_link(void);
 void worked_options(void);
 void worked_write(void);
+void worked_failures(void);
 void worked_values(void);
 void worked_route(void);
 void worked_nat(void);
