@@ -115,9 +115,25 @@ static void emit_one(size_t len)
     both_emit_icmp_error(&own, problem, mtu, made.octets, len, any_out(cap), cap);
 }
 
+/* Puts an extension header after the IPv6 header, or gives the ICMP message another type. Mostly both have numbers at
+ * the bounds of those that get no error. */
+static void change_number(void)
+{
+    static const uint8_t headers[] = {0, 43, 44, 50, 51, 52, 60, 134, 135, 139, 140, 141};
+    static const uint8_t types[] = {0, 1, 7, 8, 9, 12, 13, 18, 19, 127, 128, 136, 137, 138, 255};
+    if (made.len < 62)
+        return;
+    if (one_in(2) && made.octets[12] == 0x86)
+        made.octets[20] = headers[below(sizeof headers)];
+    else if (made.transport != 0)
+        made.octets[made.transport] = one_in(4) ? (uint8_t)any() : types[below(sizeof types)];
+}
+
 void emit_error(void)
 {
     make_frame();
+    if (one_in(4))
+        change_number();
     emit_one(made.len);
     if (one_in(64))
         emit_one(unused_len());

@@ -206,13 +206,12 @@ static void write_no_errors(void)
     FAILS(LK_NO_HEADER, both_emit_icmp_error(&own, LK_PORT_CLOSED, 0, last_hop.at, (size_t)LK_NO_ROOM, out, ROOM));
     /* RFC 1122, section 3.2.2; RFC 4443, section 2.4 */
     const struct octets frames[] = {
-        changed(last_hop, 0, 3),     /* to a group of Ethernet */
-        changed(last_hop, 6, 3),     /* from one */
-        changed(last_hop, 24, 3),    /* a wrong checksum of the IPv4 header */
-        changed(last_hop6, 38, 255), /* to a group of IPv6 */
-        changed(last_hop6, 20, 43),  /* an extension header */
-        changed(expired, 5, 2),      /* an error */
-        changed(expired6, 5, 2),
+        changed(last_hop, 0, 3),                          /* to a group of Ethernet */
+        changed(last_hop, 6, 3),                          /* from one */
+        changed(last_hop, 24, 3),                         /* a wrong checksum of the IPv4 header */
+        changed(last_hop6, 38, 255),                      /* to a group of IPv6 */
+        changed(changed(echo_request, 17, 20), 25, 0xb1), /* ICMP without a type */
+        changed(echo_request6, 19, 0),
     };
     NO_ERROR(LK_NO_PROBLEM, 0, last_hop);
     NO_ERROR(7, 0, last_hop);
@@ -225,6 +224,33 @@ static void write_no_errors(void)
         NO_ERROR(LK_ROUTE_MISSING, 0, frames[i]);
 }
 
+/* Whether an error about the frame with another byte is written. */
+static int has_error(const struct octets *frame, size_t at, uint8_t octet)
+{
+    const struct lk_interface own = own_interface();
+    const struct octets about = changed(*frame, at, octet);
+    const ptrdiff_t len = both_emit_icmp_error(&own, LK_PROHIBITED, 0, about.at, about.len, clear(), ROOM);
+    CHECK(len > 0 || holds(&nothing, len));
+    return len > 0;
+}
+
+/* Each number in a header, and whether an error is sent. */
+static void write_errors_by_number(void)
+{
+    /* IANA's list of IPv6 extension headers (RFC 8200, RFC 7045), but for 50, 253 and 254 */
+    static const uint8_t extension_headers[] = {0, 43, 44, 51, 60, 135, 139, 140};
+    /* the queries of RFC 792 and RFC 950, by RFC 1122, section 3.2.2: echo, timestamp, information, address mask */
+    static const uint8_t queries[] = {0, 8, 13, 14, 15, 16, 17, 18};
+    for (unsigned n = 0; n < 256; n++) {
+        const int is_extension = memchr(extension_headers, (int)n, sizeof extension_headers) != 0;
+        /* RFC 4443, section 2.1: errors are below 128; RFC 4861, section 4.5: 137 is a redirect */
+        const int is_query6 = n >= 128 && n != 137;
+        CHECK_ROW(n, has_error(&last_hop6, 20, (uint8_t)n) == !is_extension);
+        CHECK_ROW(n, has_error(&echo_request, 34, (uint8_t)n) == (memchr(queries, (int)n, sizeof queries) != 0));
+        CHECK_ROW(n, has_error(&echo_request6, 54, (uint8_t)n) == is_query6);
+    }
+}
+
 void worked_icmp(void)
 {
     read_messages();
@@ -235,4 +261,5 @@ void worked_icmp(void)
     write_neighbours();
     write_errors();
     write_no_errors();
+    write_errors_by_number();
 }
