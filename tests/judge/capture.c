@@ -166,12 +166,23 @@ static void add_frame(FILE *file)
     fwrite(made.octets, 1, made.len, file);
 }
 
+/* Whether a byte of the options of an IPv4 header is the number of an option that tshark dissects. */
+static int has_known_option(const struct lk_frame *frame)
+{
+    static const uint8_t kinds[] = {7, 11, 12, 25, 68, 82, 130, 131, 133, 134, 136, 137, 148, 149};
+    const uint8_t *ip = made.octets + 14;
+    for (size_t i = 20; frame->network == LK_IPV4 && i < 4u * (ip[0] & 15); i++)
+        if (memchr(kinds, ip[i], sizeof kinds) != 0)
+            return 1;
+    return 0;
+}
+
 /* Whether tshark dissects just the headers that lk_read_frame reads. It dissects the transport of a first fragment
- * too, and what other protocols carry. It calls a TCP or ICMP checksum bad that is 0xffff instead of 0, but by RFC 1071
- * the sum is right. */
+ * too, and what other protocols carry. It stops at an IPv4 option of a wrong length. It calls a TCP or ICMP
+ * checksum bad that is 0xffff instead of 0, but by RFC 1071 the sum is right. */
 static int is_comparable(const struct lk_frame *frame)
 {
-    if (frame->reason != LK_READ)
+    if (frame->reason != LK_READ || has_known_option(frame))
         return 0;
     if (frame->transport == LK_TCP)
         return get_word(made.octets + frame->transport_offset + 16) != 0xffff;

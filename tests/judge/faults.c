@@ -46,7 +46,7 @@ __attribute__((constructor)) static void choose(void)
         "the note about a wrong checksum missing", "a fragment offset in units of 8 bytes",
         "a protocol without its keyword of IANA",
         "ECN cleared with the DSCP", "a checksum left to the device updated as a computed one",
-        "the checksum in a first fragment not updated", "the protocol replaced as other bytes",
+        "the checksum in a first fragment of IPv4 not updated", "the protocol replaced as other bytes",
         "no checksum filled in where UDP has none", "the options of a rejected TCP header",
         "a table without the ranges of one route", "a cell written past the end of a table",
         "a table in one cell too few", "a cell of a table that is not written",
@@ -56,6 +56,7 @@ __attribute__((constructor)) static void choose(void)
         "bytes of a count that is too long written as none", "an address before UDP-Lite written",
         "LK_OFFLOADED with an address as LK_GUESS", "LK_COMPLETE with a port as LK_GUESS",
         "an unknown lk_offload as LK_COMPLETE", "LK_OFFLOADED of a clamped SYN as LK_GUESS",
+        "the checksum in a first fragment of IPv6 not updated",
     };
     const char *number = getenv("FAULT");
     fault = number ? (enum fault)atoi(number) : NO_FAULT;

@@ -60,16 +60,18 @@ int __wrap_lk_set_addr(uint8_t *frame, size_t len, int side, const struct lk_add
     return result;
 }
 
-/* The checksum in a first fragment stays. */
+/* The checksum in a first fragment of one IP version stays. */
 int __wrap_lk_set_port(uint8_t *frame, size_t len, int side, uint16_t port)
 {
     struct lk_frame f;
     uint8_t sum[2] = {0, 0};
     size_t at;
-    int result, is_known;
+    int result, is_ipv6, is_known;
     lk_read_frame(frame, len, &f);
-    at = f.payload_offset + (f.network == LK_IPV6 ? 8 : 0) + (f.ip.protocol == 17 ? 6 : 16);
-    is_known = fault == FIRST_FRAGMENT_LEFT && f.network == LK_IPV4 && f.is_fragment && at + 2 <= len;
+    is_ipv6 = f.network == LK_IPV6;
+    at = f.payload_offset + (is_ipv6 ? 8 : 0);
+    at += (is_ipv6 && f.is_fragment ? frame[54] : f.ip.protocol) == 17 ? 6 : 16;
+    is_known = fault == (is_ipv6 ? FIRST_FRAGMENT6_LEFT : FIRST_FRAGMENT_LEFT) && f.is_fragment && at + 2 <= len;
     if (is_known)
         memcpy(sum, frame + at, 2);
     result = __real_lk_set_port(frame, len, side, port);

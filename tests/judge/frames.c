@@ -252,31 +252,46 @@ static void make_icmp(size_t most, int is_ipv6)
     made.end = at + len;
 }
 
+/* A UDP, TCP or ICMP packet at `at`. Returns its protocol. */
+static unsigned make_transport(size_t at, size_t most, int is_ipv6)
+{
+    size_t pick = below(14);
+    made.transport = at;
+    if (pick < 5)
+        make_udp(most);
+    else if (pick < 10)
+        make_tcp(most);
+    else
+        make_icmp(most, is_ipv6);
+    if (one_in(64))
+        made.end = at + below(24); /* too short for its header, or for its length field */
+    return pick < 5 ? 17 : pick < 10 ? 6 : is_ipv6 ? 58 : 1;
+}
+
+/* A fragment header and what follows it: mostly an atomic fragment or the first of several. */
+static void make_fragment(size_t at, size_t most)
+{
+    uint8_t *header = made.octets + at;
+    fill(header, 8);
+    if (!one_in(4))
+        put_word(header + 2, (unsigned)any() & 7);
+    header[0] = (uint8_t)make_transport(at + 8, most, 1);
+}
+
 /* What an IP header at `at` carries. Returns its protocol. */
 static unsigned make_carried(size_t at, int is_ipv6)
 {
     static const uint8_t others[] = {0, 1, 43, 44, 50, 58, 60, 89};
     size_t pick = below(16), most = (is_ipv6 ? at : 14) + 65535, len;
-    if (pick < 14) {
-        made.transport = at;
-        if (pick < 5)
-            make_udp(most);
-        else if (pick < 10)
-            make_tcp(most);
-        else
-            make_icmp(most, is_ipv6);
-        if (one_in(64))
-            made.end = at + below(24); /* too short for its header, or for its length field */
-        return pick < 5 ? 17 : pick < 10 ? 6 : is_ipv6 ? 58 : 1;
+    if (pick < 14)
+        return make_transport(at, most, is_ipv6);
+    if (is_ipv6 && one_in(2)) {
+        make_fragment(at, most);
+        return 44;
     }
     len = any_len(most - at);
     fill(made.octets + at, len);
     made.end = at + len;
-    if (is_ipv6 && one_in(2) && len >= 4) { /* a fragment header, often of an atomic fragment */
-        if (one_in(2))
-            put_word(made.octets + at + 2, (unsigned)any() & 6);
-        return 44;
-    }
     return one_in(4) ? (unsigned)any() & 0xff : others[below(8)];
 }
 
@@ -360,12 +375,6 @@ static void make_fields(void)
     fill(made.octets + made.end, made.len - made.end);
 }
 
-int any_offload(void)
-{
-    static const int offloads[] = {LK_GUESS, LK_OFFLOADED, LK_COMPLETE, LK_OFFLOADED, LK_COMPLETE, 3, -1, 257, 0x10002};
-    return offloads[below(9)];
-}
-
 /* ---- checksums ---- */
 
 static struct lk_addr addr_at(size_t at, unsigned version)
@@ -411,7 +420,7 @@ static void sum_icmp(uint8_t *ptr, size_t len, unsigned version)
 static void sum_fields(void)
 {
     uint8_t *ptr = made.octets + 14, *transport = made.octets + made.transport;
-    unsigned version = get_word(made.octets + 12) == 0x0800 ? 4 : 6;
+    unsigned version = get_word(made.octets + 12) == 0x0800 ? 4 : 6, protocol;
     size_t header_len = 4u * (ptr[0] & 15), len = made.end - made.transport;
     if (version == 4 && made.len > 34 && header_len >= 20 && 14 + header_len <= made.len) {
         put_word(ptr + 10, 0);
@@ -419,9 +428,10 @@ static void sum_fields(void)
     }
     if (made.transport == 0 || len < 8)
         return;
-    if (version == 4 ? ptr[9] == 6 : ptr[6] == 6)
+    protocol = version == 4 ? ptr[9] : ptr[6] == 44 ? ptr[40] : ptr[6];
+    if (protocol == 6)
         sum_transport(transport, 6, len, 16, version);
-    else if (version == 4 ? ptr[9] == 1 : ptr[6] == 58)
+    else if (protocol == (version == 4 ? 1 : 58))
         sum_icmp(transport, len, version);
     else if (get_word(transport + 4) >= 8 && get_word(transport + 4) <= len)
         sum_transport(transport, 17, get_word(transport + 4), 6, version);

@@ -24,6 +24,9 @@ size_t placed_len(size_t len);
 /* The room for a result of this length: often just enough, at times too little, none, or never used. */
 size_t any_cap(ptrdiff_t len);
 
+/* What a caller says of a checksum. */
+int any_offload(void);
+
 /* Any bytes, into which a call writes. */
 uint8_t *any_out(size_t cap);
 
@@ -96,9 +99,6 @@ struct lk_host any_host_for(const struct lk_frame *frame);
 
 /* A header of a TCP segment with any options, up to 60 bytes. Returns its length. */
 size_t any_tcp_header(uint8_t *out);
-
-/* What a caller says of a checksum. */
-int any_offload(void);
 
 /* The frame that was made last. */
 struct made {
