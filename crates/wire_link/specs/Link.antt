@@ -1,5 +1,5 @@
 -- Link-layer headers of captured packets, by the link type of the capture (www.tcpdump.org/linktypes.html).
--- Pinned by: `worked/link`
+-- Pinned by: `worked/link`, `apps/links`
 use Rattle.std.specs.Prelude.{ℕ, ◌+◌, ◌==◌, ◌||◌, not, nat_lt, if◌then◌else◌, Bool, List, [], ◌∷◌, drop, length, slice_index, Option, Some, None, Result, Ok, Err}
 use Rattle.byteorder.specs.Endian.{little_number}
 use Rattle.wire_field.specs.Field.{field}

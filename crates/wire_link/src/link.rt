@@ -1,6 +1,6 @@
 //! A link-layer header with its VLAN tags.
 
-ghost use Rattle.std.specs.Prelude.{◌≡◌, ◌≤◌, ◌+◌, IfOk, length};
+ghost use Rattle.std.specs.Prelude.{◌≡◌, ◌≤◌, ◌+◌, ◌*◌, IfOk, length};
 ghost use Rattle.wire_link.specs.Link.{header_len, is_tag, link_of, with_tag};
 
 use crate::link_type::LinkType;
@@ -37,6 +37,7 @@ impl Link {
     /// EtherType 0x8100, 0x88a8 or 0x9100 (IEEE 802.1Q, section 9).
     pub fn parse(link_type: LinkType, bytes: &[u8]) -> Result<Link, LinkFault>
         ensures value { result ≡ link_of link_type bytes.now }
+        ensures tags { IfOk result (λ link. link.offset ≡ header_len link_type + 4 * link.tag_count) }
         ensures header { IfOk result (λ link. header_len link_type ≤ link.offset) }
         ensures within { IfOk result (λ link. link.offset ≤ length bytes.now) }
         ensures bounded { IfOk result (λ link. link.offset ≤ 28) }
@@ -58,7 +59,10 @@ impl Link {
     fn with_tag(self, bytes: &[u8]) -> Result<Link, LinkFault>
         requires within { self.offset ≤ length bytes.now }
         requires bounded { self.offset ≤ 24 }
+        requires few { self.tag_count ≤ 1 }
         ensures value { result ≡ with_tag bytes.now self }
+        ensures tags { IfOk result (λ link. link.offset + 4 * self.tag_count ≡ self.offset + 4 * link.tag_count) }
+        ensures few { IfOk result (λ link. link.tag_count ≤ self.tag_count + 1) }
         ensures header { IfOk result (λ link. self.offset ≤ link.offset) }
         ensures within { IfOk result (λ link. link.offset ≤ length bytes.now) }
         ensures bounded { IfOk result (λ link. link.offset ≤ self.offset + 4) }
