@@ -28,15 +28,20 @@ node_from block i node valid is =
     let of : IsNodeOf block i (unlinked node) = subst (IsNodeOf block i) (sym is) (node_of-IsNodeOf block i valid) in
     record { len = of.len; len_fits = of.len_fits; route_is = of.route_is; leads = of.leads; aligned = of.aligned }
 
--- each node is that of a block
+-- each node is that of a block, but for its link
+pub block_for : (blocks : List IpCidr) (made nodes : List Node) (k : ℕ) → IsFilled blocks made → IsPermutation (map unlinked made) (map unlinked nodes)
+    → k < length nodes → (i : ℕ) × (i < length blocks) × (unlinked (node_at nodes k) ≡ node_of (block_at blocks i) i)
+block_for blocks made nodes k filled moved below =
+    let found = moved_at nodes made k (IsPermutation-sym (map unlinked made) (map unlinked nodes) moved) below in
+    let within : found.0 < length blocks = subst (λ n. found.0 < n) filled.len found.1 in
+    (found.0, within, sym found.2 ∙ ap unlinked (filled.each found.0 within).1)
+
 pub node_block : (blocks : List IpCidr) (made nodes : List Node) (k : ℕ) → IsFilled blocks made → IsPermutation (map unlinked made) (map unlinked nodes)
     → k < length nodes → (i : ℕ) × (i < length blocks) × IsNodeOf (block_at blocks i) i (node_at nodes k)
 node_block blocks made nodes k filled moved below =
-    let found = moved_at nodes made k (IsPermutation-sym (map unlinked made) (map unlinked nodes) moved) below in
+    let found = block_for blocks made nodes k filled moved below in
     let i = found.0 in
-    let within : i < length blocks = subst (λ n. i < n) filled.len found.1 in
-    let each = filled.each i within in
-    (i, within, node_from (block_at blocks i) i (node_at nodes k) each.0 (sym found.2 ∙ ap unlinked each.1))
+    (i, found.1, node_from (block_at blocks i) i (node_at nodes k) (filled.each i found.1).0 found.2)
 
 -- each block has a node
 pub node_for : (blocks : List IpCidr) (made nodes : List Node) (i : ℕ) → IsFilled blocks made → IsPermutation (map unlinked made) (map unlinked nodes)

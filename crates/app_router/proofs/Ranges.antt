@@ -1,17 +1,17 @@
 -- The addresses of a range of a table have one answer, as no block begins or ends between them.
-use Rattle.std.proofs.Common.{ℕ, ◌≡◌, ◌↔◌, ◌∙◌, ◌+◌, ◌-◌, ◌*◌, ◌/◌, ◌%◌, ◌^◌, ◌<◌, ◌≤◌, ◌⊎◌, inl, inr, List, length, refl, sym, ap, subst, arith}
+use Rattle.std.proofs.Common.{ℕ, ◌≡◌, ◌≢◌, ◌↔◌, ◌∙◌, ◌+◌, ◌-◌, ◌*◌, ◌/◌, ◌%◌, ◌^◌, ◌<◌, ◌≤◌, ◌⊎◌, inl, inr, List, length, refl, sym, ap, subst, arith}
 use Rattle.std.specs.Int.{bytes_high_first}
 use Rattle.std.specs.List.Sorted.{IsNonDecreasingBy, IsPermutation}
 use Rattle.std.proofs.Math.Nat.{div-eq_of_lt-le, div-mul-le_self, lt-div-mul-add, mul_assoc}
-use Rattle.std.proofs.lemmas.Bool.{cases_lt}
+use Rattle.std.proofs.lemmas.Bool.{cases_lt, cases_order}
 use Rattle.std.proofs.lemmas.List.{get_or_default}
 use Rattle.std.proofs.lemmas.List.Elements.{Contains-get_or}
-use Rattle.std.proofs.lemmas.List.Sorted.{Contains-permutation}
+use Rattle.std.proofs.lemmas.List.Sorted.{Contains-permutation, IsPermutation-sym}
 use Rattle.std.proofs.lemmas.Nat.{pow-add, pow_pos}
-use Rattle.app_router.proofs.Elements.{node_for}
+use Rattle.app_router.proofs.Elements.{block_for, node_for}
 use Rattle.app_router.proofs.Finds.{agrees, number_of-lt, raised}
 use Rattle.app_router.specs.Index.{IsBlock, IsChosenAt, IsIndex, block_at, node_at, node_of, unlinked}
-use Rattle.app_router.specs.Table.{AreRanges, Answers, IsAnswer, IsBounded, IsStart, answer_of, range_at, start_of}
+use Rattle.app_router.specs.Table.{AreRanges, Answers, IsAnswer, IsBeside, IsBounded, IsStart, IsUndivided, Spares, SparesNode, answer_of, range_at, start_of}
 use Rattle.app_router.specs.declared.index.Node.{Node}
 use Rattle.ip_wire.proofs.ByteLists.{AreBytes-bytes_high_first}
 use Rattle.ip_wire.specs.Bytes.{IsByteArray}
@@ -84,6 +84,48 @@ alike (Ipv4 block) i node ranges f a (are, fits) is bounded are_f are_a le gap =
     let of_a = agrees 4 n block.address a are are_a fits in
     (λ member. of_a.1 (same.0 (of_f.0 member)), λ member. of_f.1 (same.1 (of_a.0 member)))
 
+-- a node's block begins and ends where that of the list does
+spared : (count p : ℕ) (block : IpCidr) (i : ℕ) (node : Node) → IsBlock block → unlinked node ≡ node_of block i → Spares count p block → SparesNode count p node
+spared count p (Ipv6 block) i node valid is spares four =
+    let six : node.version ≡ 6 = ap (λ (node : Node). node.version) is in
+    absurd (omega (arith, six, four))
+spared count p (Ipv4 block) i node (are, fits) is (begins, ends) four =
+    let n = block.prefix_len in
+    let d = 2 ^ (32 - n) in
+    let m = number_of block.address / d * d in
+    let high : node.high ≡ m * 2 ^ 32 = ap (λ (node : Node). node.high) is ∙ high_is (number_of block.address) n fits in
+    let len : node.prefix_len ≡ n = ap (λ (node : Node). node.prefix_len) is in
+    let first : m ≡ node.high / 2 ^ 32 = omega (arith, high) in
+    let following : (node.high + 2 ^ (64 - node.prefix_len)) % 2 ^ 64 / 2 ^ 32 ≡ (m + d) % 2 ^ 32 =
+    ap (λ n. (node.high + 2 ^ (64 - n)) % 2 ^ 64 / 2 ^ 32) len ∙ following_is node.high m n fits high in
+    (subst (IsBeside count p) first begins, subst (IsBeside count p) (sym following) ends)
+
+-- no block of an index begins or ends in a part that none of its list divides
+pub spared_by_all : (blocks : List IpCidr) (nodes : List Node) (count p : ℕ) → IsIndex blocks nodes → IsUndivided blocks count p
+    → (k : ℕ) → k < length nodes → SparesNode count p (node_at nodes k)
+spared_by_all blocks nodes count p index undivided k below =
+    let found = block_for blocks index.made nodes k index.filled index.moved below in
+    let i = found.0 in
+    spared count p (block_at blocks i) i (node_at nodes k) (index.filled.each i found.1).0 found.2 (undivided i found.1)
+
+-- address 0 is within no part
+zero_beside : (count p bound : ℕ) → bound ≡ 0 → IsBeside count p (start_of bound)
+zero_beside count p bound is = subst (λ b. IsBeside count p (start_of b)) (sym is) (inl (omega arith))
+
+-- the two bounds of a node
+pub bounds_beside : (count p first following : ℕ) (node : Node) → SparesNode count p node
+    → (node.version ≡ 4 → (first ≡ node.high) × (following ≡ (node.high + 2 ^ (64 - node.prefix_len)) % 2 ^ 64))
+    → (node.version ≢ 4 → (first ≡ 0) × (following ≡ 0)) → IsBeside count p (start_of first) × IsBeside count p (start_of following)
+bounds_beside count p first following node spares ipv4 other =
+    let none : (first ≡ 0) × (following ≡ 0) → IsBeside count p (start_of first) × IsBeside count p (start_of following) =
+    λ zeros. (zero_beside count p first zeros.0, zero_beside count p following zeros.1) in
+    elim (cases_order node.version 4) [
+      | inl four ↦ let is = ipv4 four in
+          (subst (IsBeside count p) (ap start_of (sym is.0)) (spares four).0, subst (IsBeside count p) (ap start_of (sym is.1)) (spares four).1)
+      | inr (inl low) ↦ none (other (λ e. omega (arith, e, low)))
+      | inr (inr high) ↦ none (other (λ e. omega (arith, e, high)))
+    ]
+
 -- ---- answers
 
 -- two addresses that are in the same blocks have one answer
@@ -134,3 +176,23 @@ answered blocks nodes unsorted sorted ranges index bounded moved up len starts a
     alike (block_at blocks i) i (node_at nodes node.0) unsorted first bytes (index.filled.each i inside).0 node.2 (bounded node.0 node.1)
     are_first are (omega (arith, is, low)) apart in
     same_answer blocks (ip.Ipv4 first) (ip.Ipv4 bytes) (answer_of (range_at ranges k)) same (answers k below first are_first is)
+
+-- a sort keeps what is beside a part
+pub beside_sorted : (unsorted sorted : List ℕ) (count p : ℕ) → IsPermutation unsorted sorted
+    → ((k : ℕ) → k < length unsorted → IsBeside count p (start_of (range_at unsorted k)))
+    → (k : ℕ) → k < length sorted → IsBeside count p (start_of (range_at sorted k))
+beside_sorted unsorted sorted count p moved beside k below =
+    let found = Contains-permutation sorted unsorted (range_at sorted k) (IsPermutation-sym unsorted sorted moved) (Contains-get_or sorted k _ below) in
+    let j = found.0 in
+    let at : range_at unsorted j ≡ range_at sorted k = get_or_default unsorted j _ _ found.1 ∙ found.2 in
+    subst (λ r. IsBeside count p (start_of r)) at (beside j found.1)
+
+-- if a range begins at 0, the first one after a sort does
+pub first_sorted : (unsorted sorted : List ℕ) → IsPermutation unsorted sorted → IsNonDecreasingBy (λ x. x) sorted → 0 < length unsorted
+    → start_of (range_at unsorted 0) ≡ 0 → start_of (range_at sorted 0) ≡ 0
+first_sorted unsorted sorted moved up some first =
+    let found = Contains-permutation unsorted sorted (range_at unsorted 0) moved (Contains-get_or unsorted 0 _ some) in
+    let j = found.0 in
+    let at : start_of (range_at sorted j) ≡ 0 = ap start_of (get_or_default sorted j _ _ found.1 ∙ found.2) ∙ first in
+    let h = up 0 j (2 ^ 64) (omega arith) found.1 in
+    omega (arith, h, at)

@@ -1,8 +1,9 @@
 -- A part that lies within a range has its answer.
-use Rattle.std.proofs.Common.{ℕ, ◌≡◌, ◌∙◌, ◌+◌, ◌++◌, ◌-◌, ◌*◌, ◌%◌, ◌^◌, ◌<◌, ◌≤◌, List, ap, arith, drop, length, slice_index_or, subst, sym, take}
-use Rattle.std.proofs.lemmas.List.{drop-append-le, drop_at, get_or_default, length-drop, take-append-le, take_all, take_at}
+use Rattle.std.proofs.Common.{ℕ, ◌≡◌, ◌∙◌, ◌+◌, ◌++◌, ◌-◌, ◌*◌, ◌%◌, ◌^◌, ◌<◌, ◌≤◌, inl, inr, List, ap, arith, drop, length, slice_index_or, subst, sym, take}
+use Rattle.std.proofs.lemmas.Bool.{cases_lt}
+use Rattle.std.proofs.lemmas.List.{drop-append-le, drop_at, get_or_default, get_or_past, length-drop, take-append-le, take_all, take_at}
 use Rattle.std.proofs.Math.Nat.{le_of_mul-le-mul_right, lt_of_mul-lt-mul_right}
-use Rattle.app_router.specs.Table.{AreEnough, AreParts, AreRanges, IsAnswer, IsTable, IsEntry, IsInPart, IsInRange, IsWithinRange, answer_of, half_at, hints_in, range_at}
+use Rattle.app_router.specs.Table.{AreEnough, AreFilled, AreParts, AreRanges, IsAnswer, IsClear, IsEntry, IsInPart, IsInRange, IsTable, IsWithinRange, answer_of, half_at, hints_in, range_at, start_of}
 use Rattle.ip_wire.specs.declared.IpAddress.TheVariants.{Ipv4}
 use Rattle.ip_wire.specs.declared.IpCidr.{IpCidr}
 
@@ -25,6 +26,15 @@ parts blocks ranges cells are entries p below whole bytes is inside =
     let e : half_at cells p - 2 ^ 31 ≡ answer_of (range_at ranges k) = omega (arith, entry.2) in
     subst (IsAnswer blocks (Ipv4 bytes)) (sym e) (are k within.listed bytes is (in_range ranges (2 * length cells) p k _ below within inside))
 
+-- the next range after the last one that begins before a part, in which none begins
+pub ends_after : (ranges : List ℕ) (count p k : ℕ) → p < count → IsClear ranges count p
+    → (k + 1 < length ranges → p * 2 ^ 32 < start_of (range_at ranges (k + 1)) * count) → (p + 1) * 2 ^ 32 ≤ start_of (range_at ranges (k + 1)) * count
+ends_after ranges count p k within clear after = elim (cases_lt (k + 1) (length ranges)) [
+  | inl below ↦ let begins = after below in
+      elim (clear (k + 1) below).0 [ inl low ↦ absurd (omega (arith, low, begins)) | inr high ↦ high ]
+  | inr past ↦ subst (λ r. (p + 1) * 2 ^ 32 ≤ start_of r * count) (sym (get_or_past ranges (k + 1) (2 ^ 64) past)) (omega (arith, within))
+]
+
 -- the hints in a table
 pub hints_between : (n : ℕ) (entries hints ranges : List ℕ) → length entries ≡ 2 * (n + 1) → length hints ≡ n + 1
     → hints_in n (entries ++ (hints ++ ranges)) ≡ hints
@@ -41,8 +51,8 @@ hints_before n cells following len =
 -- entries, hints and ranges of these lengths are a table
 pub table : (blocks : List IpCidr) (entries hints ranges : List ℕ) → length entries ≡ 2 * (length blocks + 1)
     → length hints ≡ length blocks + 1 → length ranges ≡ 2 * (length blocks + 1)
-    → AreParts blocks entries → AreRanges blocks ranges → IsTable blocks (entries ++ (hints ++ ranges))
-table blocks entries hints ranges entries_len hints_len ranges_len are_parts are_ranges =
+    → AreParts blocks entries → AreFilled blocks entries → AreRanges blocks ranges → IsTable blocks (entries ++ (hints ++ ranges))
+table blocks entries hints ranges entries_len hints_len ranges_len are_parts are_filled are_ranges =
     let u = length blocks + 1 in
     let cells = entries ++ (hints ++ ranges) in
     let front : take (2 * u) cells ≡ entries = take_at entries (hints ++ ranges) (2 * u) entries_len in
@@ -51,6 +61,7 @@ table blocks entries hints ranges entries_len hints_len ranges_len are_parts are
     ∙ ap (take (2 * u)) (drop_at hints ranges u hints_len) ∙ take_all (2 * u) ranges (omega (arith, ranges_len)) in
     record {
       parts = λ _. subst (AreParts blocks) (sym front) are_parts;
+      filled = λ _. subst (AreFilled blocks) (sym front) are_filled;
       ranges = λ _. subst (AreRanges blocks) (sym back) are_ranges;
     }
 
@@ -68,6 +79,7 @@ longer blocks cells following len is =
     ∙ take-append-le (2 * u) (drop u rest) following (omega (arith, rest_len, length-drop u rest)) in
     record {
       parts = λ _. subst (AreParts blocks) (sym front) (is.parts enough);
+      filled = λ _. subst (AreFilled blocks) (sym front) (is.filled enough);
       ranges = λ _. subst (AreRanges blocks) (sym back) (is.ranges enough);
     }
 

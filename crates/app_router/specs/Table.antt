@@ -1,8 +1,8 @@
 -- A table beside an index of blocks. It divides the IPv4 addresses into ranges that have one answer each, and into equal
 -- parts: the entry of a part that lies within one range is the answer.
 -- Pinned by: `RouteTablesOnce`, `worked/route`
-use Rattle.std.specs.Prelude.{ℕ, ◌≡◌, ◌+◌, ◌-◌, ◌*◌, ◌/◌, ◌%◌, ◌^◌, ◌<◌, ◌≤◌, ◌⊎◌, All, List, drop, length, slice_index_or, take}
-use Rattle.app_router.specs.Index.{IsChosenAt}
+use Rattle.std.specs.Prelude.{ℕ, ⊤, ◌≡◌, ◌+◌, ◌-◌, ◌*◌, ◌/◌, ◌%◌, ◌^◌, ◌<◌, ◌≤◌, ◌⊎◌, All, List, drop, length, slice_index_or, take}
+use Rattle.app_router.specs.Index.{IsChosenAt, block_at}
 use Rattle.app_router.specs.declared.index.Node.{Node}
 use Rattle.ip_wire.specs.Bytes.{IsByteArray}
 use Rattle.ip_wire.specs.IpCidr.{IsIn}
@@ -10,6 +10,7 @@ use Rattle.ip_wire.specs.Prefix.{number_of}
 use Rattle.ip_wire.specs.declared.IpAddress.{IpAddress}
 use Rattle.ip_wire.specs.declared.IpAddress.TheVariants.{Ipv4}
 use Rattle.ip_wire.specs.declared.IpCidr.{IpCidr}
+use Rattle.ip_wire.specs.declared.IpCidr.TheVariants as cidr
 
 -- ---- answers
 
@@ -74,6 +75,33 @@ IsEntry ranges count p entry = 2 ^ 31 ≤ entry → (k : ℕ) × IsWithinRange r
 abbrev pub AreHints : ℕ → List ℕ → Type 0
 AreHints count cells = (i : ℕ) → i < 2 * length cells → half_at cells i < count
 
+-- ---- where blocks begin and end
+
+-- the number is not within the part at index p of `count`: it is where the part begins or before, or where it ends or after
+abbrev pub IsBeside : ℕ → ℕ → ℕ → Type 0
+IsBeside count p number = (number * count ≤ p * 2 ^ 32) ⊎ ((p + 1) * 2 ^ 32 ≤ number * count)
+
+-- the first address of a block and the one after its last, which is 0 after the last of all, are not within the part; an
+-- IPv6 block is in no part
+abbrev pub Spares : ℕ → ℕ → IpCidr → Type 0
+Spares count p (cidr.Ipv4 block) =
+    let len = 2 ^ (32 - block.prefix_len) in
+    let first = number_of block.address / len * len in
+    IsBeside count p first × IsBeside count p ((first + len) % 2 ^ 32)
+Spares count p (cidr.Ipv6 block) = ⊤
+
+-- no block begins or ends within the part
+abbrev pub IsUndivided : List IpCidr → ℕ → ℕ → Type 0
+IsUndivided blocks count p = (i : ℕ) → i < length blocks → Spares count p (block_at blocks i)
+
+-- each part in which no block begins or ends has its answer as its entry
+abbrev pub AreFilled : List IpCidr → List ℕ → Type 0
+AreFilled blocks cells = (p : ℕ) → p < 2 * length cells → IsUndivided blocks (2 * length cells) p → 2 ^ 31 ≤ half_at cells p
+
+-- no range begins within the part, and each answer is less than 2^31
+abbrev pub IsClear : List ℕ → ℕ → ℕ → Type 0
+IsClear ranges count p = (k : ℕ) → k < length ranges → IsBeside count p (start_of (range_at ranges k)) × (answer_of (range_at ranges k) < 2 ^ 31)
+
 -- ---- where ranges begin
 
 -- a range begins with this number
@@ -83,6 +111,10 @@ IsStart ranges addr = (k : ℕ) × (k < length ranges) × (start_of (range_at ra
 -- a range begins where the IPv4 block of a node begins, and one after its end; both are numbers of 32 bits
 abbrev pub IsBounded : List ℕ → Node → Type 0
 IsBounded ranges node = node.version ≡ 4 → IsStart ranges (node.high / 2 ^ 32) × IsStart ranges ((node.high + 2 ^ (64 - node.prefix_len)) % 2 ^ 64 / 2 ^ 32)
+
+-- the IPv4 block of a node neither begins nor ends within the part; both are numbers of 32 bits
+abbrev pub SparesNode : ℕ → ℕ → Node → Type 0
+SparesNode count p node = node.version ≡ 4 → IsBeside count p (node.high / 2 ^ 32) × IsBeside count p ((node.high + 2 ^ (64 - node.prefix_len)) % 2 ^ 64 / 2 ^ 32)
 
 -- ---- the table
 
@@ -106,4 +138,5 @@ AreEnough blocks cells = 5 * (length blocks + 1) ≤ length cells
 -- cells, or none, say nothing.
 pub record IsTable (blocks : List IpCidr) (cells : List ℕ) : Type 0 where
   pub parts : AreEnough blocks cells → AreParts blocks (entries_in (length blocks) cells)
+  pub filled : AreEnough blocks cells → AreFilled blocks (entries_in (length blocks) cells)
   pub ranges : AreEnough blocks cells → AreRanges blocks (ranges_in (length blocks) cells)

@@ -9,9 +9,10 @@
 //! again; two fifths are the ranges, sorted.
 
 ghost use Rattle.std.specs.Prelude.{◌≡◌, ◌+◌, ◌*◌, ◌/◌, ◌%◌, ◌^◌, ◌≤◌, ◌<◌, All, IfSome, List, MatchOption, length, map, ℕ};
+ghost use Rattle.std.specs.Option.{IsSome};
 ghost use Rattle.app_router.specs.Index.{IsChosenAt, IsIndex, block_of, node_at};
 ghost use Rattle.app_router.specs.Route.{IsChosen, Leads};
-ghost use Rattle.app_router.specs.Table.{AreHints, AreRanges, Answers, IsAnswer, IsBounded, IsInRange, IsTable, answer_of, half_at, hints_in, range_at, start_of};
+ghost use Rattle.app_router.specs.Table.{AreEnough, AreHints, AreRanges, Answers, IsAnswer, IsBeside, IsBounded, IsInRange, IsTable, IsUndivided, SparesNode, answer_of, half_at, hints_in, range_at, start_of};
 ghost use Rattle.ip_wire.specs.IpCidr.{IsIn};
 ghost use Rattle.ip_wire.specs.declared.IpCidr.{IpCidr};
 
@@ -53,6 +54,11 @@ fn list_ranges(nodes: &[Node], ranges: &mut [u64])
     requires { length ranges.old ≡ 2 * (length nodes.now + 1) }
     ensures len { length ranges.new ≡ length ranges.old }
     ensures ranges { (blocks : List IpCidr) → IsIndex blocks nodes.now → AreRanges blocks ranges.new }
+    ensures first { start_of (range_at ranges.new 0) ≡ 0 }
+    ensures beside { (blocks : List IpCidr) → IsIndex blocks nodes.now → (count p : ℕ) → IsUndivided blocks count p
+        → (k : ℕ) → k < length ranges.new → IsBeside count p (start_of (range_at ranges.new k)) }
+    ensures few { (blocks : List IpCidr) → IsIndex blocks nodes.now → (k : ℕ) → k < length ranges.new
+        → answer_of (range_at ranges.new k) ≤ length blocks }
 {
     bound(nodes, ranges);
     ranges.sort_unstable();
@@ -64,6 +70,9 @@ fn bound(nodes: &[Node], ranges: &mut [u64])
     requires { length ranges.old ≡ 2 * (length nodes.now + 1) }
     ensures len { length ranges.new ≡ length ranges.old }
     ensures bounded { (k : ℕ) → k < length nodes.now → IsBounded ranges.new (node_at nodes.now k) }
+    ensures first { start_of (range_at ranges.new 0) ≡ 0 }
+    ensures beside { (count p : ℕ) → ((k : ℕ) → k < length nodes.now → SparesNode count p (node_at nodes.now k))
+        → (k : ℕ) → k < length ranges.new → IsBeside count p (start_of (range_at ranges.new k)) }
 {
     ranges[0] = 0;
     ranges[1] = 0;
@@ -80,6 +89,8 @@ fn answer_each(nodes: &[Node], ranges: &mut [u64])
     ensures starts { (k : ℕ) → start_of (range_at ranges.new k) ≡ start_of (range_at ranges.old k) }
     ensures answers { (blocks : List IpCidr) → IsIndex blocks nodes.now → (k : ℕ) → k < length ranges.new
         → Answers blocks (λ addr. addr ≡ start_of (range_at ranges.new k)) (answer_of (range_at ranges.new k)) }
+    ensures few { (blocks : List IpCidr) → IsIndex blocks nodes.now → (k : ℕ) → k < length ranges.new
+        → answer_of (range_at ranges.new k) ≤ length blocks }
 {
     let mut count = 0;
     for i in 0..ranges.len() {
@@ -91,7 +102,8 @@ fn answer_each(nodes: &[Node], ranges: &mut [u64])
 
 // The answer for an IPv4 address, by the index. `count` is that of `find_next`.
 fn answer_at(nodes: &[Node], count: &mut usize, addr: u32) -> u32
-    ensures { (blocks : List IpCidr) → IsIndex blocks nodes.now → Answers blocks (λ number. number ≡ addr) result }
+    ensures answer { (blocks : List IpCidr) → IsIndex blocks nodes.now → Answers blocks (λ number. number ≡ addr) result }
+    ensures few { (blocks : List IpCidr) → IsIndex blocks nodes.now → result ≤ length blocks }
 {
     match index::find_next(nodes, count, &IpAddress::Ipv4(Ipv4Address::from_bits(addr))) {
         Some(route) => route.wrapping_add(1),
@@ -124,10 +136,12 @@ fn find_by_index(nodes: &[Node], addr: &IpAddress) -> Option<u32>
 }
 
 /// One more than the place of the route for the IPv4 address of a number, or 0 if there is none, by the table of so many
-/// routes. `None` if it does not tell.
+/// routes. `None` if it does not tell; it tells if no block begins or ends in the part of the address.
 #[inline(always)]
 pub fn answer(count: usize, cells: &[u64], addr: u32) -> Option<u32>
-    ensures { (blocks : List IpCidr) → length blocks ≡ count → IsTable blocks cells.now → IfSome result (Answers blocks (λ number. number ≡ addr)) }
+    ensures answer { (blocks : List IpCidr) → length blocks ≡ count → IsTable blocks cells.now → IfSome result (Answers blocks (λ number. number ≡ addr)) }
+    ensures some { (blocks : List IpCidr) → length blocks ≡ count → count < 2 ^ 26 → IsTable blocks cells.now → AreEnough blocks cells.now
+        → IsUndivided blocks (4 * (count + 1)) (addr * (4 * (count + 1)) / 2 ^ 32) → IsSome result }
 {
     if count > MAX_ROUTES || cells.len() < len(count) {
         return None;

@@ -67,6 +67,7 @@ short_index routes nodes fewer index = subst (IsIndexOf routes) (sym (in_bounds-
 not-enough : (blocks : List IpCidr) (cells : List ℕ) → length cells < 5 * (length blocks + 1) → IsTable blocks cells
 not-enough blocks cells fewer = record {
   parts = λ enough. absurd (omega (arith, fewer, enough));
+  filled = λ enough. absurd (omega (arith, fewer, enough));
   ranges = λ enough. absurd (omega (arith, fewer, enough));
 }
 

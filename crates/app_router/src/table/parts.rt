@@ -5,7 +5,8 @@
 //! place is that of the hint of the first one. A hint is the place of a range.
 
 ghost use Rattle.std.specs.Prelude.{◌≡◌, ◌≢◌, ◌+◌, ◌*◌, ◌^◌, ◌≤◌, ◌<◌, IfSome, MatchOption, length, ℕ};
-ghost use Rattle.app_router.specs.Table.{AreHints, IsEntry, IsWithinRange, answer_of, half_at, range_at};
+ghost use Rattle.std.specs.Option.{IsSome};
+ghost use Rattle.app_router.specs.Table.{AreHints, IsClear, IsEntry, IsWithinRange, answer_of, half_at, range_at, start_of};
 
 /// An entry from this number on is an answer.
 pub const WHOLE: u32 = 1 << 31;
@@ -24,6 +25,8 @@ pub fn enter(ranges: &[u64], parts: &mut [u64], hints: &mut [u64])
     ensures hints_len { length hints.new ≡ length hints.old }
     ensures hints { AreHints (length ranges.now) hints.new }
     ensures entries { (p : ℕ) → p < 2 * length parts.new → IsEntry ranges.now (2 * length parts.new) p (half_at parts.new p) }
+    ensures filled { start_of (range_at ranges.now 0) ≡ 0 → (p : ℕ) → p < 2 * length parts.new → IsClear ranges.now (2 * length parts.new) p
+        → 2 ^ 31 ≤ half_at parts.new p }
 {
     hints.fill(0);
     let count = 2 * parts.len() as u64;
@@ -42,7 +45,9 @@ fn entry(ranges: &[u64], place: usize, part: u64, count: u64, hint: u32) -> u32
     requires within { part < count }
     requires few { count ≤ 2 ^ 31 }
     requires hint { hint < 2 ^ 31 }
-    ensures { IsEntry ranges.now count part result }
+    ensures entry { IsEntry ranges.now count part result }
+    ensures filled { place < length ranges.now → start_of (range_at ranges.now place) * count ≤ part * 2 ^ 32
+        → (part + 1) * 2 ^ 32 ≤ start_of (range_at ranges.now (place + 1)) * count → answer_of (range_at ranges.now place) < 2 ^ 31 → 2 ^ 31 ≤ result }
 {
     match whole(ranges, place, part, count) {
         Some(answer) => WHOLE + answer,
@@ -54,7 +59,9 @@ fn entry(ranges: &[u64], place: usize, part: u64, count: u64, hint: u32) -> u32
 fn whole(ranges: &[u64], place: usize, part: u64, count: u64) -> Option<u32>
     requires within { part < count }
     requires few { count ≤ 2 ^ 31 }
-    ensures { IfSome result (λ answer. (answer < 2 ^ 31) × IsWithinRange ranges.now count part place × (answer ≡ answer_of (range_at ranges.now place))) }
+    ensures within { IfSome result (λ answer. (answer < 2 ^ 31) × IsWithinRange ranges.now count part place × (answer ≡ answer_of (range_at ranges.now place))) }
+    ensures some { place < length ranges.now → start_of (range_at ranges.now place) * count ≤ part * 2 ^ 32
+        → (part + 1) * 2 ^ 32 ≤ start_of (range_at ranges.now (place + 1)) * count → answer_of (range_at ranges.now place) < 2 ^ 31 → IsSome result }
 {
     let range = *ranges.get(place)?;
     let next = match ranges.get(place + 1) {
@@ -76,7 +83,9 @@ fn whole(ranges: &[u64], place: usize, part: u64, count: u64) -> Option<u32>
 fn last_up_to(ranges: &[u64], place: usize, position: u64, count: u64) -> usize
     requires within { place < length ranges.now }
     requires few { count ≤ 2 ^ 31 }
-    ensures { (place ≤ result) × (result < length ranges.now) }
+    ensures within { (place ≤ result) × (result < length ranges.now) }
+    ensures begins { start_of (range_at ranges.now place) * count ≤ position → start_of (range_at ranges.now result) * count ≤ position }
+    ensures last { result + 1 < length ranges.now → position < start_of (range_at ranges.now (result + 1)) * count }
 {
     for next in place + 1..ranges.len() {
         if (ranges[next] >> 32) * count > position {

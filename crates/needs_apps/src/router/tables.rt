@@ -1,6 +1,7 @@
 //! Needs the contracts of the calls with a table of routes.
 
 ghost use Rattle.std.specs.Prelude.{◌≡◌, ◌+◌, ◌*◌, ◌^◌, ◌∷◌, [], All, List, MatchOption, length, map};
+ghost use Rattle.std.specs.Option.{IsSome};
 ghost use Rattle.app_router.specs.Index.{IsChosenAt, IsIndex, block_of};
 ghost use Rattle.app_router.specs.Table.{IsTable};
 ghost use Rattle.ip_wire.specs.IpCidr.{IsIn};
@@ -102,6 +103,40 @@ fn table_of_no_routes(cells: &mut [u64]) -> u64
 {
     table::fill(&[], cells);
     cells[4]
+}
+
+/// The table of no routes has an answer for each IPv4 address.
+fn answer_of_no_routes(
+    routes: &[Route],
+    nodes: &mut [Node],
+    cells: &mut [u64],
+    addr: u32,
+) -> Option<u32>
+    requires routes { routes.now ≡ [] }
+    requires nodes { length nodes.old ≡ 0 }
+    requires cells { length cells.old ≡ 5 }
+    ensures { IsSome result }
+{
+    index::index(routes, nodes);
+    table::fill(nodes, cells);
+    table::answer(routes.len(), cells, addr)
+}
+
+/// The table of 128.0.0.0/1 has one too: of its eight parts, the block has the last four.
+fn answer_of_one_route(
+    routes: &[Route],
+    nodes: &mut [Node],
+    cells: &mut [u64],
+    addr: u32,
+) -> Option<u32>
+    requires routes { map block_of routes.now ≡ cidr.Ipv4 (record { address = 128 ∷ 0 ∷ 0 ∷ 0 ∷ []; prefix_len = 1 }) ∷ [] }
+    requires nodes { length nodes.old ≡ length routes.now }
+    requires cells { length cells.old ≡ 10 }
+    ensures { IsSome result }
+{
+    index::index(routes, nodes);
+    table::fill(nodes, cells);
+    table::answer(routes.len(), cells, addr)
 }
 
 /// The table of the most routes has 5 * 2^26 cells.

@@ -25,15 +25,20 @@ answers : (blocks : List IpCidr) (octets : List ℕ) (addr answer : ℕ) → num
 answers blocks octets addr answer value are is bytes are_bytes same =
     subst (λ b. IsAnswer blocks (Ipv4 b) answer) (same_number octets bytes are are_bytes (value ∙ sym same)) is
 
-pub returns-in-Some : goal.returns-in-Some
-returns-in-Some c blocks index =
+pub returns-in-Some-clause-answer : goal.returns-in-Some-clause-answer
+returns-in-Some-clause-answer c blocks index =
     let route = c.in-Some.route in
     let octets = c.from_bits.result in
     let chosen : IsChosenAt blocks (Ipv4 octets) route = c.in-Some.ensures blocks index in
     let more : (route + 1) % 2 ^ 32 ≡ route + 1 = omega (arith, chosen.within, index.count) in
     answers blocks octets c.args.addr ((route + 1) % 2 ^ 32) c.from_bits.ensures.value c.from_bits.ensures.octets (inr (route, more, chosen))
 
-pub returns-in-None : goal.returns-in-None
-returns-in-None c blocks index =
+pub returns-in-None-clause-answer : goal.returns-in-None-clause-answer
+returns-in-None-clause-answer c blocks index =
     let from_bits = c.from_bits in
     answers blocks from_bits.result c.args.addr 0 from_bits.ensures.value from_bits.ensures.octets (inl (refl, c.in-None.ensures blocks index))
+
+pub returns-in-Some-clause-few : goal.returns-in-Some-clause-few
+returns-in-Some-clause-few c blocks index =
+    let chosen : IsChosenAt blocks (Ipv4 c.from_bits.result) c.in-Some.route = c.in-Some.ensures blocks index in
+    omega (arith, chosen.within)

@@ -1,4 +1,4 @@
-use Rattle.std.proofs.Common.{ℕ, ◌≡◌, ◌+◌, ◌*◌, ◌/◌, ◌%◌, ◌^◌, ◌<◌, ap, arith, below_more, bit_or, get_or, get_or-set_other, get_or-set_same, length, refl, set}
+use Rattle.std.proofs.Common.{ℕ, ◌≡◌, ◌+◌, ◌*◌, ◌/◌, ◌%◌, ◌^◌, ◌<◌, ◌≤◌, ap, arith, below_more, bit_or, get_or, get_or-set_other, get_or-set_same, length, refl, set}
 use Rattle.std.proofs.lemmas.Grind.{common_steps, or_after_shift}
 use Rattle.std.proofs.lemmas.List.{get_or_default}
 use Rattle.std.proofs.lemmas.Nat.{mod_low, shr_high}
@@ -27,8 +27,15 @@ loop-i-preserved c =
           let A : ℕ → Type 0 = λ r. Answers blocks (λ n. n ≡ start_of r) (answer_of r) in
           below_more (λ k. A (range_at (set ranges i word) k)) i
           (λ k less. rw (get_or-set_other ranges i k word (2 ^ 64) (omega (arith, less))) (c.loop-i.invariant.answers blocks index k less))
-          (rw (get_or-set_same ranges i word (2 ^ 64) inside, start_is, answer_is) (c.answer_at-answer.ensures blocks index));
+          (rw (get_or-set_same ranges i word (2 ^ 64) inside, start_is, answer_is) (c.answer_at-answer.ensures.answer blocks index));
+      few = λ blocks index.
+          below_more (λ k. answer_of (range_at (set ranges i word) k) ≤ length blocks) i
+          (λ k less. rw (get_or-set_other ranges i k word (2 ^ 64) (omega (arith, less))) (c.loop-i.invariant.few blocks index k less))
+          (rw (get_or-set_same ranges i word (2 ^ 64) inside, answer_is) (c.answer_at-answer.ensures.few blocks index));
     }
 
 pub returns-clause-answers : goal.returns-clause-answers
 returns-clause-answers c blocks index k below = c.loop-i.invariant.answers blocks index k (omega (arith, below))
+
+pub returns-clause-few : goal.returns-clause-few
+returns-clause-few c blocks index k below = c.loop-i.invariant.few blocks index k (omega (arith, below))

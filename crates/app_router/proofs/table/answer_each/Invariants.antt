@@ -1,4 +1,4 @@
-use Rattle.std.proofs.Common.{ℕ, ◌≡◌, ◌^◌, ◌<◌, List, get_or}
+use Rattle.std.proofs.Common.{ℕ, ◌≡◌, ◌^◌, ◌<◌, ◌≤◌, List, get_or, length}
 use Rattle.app_router.specs.Index.{IsIndex}
 use Rattle.app_router.specs.Table.{Answers, answer_of, range_at, start_of}
 use Rattle.ip_wire.specs.declared.IpCidr.{IpCidr}
@@ -10,4 +10,5 @@ invariant-loop-i l = record {
   starts : (k : ℕ) → start_of (range_at l.ranges k) ≡ start_of (range_at l.fn.ranges k);
   answers : (blocks : List IpCidr) → IsIndex blocks l.nodes → (k : ℕ) → k < l.i
       → Answers blocks (λ addr. addr ≡ start_of (range_at l.ranges k)) (answer_of (range_at l.ranges k));
+  few : (blocks : List IpCidr) → IsIndex blocks l.nodes → (k : ℕ) → k < l.i → answer_of (range_at l.ranges k) ≤ length blocks;
 }

@@ -13,7 +13,11 @@ returns-clause-table c blocks index =
     let ranges_len : length c.list_ranges.new.ranges ≡ 2 * (length blocks + 1) =
     omega (arith, count, c.list_ranges.ensures.len, c.split_at_mut-hints.ensures.back_len, c.split_at_mut-parts.ensures.back_len, c.requires.len) in
     table blocks c.enter.new.parts c.enter.new.hints c.list_ranges.new.ranges entries_len hints_len ranges_len
-    (parts blocks c.list_ranges.new.ranges c.enter.new.parts ranges c.enter.ensures.entries) ranges
+    (parts blocks c.list_ranges.new.ranges c.enter.new.parts ranges c.enter.ensures.entries)
+    (λ p below undivided. c.enter.ensures.filled c.list_ranges.ensures.first p below
+    (λ k inside. let few = c.list_ranges.ensures.few blocks index k inside in
+    (c.list_ranges.ensures.beside blocks index (2 * length c.enter.new.parts) p undivided k inside, omega (arith, few, count, c.requires.few))))
+    ranges
 
 pub returns-clause-hints : goal.returns-clause-hints
 returns-clause-hints c =

@@ -20,6 +20,6 @@ place_of blocks addr answer (Some place) (inr (i, more, chosen)) (pos, e) = subs
 pub returns-in-Some : goal.returns-in-Some
 returns-in-Some c blocks index table =
     let bytes = c.in-Ipv4.ipv4 in
-    let answer = c.in-Some.ensures blocks (counted blocks c.args.nodes.now index) table bytes c.to_bits.ensures.octets (sym c.to_bits.ensures.value) in
+    let answer = c.in-Some.ensures.answer blocks (counted blocks c.args.nodes.now index) table bytes c.to_bits.ensures.octets (sym c.to_bits.ensures.value) in
     subst (λ addr. MatchOption c.checked_sub.result (All (λ block. ¬ IsIn block addr) blocks) (IsChosenAt blocks addr)) (sym c.in-Ipv4.is)
     (place_of blocks (Ipv4 bytes) c.in-Some.answer c.checked_sub.result answer c.checked_sub.ensures)

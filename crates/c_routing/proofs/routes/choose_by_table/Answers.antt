@@ -16,7 +16,7 @@ returns-in-Some c routes table =
     let index : IsIndex table.blocks nodes = subst (IsIndex table.blocks) (in_bounds-itself nodes (omega (arith, c.if-nodes-le-MAX_ROUTES.true))) table.index in
     let cells : IsTable table.blocks c.in_bounds.result.now = subst (IsTable table.blocks) (sym c.in_bounds.ensures.value) table.table in
     let it : IsAnswer table.blocks (Ipv4 c.ipv4.result) answer =
-    c.in-Some.ensures table.blocks (counted table.blocks nodes index) cells c.ipv4.result c.to_bits-number.ensures.octets (sym c.to_bits-number.ensures.value) in
+    c.in-Some.ensures.answer table.blocks (counted table.blocks nodes index) cells c.ipv4.result c.to_bits-number.ensures.octets (sym c.to_bits-number.ensures.value) in
     let less_one = to_z w64 answer -ℤ pos 1 in
     subst (Chooses routes c.args.addr.now) (sym (to_z-of_z w64 less_one (search rules)))
     (answered routes table.blocks c.args.addr.now (Ipv4 c.ipv4.result) answer less_one table.listed (search rules) it (ap (λ z. z -ℤ pos 1) (to_z_pos w64 answer (search rules))))
