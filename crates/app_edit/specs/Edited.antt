@@ -14,6 +14,7 @@ use Rattle.ip_wire.specs.WordSum.{sum_of_bytes, updated}
 use Rattle.ip_wire.specs.declared.IpAddress.TheVariants as address
 use Rattle.ip_wire.specs.declared.IpProtocol.TheVariants as protocol
 use Rattle.ip_wire.specs.declared.IpVersion.TheVariants as version
+use Rattle.app_edit.specs.Offsets.{dscp_end, icmp_checksum, ip_header, ipv4_checksum, ipv4_dst, ipv4_end, ipv4_hop_limit, ipv4_protocol, ipv4_src, ipv4_total_len, ipv6_dst, ipv6_end, ipv6_hop_limit, ipv6_payload_len, ipv6_src, tcp_checksum, tcp_data_offset, udp_checksum, udp_len, version_end}
 use Rattle.app_edit.specs.Places.{addresses_end, addresses_start, checksum_place, is_ipv4, places_of}
 use Rattle.app_edit.specs.declared.places.Carried.{Carried}
 use Rattle.app_edit.specs.declared.places.Carried.TheVariants as carried
@@ -40,13 +41,13 @@ with_word frame at n = written frame at (big_bytes 2 n)
 
 -- the source address of a packet
 abbrev pub src_of : IpVersion → List ℕ → IpAddress
-src_of version.Ipv4 frame = address.Ipv4 (slice_range frame 26 30)
-src_of version.Ipv6 frame = address.Ipv6 (slice_range frame 22 38)
+src_of version.Ipv4 frame = address.Ipv4 (slice_range frame ipv4_src ipv4_dst)
+src_of version.Ipv6 frame = address.Ipv6 (slice_range frame ipv6_src ipv6_dst)
 
 -- the destination address of a packet
 abbrev pub dst_of : IpVersion → List ℕ → IpAddress
-dst_of version.Ipv4 frame = address.Ipv4 (slice_range frame 30 34)
-dst_of version.Ipv6 frame = address.Ipv6 (slice_range frame 38 54)
+dst_of version.Ipv4 frame = address.Ipv4 (slice_range frame ipv4_dst ipv4_end)
+dst_of version.Ipv6 frame = address.Ipv6 (slice_range frame ipv6_dst ipv6_end)
 
 -- the bytes of a transport packet that its checksum covers, without the pseudo-header
 abbrev pub segment_bytes : Segment → List ℕ → List ℕ
@@ -122,14 +123,14 @@ transport_checksum o _ v frame at bytes = 0
 
 -- the checksum of an IP header that ends at `end`, after bytes from byte `at` on were replaced; 0 for IPv6
 abbrev pub header_checksum : IpVersion → ℕ → List ℕ → ℕ → List ℕ → ℕ
-header_checksum version.Ipv4 end frame at bytes = updated_over updated (word_at frame 24) 14 end at (slice_range frame at (at + length bytes)) bytes
+header_checksum version.Ipv4 end frame at bytes = updated_over updated (word_at frame ipv4_checksum) ip_header end at (slice_range frame at (at + length bytes)) bytes
 header_checksum version.Ipv6 end frame at bytes = 0
 
 -- ---- edits
 
 -- the frame with this checksum of its IP header; IPv6 has none
 abbrev pub with_header_checksum : IpVersion → List ℕ → ℕ → List ℕ
-with_header_checksum version.Ipv4 frame n = with_word frame 24 n
+with_header_checksum version.Ipv4 frame n = with_word frame ipv4_checksum n
 with_header_checksum version.Ipv6 frame n = frame
 
 -- the frame with this checksum of what its packet carries
@@ -146,8 +147,8 @@ edited o p frame at bytes =
 
 -- the place of the TTL or hop limit
 abbrev pub hop_limit_place : IpVersion → ℕ
-hop_limit_place version.Ipv4 = 22
-hop_limit_place version.Ipv6 = 21
+hop_limit_place version.Ipv4 = ipv4_hop_limit
+hop_limit_place version.Ipv6 = ipv6_hop_limit
 
 -- the frame with another TTL or hop limit, which no transport checksum covers
 unfoldable pub hop_limit_set : List ℕ → ℕ → Option (List ℕ)
@@ -163,14 +164,14 @@ with_dscp version.Ipv6 bytes n = with_field bytes 4 8 (4 * n + field bytes 4 8 %
 unfoldable pub dscp_set : List ℕ → ℕ → Option (List ℕ)
 dscp_set frame n =
     if nat_lt 63 n then None
-    else option_map (λ p. edited offload.Complete p frame 14 (with_dscp p.version (slice_range frame 14 16) n)) (places_of frame)
+    else option_map (λ p. edited offload.Complete p frame ip_header (with_dscp p.version (slice_range frame ip_header dscp_end) n)) (places_of frame)
 
 -- the place of an address
 abbrev pub address_place : Side → IpVersion → ℕ
-address_place Source version.Ipv4 = 26
-address_place Source version.Ipv6 = 22
-address_place Destination version.Ipv4 = 30
-address_place Destination version.Ipv6 = 38
+address_place Source version.Ipv4 = ipv4_src
+address_place Source version.Ipv6 = ipv6_src
+address_place Destination version.Ipv4 = ipv4_dst
+address_place Destination version.Ipv6 = ipv6_dst
 
 -- whether an address has this version
 abbrev pub has_version : IpVersion → IpAddress → Bool
@@ -214,22 +215,22 @@ is_apart at end first last = nat_le end first || nat_le last at || nat_le last f
 -- Whether an edit keeps the bytes of the headers that say where the layers are. IPv4: version and header length, total
 -- length to fragment offset, protocol and checksum. IPv6: version, payload length and next header, fragment header.
 abbrev pub keeps_header : IpVersion → ℕ → ℕ → ℕ → Bool
-keeps_header version.Ipv4 start at end = is_apart at end 0 15 && is_apart at end 16 22 && is_apart at end 23 26
-keeps_header version.Ipv6 start at end = is_apart at end 0 15 && is_apart at end 18 21 && is_apart at end 54 start
+keeps_header version.Ipv4 start at end = is_apart at end 0 version_end && is_apart at end ipv4_total_len ipv4_hop_limit && is_apart at end ipv4_protocol ipv4_src
+keeps_header version.Ipv6 start at end = is_apart at end 0 version_end && is_apart at end ipv6_payload_len ipv6_hop_limit && is_apart at end ipv6_end start
 
 -- whether an edit keeps the checksum field, the data offset of TCP and the length of UDP
 abbrev pub keeps_segment : IpProtocol → ℕ → ℕ → ℕ → Bool
-keeps_segment protocol.Tcp start at end = is_apart at end (start + 12) (start + 13) && is_apart at end (start + 16) (start + 18)
-keeps_segment protocol.Udp start at end = is_apart at end (start + 4) (start + 8)
-keeps_segment _ start at end = is_apart at end (start + 2) (start + 4)
+keeps_segment protocol.Tcp start at end = is_apart at end (start + tcp_data_offset) (start + tcp_data_offset + 1) && is_apart at end (start + tcp_checksum) (start + tcp_checksum + 2)
+keeps_segment protocol.Udp start at end = is_apart at end (start + udp_len) (start + udp_checksum + 2)
+keeps_segment _ start at end = is_apart at end (start + icmp_checksum) (start + icmp_checksum + 2)
 
 -- whether an edit keeps the bytes after the IP header that it may not replace: of a later fragment all, and without a
 -- known place of the checksum all that it may cover, with the addresses
 abbrev pub keeps_carried : Carried → Places → ℕ → ℕ → Bool
 keeps_carried (carried.Segment s) p at end = keeps_segment s.protocol s.start at end
 keeps_carried carried.Other p at end = true
-keeps_carried carried.Fragment p at end = is_apart at end (if is_ipv4 p.version then p.start else 54) p.end
-keeps_carried carried.Hidden p at end = is_apart at end (if is_ipv4 p.version then 23 else 22) p.end
+keeps_carried carried.Fragment p at end = is_apart at end (if is_ipv4 p.version then p.start else ipv6_end) p.end
+keeps_carried carried.Hidden p at end = is_apart at end (if is_ipv4 p.version then ipv4_protocol else ipv6_src) p.end
 
 -- whether the bytes from `at` up to `end` may be replaced
 abbrev pub allows : Places → ℕ → ℕ → Bool

@@ -2,5 +2,6 @@ pub mod Checksums
 pub mod Edited
 pub mod Filled
 pub mod Layout
+pub mod Offsets
 pub mod Places
 pub mod Sides

@@ -12,6 +12,7 @@ use Rattle.ip_wire.specs.declared.EthernetProtocol.TheVariants as ethertype
 use Rattle.ip_wire.specs.declared.IpProtocol.TheVariants as protocol
 use Rattle.ip_wire.specs.declared.IpVersion.TheVariants as version
 use Rattle.app_edit.specs.Layout.{payload_end, payload_start}
+use Rattle.app_edit.specs.Offsets.{fragment_end, fragment_view, icmp_checksum, ip_header, ipv4_end, ipv4_src, ipv6_end, ipv6_src, tcp_checksum, udp_checksum, udp_len}
 use Rattle.app_edit.specs.declared.places.Carried.{Carried}
 use Rattle.app_edit.specs.declared.places.Carried.TheVariants as carried
 use Rattle.app_edit.specs.declared.places.Places.{Places}
@@ -53,9 +54,9 @@ covers_addresses over_ipv4 _ = false
 
 -- the offset of the checksum field in a transport header (RFC 9293, RFC 768, RFC 792, RFC 4443)
 abbrev pub checksum_offset : IpProtocol → ℕ
-checksum_offset protocol.Tcp = 16
-checksum_offset protocol.Udp = 6
-checksum_offset _ = 2
+checksum_offset protocol.Tcp = tcp_checksum
+checksum_offset protocol.Udp = udp_checksum
+checksum_offset _ = icmp_checksum
 
 -- the place of the checksum field of a transport packet
 abbrev pub checksum_place : Segment → ℕ
@@ -65,7 +66,7 @@ checksum_place s = s.start + checksum_offset s.protocol
 
 -- the length field of a UDP packet at this place
 abbrev pub datagram_len : List ℕ → ℕ → ℕ
-datagram_len frame start = big_number 2 (drop (start + 4) frame)
+datagram_len frame start = big_number 2 (drop (start + udp_len) frame)
 
 -- the UDP packet from `start` on: its checksum covers as many bytes as its length field says
 abbrev pub datagram_at : List ℕ → ℕ → ℕ → Bool → Carried
@@ -97,35 +98,35 @@ carried_by frame over_ipv4 p start end whole =
 -- what an IPv4 packet carries from `start` up to `end`
 abbrev pub ipv4_carried : List ℕ → ℕ → ℕ → Carried
 ipv4_carried frame start end =
-    let bytes = drop 14 frame in
+    let bytes = drop ip_header frame in
     if ipv4.fragment_offset bytes == 0 then carried_by frame true (protocol_of (field bytes 72 8)) start end (not (field bytes 50 1 == 1))
     else carried.Fragment
 
 -- the places in a frame with the EtherType of IPv4, if its header parses; its checksum is not verified
 abbrev pub ipv4_places : List ℕ → Option Places
 ipv4_places frame =
-    let start = 14 + payload_start version.Ipv4 (drop 14 frame) in
-    let end = 14 + payload_end version.Ipv4 (drop 14 frame) in
-    if ipv4.is_read false (drop 14 frame) then Some (record { version = version.Ipv4; start = start; end = end; carried = ipv4_carried frame start end })
+    let start = ip_header + payload_start version.Ipv4 (drop ip_header frame) in
+    let end = ip_header + payload_end version.Ipv4 (drop ip_header frame) in
+    if ipv4.is_read false (drop ip_header frame) then Some (record { version = version.Ipv4; start = start; end = end; carried = ipv4_carried frame start end })
     else None
 
 -- what an IPv6 packet with a fragment header right after the IPv6 header carries (RFC 8200, section 4.5)
 abbrev pub fragment_carried : List ℕ → ℕ → Carried
 fragment_carried frame end =
-    if field (drop 56 frame) 0 13 == 0 then carried_by frame false (protocol_of (slice_index frame 54)) 62 end (not (field (drop 56 frame) 15 1 == 1))
+    if field (drop fragment_view frame) 0 13 == 0 then carried_by frame false (protocol_of (slice_index frame ipv6_end)) fragment_end end (not (field (drop fragment_view frame) 15 1 == 1))
     else carried.Fragment
 
--- the places of an IPv6 packet with this next header and length in bytes
+-- the places of an IPv6 packet with this next header and length in bytes; header and fragment header take 48
 abbrev pub places_after : List ℕ → IpProtocol → ℕ → Places
 places_after frame protocol.Ipv6Frag len =
-    if nat_le 48 len then record { version = version.Ipv6; start = 62; end = 14 + len; carried = fragment_carried frame (14 + len) }
-    else record { version = version.Ipv6; start = 54; end = 14 + len; carried = carried_by frame false protocol.Ipv6Frag 54 (14 + len) true }
-places_after frame p len = record { version = version.Ipv6; start = 54; end = 14 + len; carried = carried_by frame false p 54 (14 + len) true }
+    if nat_le 48 len then record { version = version.Ipv6; start = fragment_end; end = ip_header + len; carried = fragment_carried frame (ip_header + len) }
+    else record { version = version.Ipv6; start = ipv6_end; end = ip_header + len; carried = carried_by frame false protocol.Ipv6Frag ipv6_end (ip_header + len) true }
+places_after frame p len = record { version = version.Ipv6; start = ipv6_end; end = ip_header + len; carried = carried_by frame false p ipv6_end (ip_header + len) true }
 
 -- the places in a frame with the EtherType of IPv6, if its header parses
 abbrev pub ipv6_places : List ℕ → Option Places
 ipv6_places frame =
-    let bytes = drop 14 frame in
+    let bytes = drop ip_header frame in
     if ipv6.is_read bytes then Some (places_after frame (protocol_of (field bytes 48 8)) (payload_end version.Ipv6 bytes)) else None
 
 -- the places in a frame with this EtherType
@@ -136,17 +137,17 @@ places_by _ frame = None
 
 -- the places in an Ethernet II frame, if its packet is IPv4 or IPv6
 unfoldable pub places_of : List ℕ → Option Places
-places_of frame = if nat_lt (length frame) 14 then None else places_by (ethernet.protocol_of (field frame 96 16)) frame
+places_of frame = if nat_lt (length frame) ip_header then None else places_by (ethernet.protocol_of (field frame 96 16)) frame
 
 -- ---- places that are in a frame
 
 -- where the two addresses begin (RFC 791, section 3.1; RFC 8200, section 3)
 abbrev pub addresses_start : IpVersion → ℕ
-addresses_start v = if is_ipv4 v then 26 else 22
+addresses_start v = if is_ipv4 v then ipv4_src else ipv6_src
 
 -- where they end
 abbrev pub addresses_end : IpVersion → ℕ
-addresses_end v = if is_ipv4 v then 34 else 54
+addresses_end v = if is_ipv4 v then ipv4_end else ipv6_end
 
 -- a transport packet is in the frame, with its checksum field and after the addresses; its words are words of the frame
 pub record InFrame (v : IpVersion) (s : Segment) (frame : List ℕ) : Type 0 where

@@ -6,6 +6,11 @@ ghost use Rattle.app_edit.specs.Edited.{addr_set, address_place, allows, bytes_s
 ghost use Rattle.app_edit.specs.Places.{Holds, carried_start};
 ghost use Rattle.ip_wire.specs.IpAddress.{address_bytes};
 
+use crate::offsets::{
+    DSCP_END, ICMP_CHECKSUM, IP_HEADER, IPV4_DST, IPV4_HOP_LIMIT, IPV4_PROTOCOL, IPV4_SRC,
+    IPV4_TOTAL_LEN, IPV6_DST, IPV6_END, IPV6_HOP_LIMIT, IPV6_PAYLOAD_LEN, IPV6_SRC, TCP_CHECKSUM,
+    TCP_DATA_OFFSET, UDP_CHECKSUM, UDP_LEN, VERSION_END,
+};
 use crate::places::{Carried, Places};
 use crate::replace::{Offload, can_be_left};
 use crate::side::Side;
@@ -30,8 +35,8 @@ fn hop_limit_place(version: IpVersion) -> usize
     ensures { result ≡ hop_limit_place version }
 {
     match version {
-        IpVersion::Ipv4 => 22,
-        IpVersion::Ipv6 => 21,
+        IpVersion::Ipv4 => IPV4_HOP_LIMIT,
+        IpVersion::Ipv6 => IPV6_HOP_LIMIT,
     }
 }
 
@@ -48,9 +53,9 @@ pub fn set_dscp(frame: &mut [u8], dscp: u8) -> bool
         return false;
     };
     let mut bytes = [0; 2];
-    bytes.copy_from_slice(&frame[14..16]);
+    bytes.copy_from_slice(&frame[IP_HEADER..DSCP_END]);
     write_dscp(places.version, &mut bytes, dscp);
-    places.replace(frame, 14, &bytes, Offload::Complete);
+    places.replace(frame, IP_HEADER, &bytes, Offload::Complete);
     true
 }
 
@@ -105,10 +110,10 @@ fn address_place(side: Side, version: IpVersion) -> usize
     ensures { result ≡ address_place side version }
 {
     match (side, version) {
-        (Side::Source, IpVersion::Ipv4) => 26,
-        (Side::Source, IpVersion::Ipv6) => 22,
-        (Side::Destination, IpVersion::Ipv4) => 30,
-        (Side::Destination, IpVersion::Ipv6) => 38,
+        (Side::Source, IpVersion::Ipv4) => IPV4_SRC,
+        (Side::Source, IpVersion::Ipv6) => IPV6_SRC,
+        (Side::Destination, IpVersion::Ipv4) => IPV4_DST,
+        (Side::Destination, IpVersion::Ipv6) => IPV6_DST,
     }
 }
 
@@ -201,12 +206,14 @@ impl Places {
     {
         match self.version {
             IpVersion::Ipv4 => {
-                is_apart(at, end, 0, 15) && is_apart(at, end, 16, 22) && is_apart(at, end, 23, 26)
+                is_apart(at, end, 0, VERSION_END)
+                    && is_apart(at, end, IPV4_TOTAL_LEN, IPV4_HOP_LIMIT)
+                    && is_apart(at, end, IPV4_PROTOCOL, IPV4_SRC)
             }
             IpVersion::Ipv6 => {
-                is_apart(at, end, 0, 15)
-                    && is_apart(at, end, 18, 21)
-                    && is_apart(at, end, 54, self.start)
+                is_apart(at, end, 0, VERSION_END)
+                    && is_apart(at, end, IPV6_PAYLOAD_LEN, IPV6_HOP_LIMIT)
+                    && is_apart(at, end, IPV6_END, self.start)
             }
         }
     }
@@ -221,14 +228,14 @@ impl Places {
             Carried::Fragment => {
                 let first = match self.version {
                     IpVersion::Ipv4 => self.start,
-                    IpVersion::Ipv6 => 54,
+                    IpVersion::Ipv6 => IPV6_END,
                 };
                 is_apart(at, end, first, self.end)
             }
             Carried::Hidden => {
                 let first = match self.version {
-                    IpVersion::Ipv4 => 23,
-                    IpVersion::Ipv6 => 22,
+                    IpVersion::Ipv4 => IPV4_PROTOCOL,
+                    IpVersion::Ipv6 => IPV6_SRC,
                 };
                 is_apart(at, end, first, self.end)
             }
@@ -243,10 +250,15 @@ fn keeps_segment(protocol: IpProtocol, start: usize, at: usize, end: usize) -> b
 {
     match protocol {
         IpProtocol::Tcp => {
-            is_apart(at, end, start + 12, start + 13) && is_apart(at, end, start + 16, start + 18)
+            is_apart(
+                at,
+                end,
+                start + TCP_DATA_OFFSET,
+                start + TCP_DATA_OFFSET + 1,
+            ) && is_apart(at, end, start + TCP_CHECKSUM, start + TCP_CHECKSUM + 2)
         }
-        IpProtocol::Udp => is_apart(at, end, start + 4, start + 8),
-        _ => is_apart(at, end, start + 2, start + 4),
+        IpProtocol::Udp => is_apart(at, end, start + UDP_LEN, start + UDP_CHECKSUM + 2),
+        _ => is_apart(at, end, start + ICMP_CHECKSUM, start + ICMP_CHECKSUM + 2),
     }
 }
 

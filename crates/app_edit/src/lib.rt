@@ -7,6 +7,7 @@ mod edits;
 mod fill;
 pub mod laws;
 mod layout;
+mod offsets;
 mod places;
 mod replace;
 mod side;

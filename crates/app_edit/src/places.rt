@@ -6,14 +6,15 @@ ghost use Rattle.app_edit.specs.Places.{Holds, HoldsCarried, addresses_end, chec
 ghost use Rattle.ip_wire.specs.declared.IpVersion.TheVariants as version;
 
 use crate::layout::Layout;
+use crate::offsets::{
+    FRAGMENT_END, FRAGMENT_HEADER_LEN, FRAGMENT_VIEW, ICMP_CHECKSUM, IPV6_END, TCP_CHECKSUM,
+    UDP_CHECKSUM, UDP_LEN,
+};
 use byteorder::{ByteOrder, NetworkEndian};
 use ip_wire::{
     ETHERNET_HEADER_LEN, EthernetFrame, EthernetProtocol, IPV6_HEADER_LEN, IpProtocol, IpVersion,
     Ipv4Packet, Ipv6FragmentHeader, Ipv6Packet, UDP_HEADER_LEN,
 };
-
-// The length of an IPv6 fragment header.
-const FRAGMENT_HEADER_LEN: usize = 8;
 
 /// A transport packet whose checksum field is in the frame. All places count from the first byte of the frame.
 #[derive(Debug, Clone, Copy, PartialEq, Eq)]
@@ -90,9 +91,9 @@ fn checksum_offset(protocol: IpProtocol) -> usize
     ensures { result ≡ checksum_offset protocol }
 {
     match protocol {
-        IpProtocol::Tcp => 16,
-        IpProtocol::Udp => 6,
-        _ => 2,
+        IpProtocol::Tcp => TCP_CHECKSUM,
+        IpProtocol::Udp => UDP_CHECKSUM,
+        _ => ICMP_CHECKSUM,
     }
 }
 
@@ -174,15 +175,15 @@ fn places_after(frame: &[u8], protocol: IpProtocol, len: usize) -> Places
     match protocol {
         IpProtocol::Ipv6Frag if len >= IPV6_HEADER_LEN + FRAGMENT_HEADER_LEN => Places {
             version,
-            start: 62,
+            start: FRAGMENT_END,
             end,
             carried: fragment_carried(frame, end),
         },
         _ => Places {
             version,
-            start: 54,
+            start: IPV6_END,
             end,
-            carried: carried_by(frame, version, protocol, 54, end, true),
+            carried: carried_by(frame, version, protocol, IPV6_END, end, true),
         },
     }
 }
@@ -194,13 +195,20 @@ fn fragment_carried(frame: &[u8], end: usize) -> Carried
     ensures value { result ≡ place.fragment_carried frame.now end }
     ensures holds { HoldsCarried result version.Ipv6 62 frame.now }
 {
-    let header = Ipv6FragmentHeader::new_unchecked(&frame[56..]);
+    let header = Ipv6FragmentHeader::new_unchecked(&frame[FRAGMENT_VIEW..]);
     if header.frag_offset() != 0 {
         return Carried::Fragment;
     }
-    let protocol = IpProtocol::from(frame[54]);
+    let protocol = IpProtocol::from(frame[IPV6_END]);
     let is_whole = !header.more_frags();
-    carried_by(frame, IpVersion::Ipv6, protocol, 62, end, is_whole)
+    carried_by(
+        frame,
+        IpVersion::Ipv6,
+        protocol,
+        FRAGMENT_END,
+        end,
+        is_whole,
+    )
 }
 
 // What a packet of this protocol carries from `start` up to `end`, if it is no later fragment.
@@ -323,7 +331,7 @@ fn datagram_at(
     ensures value { result ≡ place.datagram_at frame.now start end is_whole }
     ensures holds { HoldsCarried result version start frame.now }
 {
-    let len = usize::from(NetworkEndian::read_u16(&frame[start + 4..]));
+    let len = usize::from(NetworkEndian::read_u16(&frame[start + UDP_LEN..]));
     if len < UDP_HEADER_LEN {
         return Carried::Hidden;
     }

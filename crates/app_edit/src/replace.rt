@@ -8,14 +8,10 @@ ghost use Rattle.app_edit.specs.Filled.{filled};
 ghost use Rattle.app_edit.specs.Places.{Holds, InFrame, addresses_end, addresses_start};
 
 use crate::checksums::{update_bytes, update_udp_bytes};
+use crate::offsets::{IP_HEADER, IPV4_CHECKSUM, IPV4_END, IPV4_SRC, IPV6_END, IPV6_SRC};
 use crate::places::{Carried, Places, Segment};
 use byteorder::{ByteOrder, NetworkEndian};
 use ip_wire::{IpAddress, IpProtocol, IpVersion, Ipv4Packet, Ipv6Packet, checksum};
-
-// The place of an IP header, and of the checksum of an IPv4 header.
-const HEADER: usize = 14;
-
-const HEADER_CHECKSUM: usize = 24;
 
 /// Whether the checksum of a TCP or UDP packet is left to the device that sends the frame (checksum offload). The frame
 /// does not say it, but the headers before it in virtio and in captures do.
@@ -52,8 +48,8 @@ impl Places {
         match self.version {
             IpVersion::Ipv4 => {
                 let before = &frame[at..at + bytes.len()];
-                let field = word_at(frame, HEADER_CHECKSUM);
-                update_over(field, HEADER, self.start, at, before, bytes)
+                let field = word_at(frame, IPV4_CHECKSUM);
+                update_over(field, IP_HEADER, self.start, at, before, bytes)
             }
             IpVersion::Ipv6 => 0,
         }
@@ -79,7 +75,7 @@ impl Places {
         ensures { frame.new ≡ with_header_checksum self.now.version frame.old checksum }
     {
         if let IpVersion::Ipv4 = self.version {
-            write_word(frame, HEADER_CHECKSUM, checksum);
+            write_word(frame, IPV4_CHECKSUM, checksum);
         }
     }
 
@@ -206,8 +202,8 @@ fn addresses(version: IpVersion) -> (usize, usize)
     ensures end { result.1 ≡ addresses_end version }
 {
     match version {
-        IpVersion::Ipv4 => (26, 34),
-        IpVersion::Ipv6 => (22, 54),
+        IpVersion::Ipv4 => (IPV4_SRC, IPV4_END),
+        IpVersion::Ipv6 => (IPV6_SRC, IPV6_END),
     }
 }
 
@@ -217,7 +213,7 @@ fn src_of(version: IpVersion, frame: &[u8]) -> IpAddress
     ensures value { result ≡ src_of version frame.now }
     ensures version { version_of result ≡ version }
 {
-    let (_, packet) = frame.split_at(HEADER);
+    let (_, packet) = frame.split_at(IP_HEADER);
     match version {
         IpVersion::Ipv4 => IpAddress::Ipv4(Ipv4Packet::new_unchecked(packet).src_addr()),
         IpVersion::Ipv6 => IpAddress::Ipv6(Ipv6Packet::new_unchecked(packet).src_addr()),
@@ -230,7 +226,7 @@ fn dst_of(version: IpVersion, frame: &[u8]) -> IpAddress
     ensures value { result ≡ dst_of version frame.now }
     ensures version { version_of result ≡ version }
 {
-    let (_, packet) = frame.split_at(HEADER);
+    let (_, packet) = frame.split_at(IP_HEADER);
     match version {
         IpVersion::Ipv4 => IpAddress::Ipv4(Ipv4Packet::new_unchecked(packet).dst_addr()),
         IpVersion::Ipv6 => IpAddress::Ipv6(Ipv6Packet::new_unchecked(packet).dst_addr()),
