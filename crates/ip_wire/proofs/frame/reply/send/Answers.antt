@@ -12,4 +12,4 @@ returns c =
     let caps : c.default-caps.result ≡ all_checked = search rules in
     let same : length new ≡ length old = search rules in
     let all : take (length new - n) (drop n new) ≡ drop n new = take_all (length new - n) (drop n new) (omega (arith, length-drop n new)) in
-    is_sent c.args.frame.now _ _ old new n c.requires (rw caps at c.in_ok-len.ensures) same all (rw caps at c.frame_reads_back.ensures)
+    is_sent c.args.frame.now _ old new n c.requires (rw caps at c.in_ok-len.ensures) same all (rw caps at c.frame_reads_back.ensures)
