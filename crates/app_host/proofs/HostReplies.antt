@@ -1,15 +1,15 @@
 -- The reply of a host is one of the six kinds of replies.
-use Rattle.std.proofs.Common.{ℕ, ◌≡◌, inl, inr, List, Option, Some, None, arith, ap, refl, subst, sym}
+use Rattle.std.proofs.Common.{ℕ, ◌≡◌, ◌∙◌, ◌++◌, inl, inr, List, Option, Some, None, arith, ap, drop, refl, subst, sym}
 use Rattle.std.specs.Prelude.{IfSome}
 use Rattle.app_host.specs.Host.{Answers, IsMessageReply, IsReply, IsServed, IsUnread, RepliesBytes, RepliesFrame, RepliesMessage, UnreachableFrame}
 use Rattle.app_host.specs.declared.host.Host.{Host}
 use Rattle.app_host.proofs.RepliesOnce.{IsOne}
 use Rattle.app_host.specs.Arp.{ArpRepliesFrame}
-use Rattle.app_host.specs.IcmpEcho.{RepliesEchoFrame}
+use Rattle.app_host.specs.IcmpEcho.{RepliesEchoFrame, reply_dscp}
 use Rattle.app_host.specs.IcmpError.{IsError}
 use Rattle.app_host.specs.Interface.{IsForUs}
 use Rattle.app_host.specs.Message as message
-use Rattle.app_host.specs.Message.{GivesReply, IsReplySent, values_of}
+use Rattle.app_host.specs.Message.{GivesReply, HasDscp, IsReplySent, values_of}
 use Rattle.app_host.specs.Neighbour.{AdvertisesFrame}
 use Rattle.app_host.specs.TcpReply.{TcpRepliesFrame}
 use Rattle.app_host.specs.UdpEcho.{EchoesFrame}
@@ -20,7 +20,7 @@ use Rattle.ip_wire.proofs.Parsed.{IsParsed}
 use Rattle.ip_wire.proofs.Sent as wire
 use Rattle.ip_wire.specs.Frame.{Carried, datagram, packet}
 use Rattle.ip_wire.specs.FrameValue.{carried_of}
-use Rattle.ip_wire.specs.Reply.{Gives, Sends, reply_len}
+use Rattle.ip_wire.specs.Reply.{Gives, Sends, reply_bytes, reply_len, unmarked}
 use Rattle.ip_wire.specs.Types.{EthernetRepr, IpRepr, UdpRepr}
 use Rattle.ip_wire.specs.declared.Carried.TheVariants as carried
 use Rattle.ip_wire.specs.declared.Frame.{Frame}
@@ -113,23 +113,52 @@ no_reply host bytes request parsed no_frame no_message = λ h c (header, asked, 
 -- ---- bytes
 
 -- a reply with a message is sent
-message-sent : (P : EthernetRepr → Carried → Type 0) (f : MessageFrame) (old new : List ℕ) (result : Option ℕ) → P f.header (values_of f) → message.IsSent f old new result → IsOne P → Sends P old new result
-message-sent P f old new None p (short, stays) one = (stays, λ k d q. let same = (one f.header k (values_of f) d p q).1 in omega (arith, short, ap reply_len same))
-message-sent P f old new (Some n) p (len, fits, rest, reads) one =
-    record { header = f.header; carried = values_of f; replies = p; reads = reads; size = len; fits = fits; rest = rest }
+message-sent : (dscp : Carried → ℕ) (P : EthernetRepr → Carried → Type 0) (f : MessageFrame) (old new : List ℕ) (result : Option ℕ) → P f.header (values_of f)
+    → f.dscp ≡ dscp (values_of f) → message.IsSent f old new result → IsOne P → Sends dscp P old new result
+message-sent dscp P f old new None p marked (short, stays) one = (stays, λ k d q. let same = (one f.header k (values_of f) d p q).1 in omega (arith, short, ap reply_len same))
+message-sent dscp P f old new (Some n) p marked (len, fits, rest, reads, is) one =
+    record {
+      header = f.header;
+      carried = values_of f;
+      replies = p;
+      reads = reads;
+      size = len;
+      fits = fits;
+      rest = rest;
+      bytes = is ∙ ap (λ m. reply_bytes f.header (values_of f) m ++ drop n old) marked;
+    }
+
+-- a reply with DSCP 0 has the DSCP of replies with its values
+pub sends-marked : (dscp : Carried → ℕ) (P : EthernetRepr → Carried → Type 0) (old new : List ℕ) (result : Option ℕ) → ((h : EthernetRepr) (c : Carried) → P h c → 0 ≡ dscp c)
+    → Sends unmarked P old new result → Sends dscp P old new result
+sends-marked dscp P old new None zero sends = sends
+sends-marked dscp P old new (Some n) zero w =
+    record {
+      header = w.header;
+      carried = w.carried;
+      replies = w.replies;
+      reads = w.reads;
+      size = w.size;
+      fits = w.fits;
+      rest = w.rest;
+      bytes = w.bytes ∙ ap (λ m. reply_bytes w.header w.carried m ++ drop n old) (zero w.header w.carried w.replies);
+    }
 
 -- a reply is sent
-pub reply-sent : (P : EthernetRepr → Carried → Type 0) (r : Reply) (old new : List ℕ) (result : Option ℕ) → GivesReply P (Some r) → IsReplySent r old new result → IsOne P → Sends P old new result
-reply-sent P (reply.Frame f) old new result gives sent one = wire.sends P P f old new result gives sent (λ h c p. p) (λ h c p. p) (λ h k c d p q. (one h k c d p q).1)
-reply-sent P (reply.Message f) old new result (sendable, (h, c, (is, same), p)) sent one =
-    message-sent P f old new result (subst (λ x. P x (values_of f)) (sym is) (subst (P h) (sym same) p)) sent one
+pub reply-sent : (dscp : Carried → ℕ) (P : EthernetRepr → Carried → Type 0) (r : Reply) (old new : List ℕ) (result : Option ℕ) → GivesReply P (Some r) → HasDscp r dscp
+    → IsReplySent r old new result → IsOne P → Sends dscp P old new result
+reply-sent dscp P (reply.Frame f) old new result (sendable, (h, c, values, p)) marked sent one =
+    sends-marked dscp P old new result (λ k d q. marked h c values ∙ ap dscp (one h k c d p q).1)
+    (wire.sends P P f old new result (sendable, (h, c, values, p)) sent (λ h c p. p) (λ h c p. p) (λ h k c d p q. (one h k c d p q).1))
+reply-sent dscp P (reply.Message f) old new result (sendable, (h, c, (is, same), p)) marked sent one =
+    message-sent dscp P f old new result (subst (λ x. P x (values_of f)) (sym is) (subst (P h) (sym same) p)) (marked f.header (values_of f) (refl, refl)) sent one
 
 -- bytes that do not parse with valid checksums get no reply
-pub unanswered : (host : Host) (bytes old new : List ℕ) (result : Option ℕ) → Sends (RepliesBytes host bytes) old new result → IsUnread bytes → result ≡ None
+pub unanswered : (host : Host) (bytes old new : List ℕ) (result : Option ℕ) → Sends (reply_dscp bytes) (RepliesBytes host bytes) old new result → IsUnread bytes → result ≡ None
 unanswered host bytes old new None sends none = refl
 unanswered host bytes old new (Some len) sends none = let r = sends.replies in absurd (none r.0 r.1 r.2)
 
 -- a reply that was sent is a reply of the host to the bytes
-pub answers : (host : Host) (bytes old new : List ℕ) (result : Option ℕ) → Sends (RepliesBytes host bytes) old new result → IfSome result (λ len. Answers host bytes new)
+pub answers : (host : Host) (bytes old new : List ℕ) (result : Option ℕ) → Sends (reply_dscp bytes) (RepliesBytes host bytes) old new result → IfSome result (λ len. Answers host bytes new)
 answers host bytes old new None sends = tt
 answers host bytes old new (Some len) sends = record { header = sends.header; carried = sends.carried; replies = sends.replies; reads = sends.reads }

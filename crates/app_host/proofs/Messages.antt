@@ -1,6 +1,6 @@
 -- A frame with a message is sent.
 use Rattle.std.specs.Borrow.{Bor}
-use Rattle.std.proofs.Common.{ℕ, ◌≡◌, ◌≢◌, ◌∙◌, ◌+◌, ◌≤◌, List, Option, Some, None, drop, length, refl, sym, ap, subst, arith, true}
+use Rattle.std.proofs.Common.{ℕ, ◌≡◌, ◌≢◌, ◌∙◌, ◌+◌, ◌≤◌, ◌<◌, ◌++◌, List, Option, Some, None, drop, length, refl, sym, ap, subst, arith, true}
 use Rattle.ip_wire.proofs.Sent.{rest_stays}
 use Rattle.ip_wire.specs.Ethernet as ethernet
 use Rattle.ip_wire.specs.Filled.{Fills}
@@ -14,7 +14,7 @@ use Rattle.ip_wire.specs.declared.IpProtocol.TheVariants as protocol
 use Rattle.ip_wire.specs.Checksum.{computes}
 use Rattle.wire_icmp.specs.Icmp.{bytes_of, choice_of, protocol_of}
 use Rattle.wire_icmp.specs.declared.IcmpRepr.{IcmpRepr}
-use Rattle.app_host.specs.Message.{Composes, IsOfVersion, IsSendable, IsSent, frame_bytes, message_bytes, message_frame, message_len, values_of}
+use Rattle.app_host.specs.Message.{Composes, IsOfVersion, IsSendable, frame_bytes, message_bytes, message_frame, message_len, values_of}
 use Rattle.app_host.specs.declared.message.Message.{Message}
 use Rattle.app_host.specs.declared.message.Message.TheVariants.{Icmp, Ndisc}
 use Rattle.app_host.specs.declared.message.MessageFrame.{MessageFrame}
@@ -37,15 +37,21 @@ pub header-normal : (h : EthernetRepr) (w : IpRepr) → h.ethertype ≡ type_of 
 header-normal h (Ipv4 v) e = ap (λ t. record h { ethertype = ethernet.known t }) e ∙ ap (λ t. record h { ethertype = t }) (sym e)
 header-normal h (Ipv6 v) e = ap (λ t. record h { ethertype = ethernet.known t }) e ∙ ap (λ t. record h { ethertype = t }) (sym e)
 
--- the emitted frame is sent
+-- the frame is emitted with DSCP 0, and parses
+abbrev pub IsEmitted : MessageFrame → List ℕ → List ℕ → Option ℕ → Type 0
+IsEmitted f old new None = (length old < reply_len (values_of f)) × (new ≡ old)
+IsEmitted f old new (Some len) =
+    (len ≡ reply_len (values_of f)) × (len ≤ length old) × (drop len new ≡ drop len old) × IsReadWhole new f.header (values_of f)
+    × (new ≡ frame_bytes f ++ drop len old)
+
 pub sent : (f : MessageFrame) (old new : List ℕ) (result : Option ℕ) → IsSendable f → Composes f.header f.ip → length new ≡ length old
-    → Fills (frame_bytes f) (14 + (header_len_of f.ip + message_len f.message)) old new result → IsSent f old new result
+    → Fills (frame_bytes f) (14 + (header_len_of f.ip + message_len f.message)) old new result → IsEmitted f old new result
 sent f old new None sendable composes same (short, stays) =
     let len : reply_len (values_of f) ≡ 14 + (header_len_of f.ip + message_len f.message) = ap (λ n. 14 + (header_len_of f.ip + n)) sendable.written in
     (omega (arith, short, len), stays)
 sent f old new (Some n) sendable composes same (len, fits, is) =
     let read = composes (message_bytes f.ip f.message) (drop n old) sendable.ethertype sendable.protocol (sendable.len ∙ sym sendable.written) in
-    (len ∙ ap (λ n. 14 + (header_len_of f.ip + n)) (sym sendable.written), fits, rest_stays (frame_bytes f) old new n is same fits, subst (λ b. IsReadWhole b f.header (values_of f)) (sym is) read)
+    (len ∙ ap (λ n. 14 + (header_len_of f.ip + n)) (sym sendable.written), fits, rest_stays (frame_bytes f) old new n is same fits, subst (λ b. IsReadWhole b f.header (values_of f)) (sym is) read, is)
 
 -- ---- frames that are put together
 

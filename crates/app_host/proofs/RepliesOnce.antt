@@ -1,5 +1,5 @@
 -- A frame has at most one reply, and what is returned and written of a reply is one result.
-use Rattle.std.proofs.Common.{ℕ, ◌≡◌, ◌∙◌, inl, inr, List, Option, Some, None, drop, length, arith, refl, sym, ap, subst}
+use Rattle.std.proofs.Common.{ℕ, ◌≡◌, ◌∙◌, ◌++◌, inl, inr, List, Option, Some, None, drop, length, arith, refl, sym, ap, subst}
 use Rattle.app_host.proofs.Echoes.{echo_values}
 use Rattle.app_host.proofs.TcpReplies.{reply_values}
 use Rattle.app_host.specs.Arp.{IsArpAnswer}
@@ -8,9 +8,9 @@ use Rattle.app_host.specs.UdpEcho.{IsEcho}
 use Rattle.app_host.specs.declared.interface.Interface.{Interface}
 use Rattle.app_host.specs.declared.tcp_reply.Offer.{Offer}
 use Rattle.ip_wire.proofs.Parsed.{ToFrame}
-use Rattle.ip_wire.specs.Frame.{Carried, IsReadWhole, datagram, message, packet, segment, type_of}
-use Rattle.ip_wire.specs.FrameValue.{carried_of}
-use Rattle.ip_wire.specs.Reply.{Gives, IsSent, IsWritten, Sends, reply_len}
+use Rattle.ip_wire.specs.Frame.{Carried, all_checked, datagram, message, packet, segment, type_of}
+use Rattle.ip_wire.specs.FrameValue.{carried_of, frame_bytes}
+use Rattle.ip_wire.specs.Reply.{Gives, IsSent, IsWritten, Sends, reply_bytes, reply_len}
 use Rattle.ip_wire.specs.TcpRepr.{TcpHeader}
 use Rattle.ip_wire.specs.Types.{EthernetRepr}
 use Rattle.ip_wire.specs.declared.EthernetProtocol.TheVariants as ethertype
@@ -86,32 +86,23 @@ gives-once P f g one (_, (h, c, values, p)) (_, (k, d, others, q)) =
 gives-none : (P : EthernetRepr → Carried → Type 0) (f : Frame) → Gives P None → ¬ Gives P (Some f)
 gives-none P f none (_, (h, c, values, p)) = none h c p
 
--- the same bytes; or two frames with the same values, and the same bytes after them
-abbrev pub SameBuffer : List ℕ → List ℕ → Option ℕ → Type 0
-SameBuffer new other None = new ≡ other
-SameBuffer new other (Some len) =
-    (drop len new ≡ drop len other) × ((header : EthernetRepr) × (carried : Carried) × IsReadWhole new header carried × IsReadWhole other header carried)
-
-sent-once : (f : Frame) (old new other : List ℕ) (a b : Option ℕ) → IsSent f old new a → IsSent f old other b → (a ≡ b) × SameBuffer new other a
+sent-once : (f : Frame) (old new other : List ℕ) (a b : Option ℕ) → IsSent f old new a → IsSent f old other b → (a ≡ b) × (new ≡ other)
 sent-once f old new other None None (short, stays) (also, same) = (refl, stays ∙ sym same)
-sent-once f old new other None (Some n) (short, stays) (len, fits, rest, read) = absurd (omega (arith, short, len, fits))
-sent-once f old new other (Some n) None (len, fits, rest, read) (short, stays) = absurd (omega (arith, short, len, fits))
-sent-once f old new other (Some n) (Some m) (len, fits, rest, (c, is, reads)) (len', fits', rest', (d, also, reads')) =
-    let size : n ≡ m = len ∙ sym len' in
-    let same : d ≡ c = cc in
-    (ap Some size, (rest ∙ sym (subst (λ k. drop k other ≡ drop k old) (sym size) rest'), (f.header, c, reads, subst (IsReadWhole other f.header) same reads')))
+sent-once f old new other None (Some n) (short, stays) (len, fits, rest, read, is) = absurd (omega (arith, short, len, fits))
+sent-once f old new other (Some n) None (len, fits, rest, read, is) (short, stays) = absurd (omega (arith, short, len, fits))
+sent-once f old new other (Some n) (Some m) (len, fits, rest, read, is) (len', fits', rest', read', is') =
+    let size : n ≡ m = len ∙ sym len' in (ap Some size, is ∙ ap (λ k. frame_bytes all_checked f ++ drop k old) size ∙ sym is')
 
-pub written-once : (P : EthernetRepr → Carried → Type 0) (old new other : List ℕ) (n m : ℕ) → IsOne P → IsWritten P old new n → IsWritten P old other m
-    → (n ≡ m) × SameBuffer new other (Some n)
-written-once P old new other n m one v w =
-    let same = one w.header v.header w.carried v.carried w.replies v.replies in
-    let size : n ≡ m = v.size ∙ ap reply_len (sym same.1) ∙ sym w.size in
-    let reads : IsReadWhole other v.header v.carried = subst (λ h. IsReadWhole other h v.carried) same.0 (subst (IsReadWhole other w.header) same.1 w.reads) in
-    (size, (v.rest ∙ sym (subst (λ k. drop k other ≡ drop k old) (sym size) w.rest), (v.header, v.carried, v.reads, reads)))
+pub written-once : (dscp : Carried → ℕ) (P : EthernetRepr → Carried → Type 0) (old new other : List ℕ) (n m : ℕ) → IsOne P → IsWritten dscp P old new n
+    → IsWritten dscp P old other m → (n ≡ m) × (new ≡ other)
+written-once dscp P old new other n m one v w =
+    let same = one v.header w.header v.carried w.carried v.replies w.replies in
+    let size : n ≡ m = v.size ∙ ap reply_len same.1 ∙ sym w.size in
+    (size, v.bytes ∙ (λ i. reply_bytes (same.0 i) (same.1 i) (dscp (same.1 i)) ++ drop (size i) old) ∙ sym w.bytes)
 
-sends-once : (P : EthernetRepr → Carried → Type 0) (old new other : List ℕ) (a b : Option ℕ) → IsOne P → Sends P old new a → Sends P old other b
-    → (a ≡ b) × SameBuffer new other a
-sends-once P old new other None None one (stays, short) (same, also) = (refl, stays ∙ sym same)
-sends-once P old new other None (Some n) one (stays, short) w = absurd (let few = short w.header w.carried w.replies in let size = w.size in let fits = w.fits in omega (arith, few, size, fits))
-sends-once P old new other (Some n) None one w (stays, short) = absurd (let few = short w.header w.carried w.replies in let size = w.size in let fits = w.fits in omega (arith, few, size, fits))
-sends-once P old new other (Some n) (Some m) one v w = let same = written-once P old new other n m one v w in (ap Some same.0, same.1)
+sends-once : (dscp : Carried → ℕ) (P : EthernetRepr → Carried → Type 0) (old new other : List ℕ) (a b : Option ℕ) → IsOne P → Sends dscp P old new a → Sends dscp P old other b
+    → (a ≡ b) × (new ≡ other)
+sends-once dscp P old new other None None one (stays, short) (same, also) = (refl, stays ∙ sym same)
+sends-once dscp P old new other None (Some n) one (stays, short) w = absurd (let few = short w.header w.carried w.replies in let size = w.size in let fits = w.fits in omega (arith, few, size, fits))
+sends-once dscp P old new other (Some n) None one w (stays, short) = absurd (let few = short w.header w.carried w.replies in let size = w.size in let fits = w.fits in omega (arith, few, size, fits))
+sends-once dscp P old new other (Some n) (Some m) one v w = let same = written-once dscp P old new other n m one v w in (ap Some same.0, same.1)

@@ -1,12 +1,13 @@
 -- The reply to an echo request (RFC 792; RFC 1122, section 3.2.2.6; RFC 4443, section 4.2).
 -- Pinned by: `calls/host`, `worked/hosts`, `MessagesOnce`
-use Rattle.std.specs.Prelude.{ℕ, ◌≡◌, ◌≤◌, List, Some, drop, length, true}
+use Rattle.std.specs.Prelude.{ℕ, ◌≡◌, ◌≤◌, ◌==◌, if◌then◌else◌, List, Some, drop, length, true}
 use Rattle.ip_wire.specs.Frame.{Carried, IsReadWhole, other, packet, type_of}
 use Rattle.ip_wire.specs.FrameValue.{carried_of}
 use Rattle.ip_wire.specs.Ip.{dst_addr_of, header_before, max_payload_len, next_header_of, src_addr_of, version_of}
 use Rattle.ip_wire.specs.Types.{EthernetRepr, IpRepr}
 use Rattle.ip_wire.specs.declared.Frame.{Frame}
-use Rattle.wire_icmp.specs.Icmp.{Reads, bytes_of, protocol_of}
+use Rattle.wire_icmp.specs.Icmp.{Reads, bytes_of, msg_type_of, protocol_of}
+use Rattle.wire_icmp.specs.Icmp as icmp
 use Rattle.wire_icmp.specs.declared.IcmpRepr.TheVariants.{EchoReply, EchoRequest}
 use Rattle.app_host.specs.Interface.{IsForUs, header_back}
 use Rattle.app_host.specs.Message.{HasClass, dscp_of}
@@ -29,6 +30,13 @@ pub record IsIcmpEcho (ours : Interface) (asked_header : EthernetRepr) (asked : 
   pub link : header ≡ record { src_addr = ours.hardware_addr; dst_addr = asked_header.src_addr; ethertype = type_of ip }
   pub replies : carried ≡ (let reply = bytes_of (EchoReply ident seq_no) payload (dst_addr_of ip) (src_addr_of ip) true in
       packet (header_before (header_back ip) (protocol_of (version_of ip)) (length reply)) (other reply))
+
+-- The DSCP of a host's reply with these values to the frame with these bytes: that of the frame if the reply is an echo
+-- reply (RFC 1812, section 4.3.2.5), else 0.
+abbrev pub reply_dscp : List ℕ → Carried → ℕ
+reply_dscp bytes (packet v (other m)) =
+    if msg_type_of m == icmp.type_of (version_of v) (EchoReply 0 0) then dscp_of (version_of v) (drop 14 bytes) else 0
+reply_dscp bytes _ = 0
 
 -- If these bytes are an echo request for us, the packet in the other bytes has the DSCP of the request (RFC 1812,
 -- section 4.3.2.5), and ECN 0.

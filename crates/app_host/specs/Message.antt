@@ -8,7 +8,7 @@ use Rattle.ip_wire.specs.Ip as ip
 use Rattle.ip_wire.specs.Ip.{dst_addr_of, header_before, max_payload_len, next_header_of, payload_len_of, src_addr_of, version_of}
 use Rattle.ip_wire.specs.IpAddress.{address_bytes}
 use Rattle.ip_wire.specs.Reply as frame
-use Rattle.ip_wire.specs.Reply.{reply_len}
+use Rattle.ip_wire.specs.Reply.{header_bytes, reply_bytes, reply_len}
 use Rattle.ip_wire.specs.Types.{EthernetAddress, EthernetRepr, IpRepr, IpVersion}
 use Rattle.ip_wire.specs.declared.IpVersion.TheVariants as version
 use Rattle.wire_icmp.specs.Icmp as icmp
@@ -64,12 +64,13 @@ abbrev pub Gives : (EthernetRepr → Carried → Type 0) → Option MessageFrame
 Gives IsReply None = (header : EthernetRepr) (carried : Carried) → ¬ IsReply header carried
 Gives IsReply (Some f) = IsSendable f × IsReply f.header (values_of f)
 
--- The frame is at the front of the buffer and parses there, and the other bytes are unchanged. If it does not fit,
--- the whole buffer is unchanged.
+-- The frame is at the front of the buffer and parses there, and the other bytes are unchanged: the buffer is the bytes
+-- of the frame with its DSCP, and the bytes after them. If it does not fit, the whole buffer is unchanged.
 abbrev pub IsSent : MessageFrame → List ℕ → List ℕ → Option ℕ → Type 0
 IsSent f old new None = (length old < reply_len (values_of f)) × (new ≡ old)
 IsSent f old new (Some len) =
     (len ≡ reply_len (values_of f)) × (len ≤ length old) × (drop len new ≡ drop len old) × IsReadWhole new f.header (values_of f)
+    × (new ≡ reply_bytes f.header (values_of f) f.dscp ++ drop len old)
 
 -- ---- the DSCP and the ECN of a packet (RFC 2474, section 3; RFC 3168, section 5)
 
@@ -92,18 +93,22 @@ pub record HasClass (version : IpVersion) (bytes : List ℕ) (dscp : ℕ) : Type
 abbrev pub IsMarked : MessageFrame → List ℕ → Type 0
 IsMarked f bytes = HasClass (version_of f.ip) (drop 14 bytes) f.dscp
 
--- the packet with this header has another DSCP, and else parses as before
+-- The packet with this header has another DSCP, and else parses as before. If it begins with the emitted header, only
+-- that header changes.
 pub record IsRemarked (v : IpRepr) (old new : List ℕ) (dscp : ℕ) : Type 0 where
   pub marked : HasClass (version_of v) new dscp
   pub reads : ReadsPacket all_checked new v
   pub payload : packet_payload v new ≡ packet_payload v old
   pub rest : drop (ip.header_len_of v) new ≡ drop (ip.header_len_of v) old
+  pub bytes : (payload : List ℕ) → old ≡ ip.bytes_of v true ++ payload → new ≡ header_bytes v dscp ++ payload
 
--- the frame of a message has its DSCP, and else parses as before
+-- The frame of a message has its DSCP, and else parses as before. If the buffer begins with the emitted frame, only that
+-- changes.
 pub record IsFrameRemarked (f : MessageFrame) (old new : List ℕ) : Type 0 where
   pub marked : IsMarked f new
   pub reads : IsReadWhole new f.header (values_of f)
   pub rest : drop (14 + ip.header_len_of f.ip) new ≡ drop (14 + ip.header_len_of f.ip) old
+  pub bytes : (rest : List ℕ) → old ≡ frame_bytes f ++ rest → new ≡ reply_bytes f.header (values_of f) f.dscp ++ rest
 
 -- ---- replies of both kinds
 
@@ -111,6 +116,15 @@ pub record IsFrameRemarked (f : MessageFrame) (old new : List ℕ) : Type 0 wher
 abbrev pub HasValues : Reply → EthernetRepr → Carried → Type 0
 HasValues (reply.Frame f) header carried = frame.HasValues f header carried
 HasValues (reply.Message f) header carried = (f.header ≡ header) × (values_of f ≡ carried)
+
+-- the DSCP of the packet of a reply
+abbrev pub dscp_in : Reply → ℕ
+dscp_in (reply.Frame f) = 0
+dscp_in (reply.Message f) = f.dscp
+
+-- the reply has the DSCP of replies with its values
+abbrev pub HasDscp : Reply → (Carried → ℕ) → Type 0
+HasDscp r dscp = (header : EthernetRepr) (carried : Carried) → HasValues r header carried → dscp_in r ≡ dscp carried
 
 -- the reply can be emitted
 abbrev pub IsSendableReply : Reply → Type 0

@@ -2,7 +2,7 @@
 
 ghost use Rattle.std.specs.Prelude.{◌≡◌, ◌↔◌, Some};
 ghost use Rattle.app_host.specs.Arp.{ArpRepliesBytes, ArpRepliesFrame, IsArpReply};
-ghost use Rattle.ip_wire.specs.Reply.{Gives, Sends};
+ghost use Rattle.ip_wire.specs.Reply.{Gives, Sends, unmarked};
 ghost use Rattle.ip_wire.specs.declared.ArpRepr.{ArpRepr};
 
 use crate::interface::Interface;
@@ -54,7 +54,7 @@ fn reply_to(message: &ArpRepr, ours: &Interface) -> Option<(EthernetAddress, Arp
 /// Writes the reply to a frame to the front of `out`, and returns its length. `None` if there is no
 /// reply or it does not fit; then `out` is unchanged.
 pub fn answer(bytes: &[u8], ours: &Interface, out: &mut [u8]) -> Option<usize>
-    ensures { Sends (ArpRepliesBytes ours.now bytes.now) out.old out.new result }
+    ensures { Sends unmarked (ArpRepliesBytes ours.now bytes.now) out.old out.new result }
 {
     match Frame::parse(bytes, &ChecksumCapabilities::default()) {
         Ok(request) => send_reply(&reply(&request, ours), out),

@@ -2,9 +2,9 @@
 
 ghost use Rattle.std.specs.Prelude.{◌≡◌, ◌↔◌, ◌<◌, ◌≤◌, IfSome, IsTrue, List, None, drop, length, ℕ};
 ghost use Rattle.app_host.specs.Host.{Answers, IsServed, IsUnread, RepliesBytes, RepliesFrame, RepliesMessage, UnreachableFrame};
-ghost use Rattle.app_host.specs.IcmpEcho.{HasDscpOf, KeepsDscp};
+ghost use Rattle.app_host.specs.IcmpEcho.{HasDscpOf, KeepsDscp, reply_dscp};
 ghost use Rattle.app_host.specs.Message as message;
-ghost use Rattle.app_host.specs.Message.{IsReplyMarked, dscp_of};
+ghost use Rattle.app_host.specs.Message.{HasDscp, IsReplyMarked, dscp_of, values_of};
 ghost use Rattle.ip_wire.specs.FrameValue.{Fits};
 ghost use Rattle.ip_wire.specs.Ip.{version_of};
 ghost use Rattle.ip_wire.specs.Reply.{Gives, Sends};
@@ -40,6 +40,7 @@ pub struct Host<'a> {
 pub fn reply<'a>(host: &Host<'_>, frame: &'a [u8]) -> Option<Reply<'a>>
     ensures reply { message.GivesReply (RepliesBytes host.now frame.now) result }
     ensures dscp { IfSome result (λ reply. (new : List ℕ) → IsReplyMarked reply new → KeepsDscp host.now.interface frame.now new) }
+    ensures marked { IfSome result (λ reply. HasDscp reply (reply_dscp frame.now)) }
 {
     match Frame::parse(frame, &ChecksumCapabilities::default()) {
         Ok(request) => {
@@ -58,7 +59,7 @@ pub fn reply<'a>(host: &Host<'_>, frame: &'a [u8]) -> Option<Reply<'a>>
 /// Writes the reply of the host to the front of `out`, and returns its length. `None` if there is no
 /// reply or it does not fit; then `out` is unchanged.
 pub fn answer(host: &Host<'_>, frame: &[u8], out: &mut [u8]) -> Option<usize>
-    ensures sends { Sends (RepliesBytes host.now frame.now) out.old out.new result }
+    ensures sends { Sends (reply_dscp frame.now) (RepliesBytes host.now frame.now) out.old out.new result }
     ensures unread { IsUnread frame.now → result ≡ None }
     ensures answers { IfSome result (λ len. Answers host.now frame.now out.new) }
     ensures dscp { IfSome result (λ len. KeepsDscp host.now.interface frame.now out.new) }
@@ -94,6 +95,7 @@ fn reply_with_message<'a>(
 ) -> Option<MessageFrame<'a>>
     ensures reply { message.Gives (RepliesMessage host.now frame.now request.now) result }
     ensures dscp { IfSome result (HasDscpOf host.now.interface request.now frame.now) }
+    ensures marked { 16 ≤ length frame.now → IfSome result (λ f. f.dscp ≡ reply_dscp frame.now (values_of f)) }
 {
     if let Some(reply) = icmp_echo::reply(request, dscp_in(request, frame), &host.interface) {
         return Some(reply);
@@ -130,7 +132,8 @@ fn port_unreachable<'a>(
     request: &Frame<'_>,
     frame: &'a [u8],
 ) -> Option<MessageFrame<'a>>
-    ensures { message.Gives (UnreachableFrame host.now frame.now request.now) result }
+    ensures error { message.Gives (UnreachableFrame host.now frame.now request.now) result }
+    ensures unmarked { IfSome result (λ error. error.dscp ≡ 0) }
 {
     match request.carried {
         Carried::Packet(header, inner) => match inner {

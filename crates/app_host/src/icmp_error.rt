@@ -1,7 +1,7 @@
 //! ICMP errors about the packet of a frame (RFC 1122, section 3.2.2; RFC 1812, section 4.3.2; RFC 4443,
 //! section 2.4).
 
-ghost use Rattle.std.specs.Prelude.{◌≡◌, ◌↔◌, IsTrue, true};
+ghost use Rattle.std.specs.Prelude.{◌≡◌, ◌↔◌, IfSome, IsTrue, true};
 ghost use Rattle.app_host.specs.IcmpError.{IsBeginning, IsBetweenHosts, IsError, IsIcmpError, IsToldOf, header_from, is_extension_header, quoted};
 ghost use Rattle.app_host.specs.Message.{Gives};
 ghost use Rattle.ip_wire.specs.Protocol.{number_of};
@@ -32,7 +32,8 @@ const IPV6_QUOTE_LEN: usize = 1232;
 ///
 /// The broadcast address of a subnet is not known here, so it counts as that of a host.
 pub fn error<'a>(frame: &'a [u8], ours: &Interface, message: IcmpRepr) -> Option<MessageFrame<'a>>
-    ensures { Gives (IsError ours.now frame.now message) result }
+    ensures error { Gives (IsError ours.now frame.now message) result }
+    ensures unmarked { IfSome result (λ error. error.dscp ≡ 0) }
 {
     let view = EthernetFrame::new_unchecked(frame);
     let Ok(link) = EthernetRepr::parse(&view) else {

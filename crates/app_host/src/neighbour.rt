@@ -23,7 +23,8 @@ use wire_icmp::{IcmpPacket, NDISC_HOP_LIMIT, NdiscNeighborFlags, NdiscRepr};
 /// group (RFC 6085). `None` for any other frame, if the Ethernet address of its sender or the one that it names
 /// is not unicast, and if its source is neither valid nor `::`.
 pub fn reply<'a>(request: &Frame<'_>, ours: &Interface) -> Option<MessageFrame<'a>>
-    ensures { Gives (AdvertisesFrame ours.now request.now) result }
+    ensures reply { Gives (AdvertisesFrame ours.now request.now) result }
+    ensures unmarked { IfSome result (λ advert. advert.dscp ≡ 0) }
 {
     match request.carried {
         Carried::Packet(header, inner) => match header {
@@ -44,7 +45,8 @@ fn reply_to<'a>(
     request: &[u8],
     ours: &Interface,
 ) -> Option<MessageFrame<'a>>
-    ensures { Gives (IsNeighbourReply ours.now link.now (packet (Ipv6 header.now) (other request.now))) result }
+    ensures reply { Gives (IsNeighbourReply ours.now link.now (packet (Ipv6 header.now) (other request.now))) result }
+    ensures unmarked { IfSome result (λ advert. advert.dscp ≡ 0) }
 {
     if !is_solicited(ours, link, header) {
         return None;

@@ -1,6 +1,6 @@
 //! The replies of TCP to a segment without a connection, as frames.
 
-ghost use Rattle.ip_wire.specs.Reply.{Gives, Sends};
+ghost use Rattle.ip_wire.specs.Reply.{Gives, Sends, unmarked};
 ghost use Rattle.app_host.specs.TcpReply.{TcpRepliesBytes, TcpRepliesFrame};
 ghost use Rattle.ip_wire.specs.FrameValue.{Fits};
 
@@ -51,7 +51,7 @@ pub fn answer(
     offer: &Offer,
     out: &mut [u8],
 ) -> Option<usize>
-    ensures { Sends (TcpRepliesBytes ours.now ports.now offer.now bytes.now) out.old out.new result }
+    ensures { Sends unmarked (TcpRepliesBytes ours.now ports.now offer.now bytes.now) out.old out.new result }
 {
     match Frame::parse(bytes, &ChecksumCapabilities::default()) {
         Ok(request) => send_reply(&reply(&request, ours, ports, offer), out),

@@ -1,6 +1,6 @@
 //! The echo service of UDP (RFC 862): the payload of a packet returns to its sender.
 
-ghost use Rattle.ip_wire.specs.Reply.{Gives, Sends};
+ghost use Rattle.ip_wire.specs.Reply.{Gives, Sends, unmarked};
 ghost use Rattle.app_host.specs.UdpEcho.{EchoesBytes, EchoesFrame};
 
 use crate::interface::{Interface, header_back};
@@ -43,7 +43,7 @@ pub fn echo<'a>(request: &Frame<'a>, ours: &Interface, port: u16) -> Option<Fram
 /// Writes the reply to a frame to the front of `out`, and returns its length. `None` if there is no
 /// reply or it does not fit; then `out` is unchanged.
 pub fn answer(bytes: &[u8], ours: &Interface, port: u16, out: &mut [u8]) -> Option<usize>
-    ensures { Sends (EchoesBytes ours.now port bytes.now) out.old out.new result }
+    ensures { Sends unmarked (EchoesBytes ours.now port bytes.now) out.old out.new result }
 {
     match Frame::parse(bytes, &ChecksumCapabilities::default()) {
         Ok(request) => send_reply(&echo(&request, ours, port), out),

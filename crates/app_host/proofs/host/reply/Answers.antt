@@ -1,5 +1,5 @@
 use Rattle.std.proofs.Common.{◌≡◌, rules}
-use Rattle.app_host.proofs.EchoDscp.{keeps-dscp, other-keeps}
+use Rattle.app_host.proofs.EchoDscp.{frame-marked, keeps-dscp, message-marked, other-keeps}
 use Rattle.app_host.proofs.HostReplies.{as_frame, as_message, no_reply}
 use Rattle.ip_wire.specs.Frame.{all_checked}
 use Rattle.app_host.proofs.host.reply.Goals as goal
@@ -13,6 +13,15 @@ pub returns-in-Some-clause-dscp : goal.returns-in-Some-clause-dscp
 returns-in-Some-clause-dscp c =
     let caps : c.default.result ≡ all_checked = search rules in
     λ new marked. other-keeps c.args.host.now c.in-Ok.request c.in-Some.reply c.args.frame.now new (rw caps at c.in-Ok.ensures.reads) c.in-Some.ensures
+
+pub returns-in-Some-clause-marked : goal.returns-in-Some-clause-marked
+returns-in-Some-clause-marked c = frame-marked c.args.host.now c.in-Ok.request c.in-Some.reply c.args.frame.now c.in-Some.ensures
+
+pub returns-in-Some-reply_with_message-clause-marked : goal.returns-in-Some-reply_with_message-clause-marked
+returns-in-Some-reply_with_message-clause-marked c =
+    let caps : c.default.result ≡ all_checked = search rules in
+    message-marked c.args.host.now c.in-Ok.request c.args.frame.now c.in-Some-reply_with_message.reply (rw caps at c.in-Ok.ensures.reads)
+    c.in-Some-reply_with_message.ensures.reply c.in-Some-reply_with_message.ensures.marked
 
 pub returns-in-Some-reply_with_message-clause-reply : goal.returns-in-Some-reply_with_message-clause-reply
 returns-in-Some-reply_with_message-clause-reply c =

@@ -1,4 +1,4 @@
-use Rattle.app_host.proofs.EchoDscp.{keeps, no-echo}
+use Rattle.app_host.proofs.EchoDscp.{advert-marked, echo-marked, errors-marked, keeps, no-echo}
 use Rattle.std.proofs.Common.{Some}
 use Rattle.app_host.proofs.HostReplies.{by_icmp, by_neighbour, by_port}
 use Rattle.app_host.proofs.host.reply_with_message.Goals as goal
@@ -10,14 +10,24 @@ pub returns-in-Some-clause-dscp : goal.returns-in-Some-clause-dscp
 returns-in-Some-clause-dscp c = keeps c.args.host.now.interface c.args.request.now c.args.frame.now c.in-Some.reply c.dscp_in.result c.in-Some.ensures.reply c.in-Some.ensures.dscp c.dscp_in.ensures.is
 
 pub returns-in-Some-reply-clause-reply : goal.returns-in-Some-reply-clause-reply
-returns-in-Some-reply-clause-reply c = by_neighbour c.args.host.now c.args.frame.now c.args.request.now c.in-Some-reply.advert c.in-Some-reply.ensures
+returns-in-Some-reply-clause-reply c = by_neighbour c.args.host.now c.args.frame.now c.args.request.now c.in-Some-reply.advert c.in-Some-reply.ensures.reply
 
 pub returns-in-Some-reply-clause-dscp : goal.returns-in-Some-reply-clause-dscp
 returns-in-Some-reply-clause-dscp c = no-echo c.args.host.now.interface c.args.request.now c.args.frame.now (Some c.in-Some-reply.advert) (rw c.in_default.is at c.reply.ensures.reply)
 
 pub returns-clause-reply : goal.returns-clause-reply
 returns-clause-reply c =
-    by_port c.args.host.now c.args.frame.now c.args.request.now c.port_unreachable.result (rw c.in_default.is at c.reply.ensures.reply) (rw c.in_default-reply.is at c.reply-2.ensures) c.port_unreachable.ensures
+    by_port c.args.host.now c.args.frame.now c.args.request.now c.port_unreachable.result (rw c.in_default.is at c.reply.ensures.reply) (rw c.in_default-reply.is at c.reply-2.ensures.reply) c.port_unreachable.ensures.error
 
 pub returns-clause-dscp : goal.returns-clause-dscp
 returns-clause-dscp c = no-echo c.args.host.now.interface c.args.request.now c.args.frame.now c.port_unreachable.result (rw c.in_default.is at c.reply.ensures.reply)
+
+pub returns-in-Some-clause-marked : goal.returns-in-Some-clause-marked
+returns-in-Some-clause-marked c long =
+    echo-marked c.args.host.now.interface c.args.request.now c.args.frame.now c.in-Some.reply c.dscp_in.result c.in-Some.ensures.reply c.in-Some.ensures.dscp c.dscp_in.ensures.is long
+
+pub returns-in-Some-reply-clause-marked : goal.returns-in-Some-reply-clause-marked
+returns-in-Some-reply-clause-marked c long = advert-marked c.args.host.now.interface c.args.request.now c.args.frame.now c.in-Some-reply.advert c.in-Some-reply.ensures.reply c.in-Some-reply.ensures.unmarked
+
+pub returns-clause-marked : goal.returns-clause-marked
+returns-clause-marked c long = errors-marked c.args.host.now c.args.request.now c.args.frame.now c.port_unreachable.result c.port_unreachable.ensures.error c.port_unreachable.ensures.unmarked

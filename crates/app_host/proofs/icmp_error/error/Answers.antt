@@ -7,21 +7,21 @@ use Rattle.app_host.specs.IcmpError.{IsBetweenHosts, IsError, IsToldOf, header_f
 use Rattle.app_host.specs.Message.{Gives}
 use Rattle.app_host.proofs.icmp_error.error.Goals as goal
 
-pub returns-in_default : goal.returns-in_default
-returns-in_default c =
+pub returns-in_default-clause-error : goal.returns-in_default-clause-error
+returns-in_default-clause-error c =
     let view : ethernet.frame_bytes c.new_unchecked-view.result ≡ c.args.frame.now = search rules in
     let reads = rw view at c.parse.ensures.reads in
     no_link c.args.ours.now c.args.frame.now c.args.message (λ link r. let ok = (reads link).1 r in absurd (let other = c.in_default.is in cc))
 
-pub returns-in_default-parse : goal.returns-in_default-parse
-returns-in_default-parse c =
+pub returns-in_default-parse-clause-error : goal.returns-in_default-parse-clause-error
+returns-in_default-parse-clause-error c =
     let verified : verifies c.default-caps.result.ipv4 ≡ true = search rules in
     let view : packet_bytes c.new_unchecked.result ≡ drop 14 c.args.frame.now = search rules in
     let reads = rw (verified, view) at c.parse-2.ensures.reads in
     no_header c.args.ours.now c.args.frame.now c.args.message (λ v r. let ok = (reads v).1 r in absurd (let other = c.in_default-parse.is in cc))
 
-pub returns-then-not-is_between_hosts : goal.returns-then-not-is_between_hosts
-returns-then-not-is_between_hosts c =
+pub returns-then-not-is_between_hosts-clause-error : goal.returns-then-not-is_between_hosts-clause-error
+returns-then-not-is_between_hosts-clause-error c =
     let frame = c.args.frame.now in
     let view : ethernet.frame_bytes c.new_unchecked-view.result ≡ frame = search rules in
     let reads = rw view at c.parse.ensures.reads in
@@ -32,8 +32,8 @@ returns-then-not-is_between_hosts c =
     untold c.args.ours.now frame c.args.message c.in-Ok.link c.in-Ok-parse.header (λ l r. let ok = (reads l).1 r in let is = c.in-Ok.is in cc)
     (λ w r. let ok = (reads_header w).1 r in let is = c.in-Ok-parse.is in cc) (λ both. hosts both.0)
 
-pub returns-then-not-is_told_of : goal.returns-then-not-is_told_of
-returns-then-not-is_told_of c =
+pub returns-then-not-is_told_of-clause-error : goal.returns-then-not-is_told_of-clause-error
+returns-then-not-is_told_of-clause-error c =
     let frame = c.args.frame.now in
     let view : ethernet.frame_bytes c.new_unchecked-view.result ≡ frame = search rules in
     let reads = rw view at c.parse.ensures.reads in
@@ -48,8 +48,8 @@ returns-then-not-is_told_of c =
     untold c.args.ours.now frame c.args.message c.in-Ok.link c.in-Ok-parse.header (λ l r. let ok = (reads l).1 r in let is = c.in-Ok.is in cc)
     (λ w r. let ok = (reads_header w).1 r in let is = c.in-Ok-parse.is in cc) (λ both. told_of both.1)
 
-pub returns : goal.returns
-returns c =
+pub returns-clause-error : goal.returns-clause-error
+returns-clause-error c =
     let frame = c.args.frame.now in
     let view : ethernet.frame_bytes c.new_unchecked-view.result ≡ frame = search rules in
     let reads = rw view at c.parse.ensures.reads in

@@ -1,13 +1,12 @@
-use Rattle.std.proofs.Common.{◌≡◌, ◌+◌, ◌*◌, ◌%◌, rules, subst, true}
-use Rattle.app_host.proofs.Marked.{ipv4_marked, remarked, remarked-ipv4, remarked-ipv6}
+use Rattle.std.proofs.Common.{◌≡◌, ◌*◌, rules, subst, true}
+use Rattle.app_host.proofs.Marked.{ipv4_marked, remarked, sum_after, remarked-ipv4, remarked-ipv6}
 use Rattle.app_host.specs.Message.{HasClass}
-use Rattle.ip_wire.specs.Field.{field, with_field}
+use Rattle.ip_wire.specs.Field.{with_field}
 use Rattle.ip_wire.specs.Frame.{ReadsPacket, all_checked}
 use Rattle.ip_wire.specs.Ip.{version_of}
 use Rattle.ip_wire.specs.Ipv4 as ipv4
 use Rattle.ip_wire.specs.Ipv6 as ipv6
 use Rattle.ip_wire.specs.Types.{Ipv4, Ipv6}
-use Rattle.ip_wire.specs.WordSum.{updated}
 use Rattle.app_host.proofs.message.set_dscp.Goals as goal
 
 pub returns-in-Ipv4 : goal.returns-in-Ipv4
@@ -18,11 +17,10 @@ returns-in-Ipv4 c =
     let view : ipv4.packet_bytes_mut c.new_unchecked-packet.result ≡ bytes = search rules in
     let reads = subst (ReadsPacket all_checked bytes) c.in-Ipv4.is c.requires.reads in
     let unmarked = subst (λ w. HasClass (version_of w) bytes 0) c.in-Ipv4.is c.requires.unmarked in
-    let sum = updated (field (with_field bytes 8 6 n) 80 16) (4 * field bytes 8 6) (4 * (n % 64)) in
-    let written : ipv4.packet_bytes_mut c.update_dscp.new.self ≡ ipv4_marked bytes n sum = (rw view at c.update_dscp.ensures.value).holds in
+    let written : ipv4.packet_bytes_mut c.update_dscp.new.self ≡ ipv4_marked bytes n (sum_after bytes n) = (rw view at c.update_dscp.ensures.value).holds in
     let step = rw view at c.update_dscp.ensures.reads in
     remarked (Ipv4 v) c.args.ip.now bytes (ipv4.packet_bytes_mut c.update_dscp.new.self) _ n c.in-Ipv4.is (search rules)
-    (remarked-ipv4 v bytes (ipv4.packet_bytes_mut c.update_dscp.new.self) n sum c.bytes_fit.ensures c.requires.fits reads unmarked written (step v true reads.0))
+    (remarked-ipv4 v bytes (ipv4.packet_bytes_mut c.update_dscp.new.self) n c.bytes_fit.ensures c.requires.fits reads unmarked written (step v true reads.0))
 
 pub returns-in-Ipv6 : goal.returns-in-Ipv6
 returns-in-Ipv6 c =

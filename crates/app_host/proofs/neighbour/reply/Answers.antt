@@ -7,7 +7,7 @@ use Rattle.app_host.proofs.IcmpReplies.{in_frame}
 use Rattle.app_host.specs.Neighbour.{IsNeighbourReply}
 use Rattle.app_host.proofs.neighbour.reply.Goals as goal
 
-pub returns-in-Other : goal.returns-in-Other
-returns-in-Other c =
+pub returns-in-Other-clause-reply : goal.returns-in-Other-clause-reply
+returns-in-Other-clause-reply c =
     in_frame (IsNeighbourReply c.args.ours.now) c.args.request.now (packet (Ipv6 c.in-Ipv6.header) (other c.in-Other.bytes.now)) c.reply_to.result
-    (ap carried_of (c.in-Packet.is ∙ ap (λ h. carried.Packet h c.in-Packet.inner) c.in-Ipv6.is ∙ ap (carried.Packet (Ipv6 c.in-Ipv6.header)) c.in-Other.is)) c.reply_to.ensures
+    (ap carried_of (c.in-Packet.is ∙ ap (λ h. carried.Packet h c.in-Packet.inner) c.in-Ipv6.is ∙ ap (carried.Packet (Ipv6 c.in-Ipv6.header)) c.in-Other.is)) c.reply_to.ensures.reply

@@ -8,8 +8,8 @@ use Rattle.app_host.specs.Message.{Gives}
 use Rattle.app_host.specs.Neighbour.{IsAnsweredTo, IsNeighbourReply, IsSolicited}
 use Rattle.app_host.proofs.neighbour.reply_to.Goals as goal
 
-pub returns-in-Some : goal.returns-in-Some
-returns-in-Some c =
+pub returns-in-Some-clause-reply : goal.returns-in-Some-clause-reply
+returns-in-Some-clause-reply c =
     let ours = c.args.ours.now in
     let link = c.args.link.now in
     let ip = c.args.header.now in
@@ -26,8 +26,8 @@ returns-in-Some c =
     subst (λ f. Gives (IsNeighbourReply ours link (packet (Ipv6 ip) (other request))) (Some f)) (sym c.advert.ensures)
     (advertised ours link ip request named c.in-Some.to.0 c.in-Some.to.1 c.in-Some.to.2 for_us read c.in-Some.ensures.some len six)
 
-pub returns-then-ne : goal.returns-then-ne
-returns-then-ne c =
+pub returns-then-ne-clause-reply : goal.returns-then-ne-clause-reply
+returns-then-ne-clause-reply c =
     let ours = c.args.ours.now in
     let request = c.args.request.now in
     let caps : c.default-caps.result ≡ all_checked = search rules in
@@ -40,8 +40,8 @@ returns-then-ne c =
     let same : c.in-NeighborSolicit.target_addr ≡ ours.ipv6_addr = cc in
     absurd (search (rules, same)))
 
-pub returns-in-None : goal.returns-in-None
-returns-in-None c =
+pub returns-in-None-clause-reply : goal.returns-in-None-clause-reply
+returns-in-None-clause-reply c =
     let ours = c.args.ours.now in
     let request = c.args.request.now in
     let caps : c.default-caps.result ≡ all_checked = search rules in
@@ -54,8 +54,8 @@ returns-in-None c =
     let same : named ≡ c.in-NeighborSolicit.lladdr = cc in
     c.answered_to.ensures.none c.in-None.is hardware dst solicited (subst (λ n. IsAnsweredTo ours c.args.link.now c.args.header.now n hardware dst solicited) same to))
 
-pub returns-in_default : goal.returns-in_default
-returns-in_default c =
+pub returns-in_default-clause-reply : goal.returns-in_default-clause-reply
+returns-in_default-clause-reply c =
     let ours = c.args.ours.now in
     let request = c.args.request.now in
     let caps : c.default-caps.result ≡ all_checked = search rules in
@@ -67,8 +67,8 @@ returns-in_default c =
     let same : c.in-Ok.value ≡ NeighborSolicit ours.ipv6_addr named = cc in
     c.in_default.not-NeighborSolicit ours.ipv6_addr named same)
 
-pub returns-in-Err : goal.returns-in-Err
-returns-in-Err c =
+pub returns-in-Err-clause-reply : goal.returns-in-Err-clause-reply
+returns-in-Err-clause-reply c =
     let ours = c.args.ours.now in
     let request = c.args.request.now in
     let caps : c.default-caps.result ≡ all_checked = search rules in

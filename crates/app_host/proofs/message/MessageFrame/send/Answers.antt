@@ -6,7 +6,7 @@ use Rattle.app_host.proofs.message.MessageFrame.send.Goals as goal
 pub mark-requires-clause-reads : goal.mark-requires-clause-reads
 mark-requires-clause-reads c =
     let same : length c.try_emit.new.out ≡ length c.args.out.now = search rules in
-    let (len, fits, rest, reads) = sent c.args.self.now c.args.out.now c.try_emit.new.out (Some c.in-Some.len) c.requires c.message_composes.ensures same c.in-Some.ensures in
+    let (len, fits, rest, reads, written) = sent c.args.self.now c.args.out.now c.try_emit.new.out (Some c.in-Some.len) c.requires c.message_composes.ensures same c.in-Some.ensures in
     reads
 
 pub mark-requires-clause-unmarked : goal.mark-requires-clause-unmarked
