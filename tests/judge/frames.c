@@ -125,11 +125,25 @@ static size_t any_option(uint8_t *out)
     return len;
 }
 
+/* The list of most segments: a timestamp after two bytes of no operation (RFC 7323, appendix A), or before two zeros.
+ * Returns its length. */
+static size_t usual_options(uint8_t *out)
+{
+    static const uint8_t kinds[] = {1, 1, 8, 10};
+    size_t before = one_in(2) ? 2 : 0;
+    fill(out, 10 + before);
+    memcpy(out, kinds + 2 - before, 2 + before);
+    memset(out + 10 + before, 0, 2 - before);
+    return 12;
+}
+
 /* Puts options into at most 40 bytes, and returns their length, a multiple of 4. */
 static size_t any_options(uint8_t *out)
 {
     uint8_t room[44 * 12];
     size_t len = 0, most = one_in(3) ? 0 : 4 * below(11);
+    if (one_in(4))
+        return usual_options(out);
     while (len < most)
         len += any_option(room + len);
     if (!one_in(16))
@@ -161,6 +175,8 @@ size_t any_tcp_header(uint8_t *out)
     fill(out, 20);
     put_word(out, any_port());
     put_word(out + 2, any_port());
+    if (one_in(2))
+        put_word(out + 18, 0); /* no urgent pointer */
     out[12] = (uint8_t)(len / 4 << 4 | (one_in(8) ? below(16) : 0));
     out[13] = (uint8_t)any_flags();
     return len;
