@@ -13,9 +13,6 @@ use Rattle.ip_wire.specs.Frame.{ipv4_payload}
 use Rattle.ip_wire.specs.Ipv4 as ipv4
 use Rattle.ip_wire.specs.Types.{EthernetRepr, Ipv4Repr}
 
-pub translated-once : (old new new' : List ℕ) (side : Side) (addr : List ℕ) (port : ℕ) → IsTranslated old new side addr port → IsTranslated old new' side addr port → new ≡ new'
-translated-once old new new' side addr port a b = a.bytes ∙ sym b.bytes
-
 -- ---- what a frame carries
 
 header-once : (bytes : List ℕ) (v w : Ipv4Repr) → ipv4.Reads bytes true v → ipv4.Reads bytes true w → v ≡ w

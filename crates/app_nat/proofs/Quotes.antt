@@ -81,16 +81,6 @@ pub record IsIdentified (old new : List ℕ) (number : ℕ) : Type 0 where
   pub type : field new 0 8 ≡ field old 0 8
   pub ident : field new 32 16 ≡ number
 
-identified_cells : (l rest : List ℕ) (ident x : ℕ) → ident < 65536
-    → IsIdentified (cells 8 l ++ rest) (with_field (with_field (cells 8 l ++ rest) 32 16 ident) 16 16 x) ident
-identified_cells l rest ident x fits =
-    let n = word_at (cells 8 l ++ rest) 32 16 in
-    record { long = refl; type = refl; ident = (λ i. spelled (word_high n ident i) (word_low n ident i)) ∙ spelled-word ident fits }
-
-pub identified : (l : List ℕ) (ident x : ℕ) → 8 ≤ length l → ident < 65536 → IsIdentified l (with_field (with_field l 32 16 ident) 16 16 x) ident
-identified l ident x room fits =
-    subst (λ (m : List ℕ). IsIdentified m (with_field (with_field m 32 16 ident) 16 16 x) ident) (sym (cells-drop 8 l room)) (identified_cells l (drop 8 l) ident x fits)
-
 -- ---- the protocol of a quoted packet
 
 -- only an echo message depends on the byte after the header

@@ -7,9 +7,6 @@ use Rattle.c_structs.specs.Nothing.{nothing_of}
 use Rattle.c_read.specs.Captured.{captured_of, captured_packet_of, cut_frame, cut_header, cut_packet}
 use Rattle.c_read.specs.FrameFields.{bare_of, fields_of, packet_fields_of}
 
-some-missing : (n len : ℕ) → n < len → (len - n == 0) ≡ false
-some-missing n len h = grind (arith, nat_tests)
-
 -- nothing is missing
 pub captured_of-whole : (bytes : List ℕ) → captured_of bytes 0 ≡ fields_of bytes
 unfolding captured_of

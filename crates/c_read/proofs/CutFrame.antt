@@ -143,9 +143,3 @@ pub read-whole : (bytes : List ℕ) (len : ℕ) (f : FrameFields) → f ≡ capt
 read-whole bytes len f is h =
     let none : len - length bytes ≡ 0 = omega (arith, h) in
     is ∙ ap (captured_of (take len bytes)) none ∙ captured_of-whole (take len bytes)
-
-pub read-packet-whole : (bytes : List ℕ) (len : ℕ) (f : FrameFields) → f ≡ captured_packet_of (take len bytes) (len - length bytes) → len ≤ length bytes
-    → f ≡ packet_fields_of (take len bytes)
-read-packet-whole bytes len f is h =
-    let none : len - length bytes ≡ 0 = omega (arith, h) in
-    is ∙ ap (captured_packet_of (take len bytes)) none ∙ captured_packet_of-whole (take len bytes)

@@ -172,12 +172,6 @@ packet-bytes o header bytes part limit false r is =
 pub is-syn : (bytes : List ℕ) (src dst : IpAddress) (verified : Bool) (v : TcpHeader) (payload : List ℕ) (limit : ℕ) → IsAbove limit v → Reads bytes src dst verified v payload → field bytes 110 1 ≡ 1
 is-syn bytes src dst verified v payload limit above r = let flags : HasControl bytes control.Syn = subst (HasControl bytes) above.syn r.control in flags.syn
 
-pub left-partial : (src dst : IpAddress) (bytes : List ℕ) → field bytes 128 16 ≡ tcp.pseudo_header_sum src dst bytes → ¬ Verifies src dst bytes → is_left_to_device offload.Guess src dst bytes ≡ true
-left-partial src dst bytes partial wrong = grind (arith, nat_tests)
-
-pub not-partial : (src dst : IpAddress) (bytes : List ℕ) → field bytes 128 16 ≢ tcp.pseudo_header_sum src dst bytes → is_left_to_device offload.Guess src dst bytes ≡ false
-not-partial src dst bytes other = grind (arith, nat_tests)
-
 pub valid-stays : (src dst : IpAddress) (bytes : List ℕ) → Verifies src dst bytes → is_left_to_device offload.Guess src dst bytes ≡ false
 valid-stays src dst bytes valid = grind (arith, nat_tests)
 
@@ -187,12 +181,6 @@ left-unverified : (o : Offload) (src dst : IpAddress) (bytes : List ℕ) (verifi
 left-unverified offload.Guess src dst bytes verified said left valid on = let other = valid-stays src dst bytes (valid on) in absurd (cc)
 left-unverified offload.Offloaded src dst bytes verified said left valid on = let off = said refl in absurd (cc)
 left-unverified offload.Complete src dst bytes verified said left valid on = absurd (cc)
-
-pub some-left : (o : Offload) (src dst : IpAddress) (bytes part : List ℕ) (sum limit : ℕ) → part ≡ with_max_seg_size bytes limit → sum ≡ field bytes 128 16
-    → is_left_to_device o src dst bytes ≡ true → with_field part 128 16 sum ≡ resized o src dst bytes limit
-some-left o src dst bytes part sum limit is same left =
-    let new = with_max_seg_size bytes limit in
-    (λ i. with_field (is i) 128 16 (same i)) ∙ sym (ap (λ (b : Bool). if b then with_field new 128 16 (field bytes 128 16) else new) left)
 
 pub none-left : (o : Offload) (src dst : IpAddress) (bytes part : List ℕ) (limit : ℕ) → part ≡ with_max_seg_size bytes limit
     → is_left_to_device o src dst bytes ≡ false → part ≡ resized o src dst bytes limit

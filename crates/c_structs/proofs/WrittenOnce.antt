@@ -1,7 +1,7 @@
 -- A call has one result: what it returns, and what it stores and writes.
 use Rattle.std.proofs.Common.{ℕ, ℤ, ◌≡◌, ◌∙◌, ◌⊎◌, ◌<◌, ◌++◌, List, Option, None, Some, inl, inr, drop, length, ap, arith, refl, sym}
 use Rattle.std.proofs.lemmas.Bool.{cases_lt}
-use Rattle.c_structs.specs.Written.{Answers, Fills, IsRead, Prints, Writes, WritesBytes, ended, max_len}
+use Rattle.c_structs.specs.Written.{Answers, Fills, Writes, WritesBytes, max_len}
 use Rattle.c_structs.specs.declared.failures.Failure.{Failure}
 
 -- ---- questions and texts
@@ -11,14 +11,6 @@ answers-once Fact a b (inl (one, fact)) (inl (also, again)) = one ∙ sym also
 answers-once Fact a b (inl (one, fact)) (inr (zero, never)) = absurd (never fact)
 answers-once Fact a b (inr (zero, never)) (inl (one, fact)) = absurd (never fact)
 answers-once Fact a b (inr (zero, never)) (inr (also, again)) = zero ∙ sym also
-
--- if no text parses as two values
-read-once : {V A : Type 0} (Reads : List ℕ → V → Type 0) (stored : V → A) (text : List ℕ) (old new other : A) (a b : ℤ) → ((v w : V) → Reads text v → Reads text w → v ≡ w)
-    → IsRead Reads stored text old new a → IsRead Reads stored text old other b → (a ≡ b) × (new ≡ other)
-read-once Reads stored text old new other a b one (inl (is, (v, reads, at))) (inl (also, (w, again, here))) = (is ∙ sym also, at ∙ ap stored (one v w reads again) ∙ sym here)
-read-once Reads stored text old new other a b one (inl (is, (v, reads, at))) (inr (zero, same, never)) = absurd (never v reads)
-read-once Reads stored text old new other a b one (inr (zero, same, never)) (inl (also, (w, again, here))) = absurd (never w again)
-read-once Reads stored text old new other a b one (inr (zero, same, never)) (inr (also, stays, none)) = (zero ∙ sym also, same ∙ sym stays)
 
 -- ---- bytes
 
@@ -54,8 +46,3 @@ pub writes-once : (bytes : Option (List ℕ)) (why : Option Failure) (old new ot
     → Writes bytes why old other b → (a ≡ b) × (new ≡ other)
 writes-once None why old new other a b (none, stays) (also, same) = (none ∙ sym also, stays ∙ sym same)
 writes-once (Some bytes) why old new other a b v w = slice-once bytes (length bytes) why old new other a b v w
-
-prints-once : (text : Option (List ℕ)) (why : Option Failure) (old new other : List ℕ) (a b : ℤ) → Prints text why old new a
-    → Prints text why old other b → (a ≡ b) × (new ≡ other)
-prints-once None why old new other a b (none, stays) (also, same) = (none ∙ sym also, stays ∙ sym same)
-prints-once (Some text) why old new other a b v w = slice-once (ended text (length old)) (length text) why old new other a b v w

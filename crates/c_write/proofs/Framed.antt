@@ -67,33 +67,6 @@ ends-there : (ports : Bool) (src dst : Endpoint) (a b : IpAddress) → ports ≡
 ends-there ports src dst a b has pair =
     ap (λ p. option_and_then (λ pair. only_if p pair) (pair_of src.addr dst.addr)) has ∙ ap (λ o. option_and_then (λ pair. only_if true pair) o) pair
 
--- without them there are none
-pub no-ends : (ports : Bool) (src dst : Endpoint) → ports ≡ false → ends_of ports src dst ≡ None
-no-ends ports src dst none =
-    ap (λ p. option_and_then (λ pair. only_if p pair) (pair_of src.addr dst.addr)) none ∙ dropped (pair_of src.addr dst.addr)
-  where
-    dropped : (o : Option (IpAddress × IpAddress)) → option_and_then (λ pair. only_if false pair) o ≡ None
-    dropped None = refl
-    dropped (Some pair) = refl
-
-pub none-after : {A B : Type 0} (f : A → Option B) (o : Option A) → ((x : A) → f x ≡ None) → option_and_then f o ≡ None
-none-after f None each = refl
-none-after f (Some x) each = each x
-
--- no packet goes to port 0
-pub udp-unsent : (f : FrameFields) (payload : List ℕ) → f.dst.port ≡ 0 → udp_frame f payload ≡ None
-udp-unsent f payload zero =
-    let none : has_port f.dst ≡ false = grind (arith, nat_tests, zero) in
-    ap (λ o. option_and_then (framed f 17) (option_and_then (λ pair. only_if (nat_le (length payload) 65527) (udp.bytes_of (ports_of f.src f.dst) payload pair.0 pair.1 true)) o))
-    (no-ends (has_port f.dst) f.src f.dst none)
-
--- no segment is between ports of which one is 0
-pub tcp-unsent : (f : FrameFields) (o : TcpOptions) (payload : List ℕ) → has_port f.src && has_port f.dst ≡ false → tcp_frame f o payload ≡ None
-tcp-unsent f o payload none =
-    let size = segment_header_len f.tcp o (length payload) in
-    let bytes = λ (p : IpAddress × IpAddress). segment_bytes f.tcp (tcp_value f.tcp o f.src.port f.dst.port) payload p.0 p.1 true in
-    ap (λ q. option_and_then (framed f 6) (option_and_then (λ p. option_map (λ len. bytes p) size) q)) (no-ends (has_port f.src && has_port f.dst) f.src f.dst none)
-
 -- the frame of a packet, where it is written
 pub framed-packet : (f : FrameFields) (number : ℕ) (packet : List ℕ) (v : IpRepr) → ip_header f number (length packet) ≡ Some v
     → framed f number packet ≡ Some (headers_bytes f v ++ packet)

@@ -1,6 +1,6 @@
 -- A header whose protocol is a number.
 use Rattle.std.proofs.Common.{ℕ, ◌≡◌, ◌≤◌, refl, true}
-use Rattle.ip_wire.specs.Ip.{bytes_of, header_before, header_len_of, max_payload_len, next_header_of, payload_len_of, with_payload_len}
+use Rattle.ip_wire.specs.Ip.{bytes_of, header_before, max_payload_len, next_header_of, payload_len_of, with_payload_len}
 use Rattle.ip_wire.specs.Protocol.{protocol_of}
 use Rattle.wire_addr.proofs.Protocols.{number_of-protocol_of}
 use Rattle.ip_wire.specs.declared.IpProtocol.TheVariants.{Unknown}
@@ -11,11 +11,6 @@ pub bytes_of-number : (v : IpRepr) (n len : ℕ) → next_header_of v ≡ protoc
     → bytes_of (header_before v (Unknown n) len) true ≡ bytes_of (with_payload_len v len) true
 bytes_of-number (Ipv4 v) n len is = rw (is, number_of-protocol_of n) refl
 bytes_of-number (Ipv6 v) n len is = rw (is, number_of-protocol_of n) refl
-
--- it is as long
-pub header_len_of-number : (v : IpRepr) (n len : ℕ) → header_len_of (header_before v (Unknown n) len) ≡ header_len_of v
-header_len_of-number (Ipv4 v) n len = refl
-header_len_of-number (Ipv6 v) n len = refl
 
 -- it can express the same payload lengths
 pub fits-number : (v : IpRepr) (n len : ℕ) → payload_len_of (with_payload_len v len) ≤ max_payload_len (with_payload_len v len)

@@ -1,20 +1,13 @@
 -- The contents of a frame whose values are those of a UDP or TCP packet.
 use Rattle.std.proofs.Common.{ℕ, ◌≡◌, List, Some}
-use Rattle.std.specs.Borrow.{Bor}
 use Rattle.ip_wire.specs.Frame as frame
 use Rattle.ip_wire.specs.FrameValue.{carried_of}
 use Rattle.wire_tcp.specs.TcpRepr.{TcpHeader, header_of}
 use Rattle.ip_wire.specs.declared.frame.carried.Carried.{Carried}
 use Rattle.ip_wire.specs.declared.frame.carried.Carried.TheVariants as carried
-use Rattle.ip_wire.specs.Types.{IpRepr, UdpRepr}
+use Rattle.ip_wire.specs.Types.{IpRepr}
 use Rattle.wire_tcp.specs.declared.TcpRepr.{TcpRepr}
 use Rattle.ip_wire.specs.declared.frame.transport.Transport.TheVariants as transport
-
--- a frame with the values of a UDP packet carries a UDP packet
-pub carries_udp : (c : Carried) (ip : IpRepr) (udp : UdpRepr) (octets : List ℕ) → carried_of c ≡ Some (frame.packet ip (frame.datagram udp octets))
-    → (payload : Bor (List ℕ)) × (c ≡ carried.Packet ip (transport.Udp udp payload)) × (payload.now ≡ octets)
-carries_udp (carried.Packet v (transport.Udp u payload)) ip udp octets e = (payload, cc, cc)
-carries_udp _ ip udp octets e = absurd (cc)
 
 -- a frame with the values of a TCP segment carries a TCP segment
 pub carries_tcp : (c : Carried) (ip : IpRepr) (tcp : TcpHeader) (octets : List ℕ) → carried_of c ≡ Some (frame.packet ip (frame.segment tcp octets))

@@ -9,7 +9,7 @@ use Rattle.std.proofs.lemmas.List.{drop-drop, length-replicate, length-map}
 use Rattle.std.proofs.lemmas.List.Sums.{sum_by-cons, count_by-le-length}
 use Rattle.std.proofs.Math.Dec.{eqb-suc-zero}
 use Rattle.byteorder.specs.Endian.{big_number, big_bytes}
-use Rattle.std.proofs.lemmas.Nat.{from_be_bytes-to_be_bytes_2, from_be_bytes-to_be_bytes_4}
+use Rattle.std.proofs.lemmas.Nat.{from_be_bytes-to_be_bytes_4}
 use Rattle.wire_tcp_options.specs.TcpItems.{Item, item, IsItem, IsTail, block_at, first_blocks, last_of, is_of, is_timestamp}
 use Rattle.wire_tcp_options.specs.TcpOption.{range_bytes}
 use Rattle.wire_tcp_options.proofs.Items.{IsItem-ranges}
@@ -53,9 +53,6 @@ no_sack : (p : Item → Bool) → ((c : List ℕ) → p (item 4 c) ≡ false) �
 no_sack p g h s n bytes = grind arith
 
 -- the big-endian bytes of a number parse as the number
-number_back_2 : (x : ℕ) (rest : List ℕ) → x < 2 ^ 16 → big_number 2 (big_bytes 2 x ++ rest) ≡ x
-number_back_2 x rest h = let e = from_be_bytes-to_be_bytes_2 x h in omega (arith, e)
-
 number_back_4 : (x : ℕ) (rest : List ℕ) → x < 2 ^ 32 → big_number 4 (big_bytes 4 x ++ rest) ≡ x
 number_back_4 x rest h = let e = from_be_bytes-to_be_bytes_4 x h in omega (arith, e)
 
