@@ -132,7 +132,7 @@ def rust(header):
         if name not in ONLY_C:
             has_pointers = any(kind.endswith("*") for kind, _, _ in fields)
             yield from [] if has_pointers else ["    #[derive(Default)]"]
-            yield f"    struct {camel(name)} = {name} {{"
+            yield f"    struct {camel(name)} {{"
             yield from (rust_field(*field) for field in fields)
             yield "    }\n"
     yield "}\n\ncalls! {"

@@ -6,39 +6,39 @@ pub const VERSION: (u32, u32) = (0, 3);
 
 structs! {
     #[derive(Default)]
-    struct Addr = lk_addr {
+    struct Addr {
         octets: [u8; 16],
         version: u16,
     }
 
     #[derive(Default)]
-    struct Endpoint = lk_endpoint {
+    struct Endpoint {
         addr: Addr,
         port: u16,
     }
 
     #[derive(Default)]
-    struct Block = lk_block {
+    struct Block {
         addr: Addr,
         prefix_len: u16,
     }
 
     #[derive(Default)]
-    struct Ethernet = lk_ethernet {
+    struct Ethernet {
         src: [u8; 6],
         dst: [u8; 6],
         r#type: u16,
     }
 
     #[derive(Default)]
-    struct Arp = lk_arp {
+    struct Arp {
         operation: u16,
         src_hardware: [u8; 6],
         dst_hardware: [u8; 6],
     }
 
     #[derive(Default)]
-    struct Ip = lk_ip {
+    struct Ip {
         ident: u32,
         flow_label: u32,
         fragment_offset: u16,
@@ -51,7 +51,7 @@ structs! {
     }
 
     #[derive(Default)]
-    struct Tcp = lk_tcp {
+    struct Tcp {
         seq_number: u32,
         ack_number: u32,
         window_len: u16,
@@ -61,13 +61,13 @@ structs! {
     }
 
     #[derive(Default)]
-    struct SackRange = lk_sack_range {
+    struct SackRange {
         left: u32,
         right: u32,
     }
 
     #[derive(Default)]
-    struct TcpOptions = lk_tcp_options {
+    struct TcpOptions {
         sack_ranges: [SackRange; 4],
         tsval: u32,
         tsecr: u32,
@@ -81,14 +81,14 @@ structs! {
     }
 
     #[derive(Default)]
-    struct Icmp = lk_icmp {
+    struct Icmp {
         word: u32,
         r#type: u8,
         code: u8,
     }
 
     #[derive(Default)]
-    struct Ndisc = lk_ndisc {
+    struct Ndisc {
         target: Addr,
         hardware: [u8; 6],
         has_hardware: u8,
@@ -99,7 +99,7 @@ structs! {
     }
 
     #[derive(Default)]
-    struct Frame = lk_frame {
+    struct Frame {
         network_offset: usize,
         transport_offset: usize,
         payload_offset: usize,
@@ -122,7 +122,7 @@ structs! {
     }
 
     #[derive(Default)]
-    struct Link = lk_link {
+    struct Link {
         offset: usize,
         r#type: u16,
         tags: [u16; 2],
@@ -130,7 +130,7 @@ structs! {
     }
 
     #[derive(Default)]
-    struct Ipv6Header = lk_ipv6_header {
+    struct Ipv6Header {
         offset: u32,
         len: u16,
         protocol: u8,
@@ -138,13 +138,13 @@ structs! {
     }
 
     #[derive(Default)]
-    struct TcpOption = lk_tcp_option {
+    struct TcpOption {
         offset: u8,
         kind: u8,
         len: u8,
     }
 
-    struct Host = lk_host {
+    struct Host {
         open_ports: *const u16,
         open_port_count: usize,
         open_udp_ports: *const u16,
@@ -162,21 +162,21 @@ structs! {
     }
 
     #[derive(Default)]
-    struct Interface = lk_interface {
+    struct Interface {
         ipv4: Addr,
         ipv6: Addr,
         hardware: [u8; 6],
     }
 
     #[derive(Default)]
-    struct Route = lk_route {
+    struct Route {
         block: Block,
         next_hop: Addr,
         interface: u16,
     }
 
     #[derive(Default)]
-    struct RouteNode = lk_route_node {
+    struct RouteNode {
         high: u64,
         low: u64,
         route: u32,
@@ -188,7 +188,7 @@ structs! {
     }
 
     #[derive(Default)]
-    struct Nat = lk_nat {
+    struct Nat {
         key: [u64; 2],
         udp_timeout: u64,
         tcp_timeout: u64,
@@ -200,7 +200,7 @@ structs! {
     }
 
     #[derive(Default)]
-    struct Mapping = lk_mapping {
+    struct Mapping {
         expires: u64,
         inside: [u8; 4],
         remote: [u8; 4],

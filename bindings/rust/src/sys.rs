@@ -6,9 +6,9 @@
 use core::ffi::{c_char, c_int};
 use core::sync::atomic::{AtomicBool, Ordering};
 
-/// Declares the structs. For the tests it also lists them.
+/// Declares the structs.
 macro_rules! structs {
-    ($($(#[$meta:meta])* struct $name:ident = $c_name:ident { $($field:ident: $type:ty,)* })*) => {
+    ($($(#[$meta:meta])* struct $name:ident { $($field:ident: $type:ty,)* })*) => {
         $(
             $(#[$meta])*
             #[repr(C)]
@@ -17,14 +17,10 @@ macro_rules! structs {
                 $(pub $field: $type,)*
             }
         )*
-
-        /// The names of each struct, here and in C.
-        #[cfg(test)]
-        pub const STRUCTS: &[(&str, &str)] = &[$((stringify!($name), stringify!($c_name)),)*];
     };
 }
 
-/// Declares the calls, and makes each a method of `Library`. For the tests it also lists them.
+/// Declares the calls, and makes each a method of `Library`.
 macro_rules! calls {
     ($(fn $name:ident($($argument:ident: $type:ty),*) $(-> $result:ty)?;)*) => {
         mod c {
@@ -45,14 +41,6 @@ macro_rules! calls {
                 }
             )*
         }
-
-        /// Each call: its name, and the types of its parameters and of its result.
-        #[cfg(test)]
-        pub const CALLS: &[(&str, &[&str], &str)] = &[$((
-            stringify!($name),
-            &[$(stringify!($type)),*],
-            concat!($(stringify!($result))?),
-        ),)*];
     };
 }
 

@@ -1,13 +1,13 @@
-//! Compares the declarations with `ip_wire.h`, by a C compiler.
+//! Compares the enums with `ip_wire.h`, by a C compiler, and names with those of the library.
 
-use super::{Addr, Endpoint, CALLS, STRUCTS};
+use super::{Addr, Endpoint};
 use crate::{Error, Network, Offload, Problem, Reason, Rejection, Side, Transport, Verdict};
 use core::ffi::{c_char, c_int, CStr};
 use core::net::{IpAddr, SocketAddr};
-use std::fmt::{Debug, Write};
+use std::fmt::Debug;
 use std::process::Command;
 use std::string::{String, ToString};
-use std::{env, format, fs, println, vec::Vec};
+use std::{env, format, fs, println};
 
 extern "C" {
     fn lk_failure_name(failure: isize) -> *const c_char;
@@ -16,48 +16,6 @@ extern "C" {
     fn lk_print_addr(addr: &Addr, out: *mut c_char, cap: usize) -> isize;
     fn lk_print_endpoint(endpoint: &Endpoint, out: *mut c_char, cap: usize) -> isize;
     fn lk_is_multicast(addr: &Addr) -> c_int;
-}
-
-/// The C type of a declared type.
-fn c_type(rust: &str) -> String {
-    let strip = |prefixes: [&str; 2]| prefixes.iter().find_map(|prefix| rust.strip_prefix(prefix));
-    if let Some(target) = strip(["*mut ", "&mut "]) {
-        return format!("{} *", c_type(target));
-    }
-    if let Some(target) = strip(["*const ", "&"]) {
-        return format!("const {} *", c_type(target));
-    }
-    let plain = match rust {
-        "" => "void",
-        "u8" => "uint8_t",
-        "u16" => "uint16_t",
-        "u32" => "uint32_t",
-        "u64" => "uint64_t",
-        "i32" => "int32_t",
-        "usize" => "size_t",
-        "isize" => "ptrdiff_t",
-        "c_int" => "int",
-        "c_char" => "char",
-        _ => {
-            let found = STRUCTS.iter().find(|(name, _)| *name == rust);
-            return format!("struct {}", found.unwrap_or_else(|| panic!("no type {rust}")).1);
-        }
-    };
-    plain.to_string()
-}
-
-/// A C file that compiles if each call and number is that of the header.
-fn assertions() -> String {
-    let mut c = String::from("#include <ip_wire.h>\n");
-    for (name, parameters, result) in CALLS {
-        let parameters: Vec<_> = parameters.iter().map(|t| c_type(t)).collect();
-        // A second declaration of another type is an error.
-        writeln!(c, "{} {name}({});", c_type(result), parameters.join(", ")).unwrap();
-    }
-    for (name, number) in [("MAJOR", super::VERSION.0), ("MINOR", super::VERSION.1)] {
-        writeln!(c, "_Static_assert(LK_VERSION_{name} == {number}, \"{name}\");").unwrap();
-    }
-    c
 }
 
 /// The name in C of a variant, as `LK_NO_ROOM` of `NoRoom`.
@@ -99,7 +57,7 @@ fn own_numbers() -> String {
 }
 
 #[test]
-fn declarations_are_those_of_the_header() {
+fn enums_are_those_of_the_header() {
     let compiler = env::var("CC").unwrap_or_else(|_| "cc".to_string());
     if Command::new(&compiler).arg("--version").output().is_err() {
         println!("skipped: there is no C compiler");
@@ -116,7 +74,7 @@ fn declarations_are_those_of_the_header() {
     let folder = env::temp_dir().join(format!("ip_wire_{}", std::process::id()));
     fs::create_dir_all(&folder).unwrap();
     let file = folder.join("assertions.c");
-    fs::write(&file, assertions() + &numbers.concat()).unwrap();
+    fs::write(&file, String::from("#include <ip_wire.h>\n") + &numbers.concat()).unwrap();
     let mut run = Command::new(&compiler);
     run.args(["-std=c11", "-fsyntax-only", "-Werror", "-I", env!("IP_WIRE_INCLUDE")]).arg(&file);
     let output = run.output().unwrap();
