@@ -25,7 +25,7 @@ pub fn arp_value(header: &Arp, src: &Addr, dst: &Addr) -> Option<ArpRepr>
 }
 
 /// Writes a packet between two addresses to the front of `out` and returns its length. `None` if it
-/// does not fit, or as for `value`.
+/// does not fit, or as for `arp_value`.
 #[inline(always)]
 pub fn emit_arp(header: &Arp, src: &Addr, dst: &Addr, out: &mut [u8]) -> Option<usize>
     ensures { Fills (arp_bytes header.now src.now dst.now) out.old out.new result }

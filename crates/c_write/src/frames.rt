@@ -132,6 +132,8 @@ pub fn ip_header(fields: &FrameFields, version: u16, protocol: u8, len: usize) -
     ensures value { result ≡ ip_header fields.now protocol len }
     ensures len { IfSome result (λ v. length (headers_bytes fields.now v) ≡ 14 + header_len_of v) }
 {
+    // Once they are read, the checker knows how long they are.
+    let _hardware = (fields.ethernet.src[0], fields.ethernet.dst[0]);
     let (src, dst) = (&fields.src.addr, &fields.dst.addr);
     let value = ip_value(&fields.ip, version, protocol, src, dst, len)?;
     is_whole(&fields.ip).then_some(value)
@@ -404,6 +406,8 @@ fn wrap_tcp_from(
 pub fn emit_arp_frame(fields: &FrameFields, out: &mut [u8]) -> Option<usize>
     ensures { Fills (arp_frame fields.now) out.old out.new result }
 {
+    // Once they are read, the checker knows how long they are.
+    let _hardware = (fields.ethernet.src[0], fields.ethernet.dst[0]);
     let value = arp_value(&fields.arp, &fields.src.addr, &fields.dst.addr)?;
     if out.len() < ETHERNET_HEADER_LEN {
         return None;

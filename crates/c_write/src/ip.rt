@@ -90,7 +90,7 @@ fn ipv6_value(header: &Ip, protocol: u8, src: &Addr, dst: &Addr, payload_len: us
 }
 
 /// Writes the header between two addresses to the front of `out`, and returns its length. `None`
-/// if it does not fit, or as for `value`. Each version is written apart, so that its values stay in
+/// if it does not fit, or as for `ip_value`. Each version is written apart, so that its values stay in
 /// registers.
 #[inline(always)]
 pub fn emit_ip(

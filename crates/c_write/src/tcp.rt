@@ -54,6 +54,8 @@ pub fn wrap_segment(
         let payload = slice_range out.old header_len end in
         out.new ≡ segment_bytes header.now v payload src_addr dst_addr computed ++ drop end out.old }
 {
+    // Once they are read, the checker knows that each has 32 bits.
+    let _numbers = (header.seq_number, header.ack_number);
     emit_options(options, header_len, out);
     let rest = &out[TCP_HEADER_LEN..header_len + payload_len];
     let words = front(

@@ -68,6 +68,8 @@ fn emit_sack(options: &TcpOptions, at: usize, out: &mut [u8]) -> usize
     ensures end { result ≡ at + length (texts (sack_items (options_value options.now))) }
     ensures written { out.new ≡ with_range out.old at result (texts (sack_items (options_value options.now))) }
 {
+    // Once one is read, the checker knows how many the struct has room for.
+    let _first = options.sack_ranges[0].left;
     let count = usize::from(options.sack_range_count);
     if options.sack_permitted != 0 {
         put(&TcpOption::SackPermitted, at, out)

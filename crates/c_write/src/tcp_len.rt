@@ -47,6 +47,8 @@ fn ranges_len(options: &TcpOptions) -> usize
     requires { options.now.sack_range_count ≤ length options.now.sack_ranges }
     ensures { result ≡ sack_len (count_by is_some (options_value options.now).sack_ranges) }
 {
+    // Once one is read, the checker knows how many the struct has room for.
+    let _first = options.sack_ranges[0].left;
     let count = usize::from(options.sack_range_count);
     if count == 0 { 0 } else { 2 + 8 * count }
 }
