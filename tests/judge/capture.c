@@ -166,7 +166,8 @@ static void add_frame(FILE *file)
     fwrite(made.octets, 1, made.len, file);
 }
 
-/* Whether a byte of the options of an IPv4 header is the number of an option that tshark dissects. */
+/* Whether a byte of the options of an IPv4 header is the number of an option that tshark dissects: it stops at one of a
+ * wrong length. */
 static int has_known_option(const struct lk_frame *frame)
 {
     static const uint8_t kinds[] = {7, 11, 12, 25, 68, 82, 130, 131, 133, 134, 136, 137, 148, 149};
@@ -178,11 +179,11 @@ static int has_known_option(const struct lk_frame *frame)
 }
 
 /* Whether tshark dissects just the headers that lk_read_frame reads. It dissects the transport of a first fragment
- * too, and what other protocols carry. It stops at an IPv4 option of a wrong length. It calls a TCP or ICMP
- * checksum bad that is 0xffff instead of 0, but by RFC 1071 the sum is right. */
+ * too, and what other protocols carry. It calls a TCP or ICMP checksum bad that is 0xffff instead of 0, but by RFC 1071
+ * the sum is right. */
 static int is_comparable(const struct lk_frame *frame)
 {
-    if (frame->reason != LK_READ || has_known_option(frame))
+    if (frame->reason != LK_READ)
         return 0;
     if (frame->transport == LK_TCP)
         return get_word(made.octets + frame->transport_offset + 16) != 0xffff;
@@ -219,7 +220,7 @@ void write_capture(const char *capture, const char *rows_name, unsigned long cou
     while (count > 0) {
         make_valid();
         lk_read_frame(made.octets, made.len, &frame);
-        if (!is_comparable(&frame))
+        if (!is_comparable(&frame) || has_known_option(&frame))
             continue;
         add_frame(file);
         write_row(&frame);
