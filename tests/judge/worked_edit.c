@@ -262,22 +262,29 @@ static void set_too_many_bytes(void)
     CHECK(memcmp(frame.at, syn.at, syn.len) == 0);
 }
 
-/* Bytes that say where the layers are, and bytes beside them. */
+static void set_byte(const struct octets *octets, size_t row, size_t at, int taken)
+{
+    const uint8_t byte = 0xff;
+    struct octets frame = *octets;
+    CHECK_ROW(row, both_set_bytes(frame.at, frame.len, at, &byte, 1) == taken);
+    CHECK_ROW(row, taken ? frame.at[at] == byte : memcmp(frame.at, octets->at, octets->len) == 0);
+}
+
+/* Bytes that say where the layers are, and bytes beside them: over IPv4, and over IPv6 (RFC 8200, section 3). */
 static void set_each_byte(void)
 {
     static const size_t kept[] = {0, 13, 14, 16, 21, 23, 25, 46, 50, 51, 74};
     static const size_t written[] = {15, 22, 26, 34, 45, 47, 49, 52, 73};
-    const uint8_t byte = 0xff;
-    for (size_t i = 0; i < sizeof kept / sizeof kept[0]; i++) {
-        struct octets frame = syn;
-        CHECK_ROW(i, both_set_bytes(frame.at, frame.len, kept[i], &byte, 1) == 0);
-        CHECK_ROW(i, memcmp(frame.at, syn.at, syn.len) == 0);
-    }
-    for (size_t i = 0; i < sizeof written / sizeof written[0]; i++) {
-        struct octets frame = syn;
-        CHECK_ROW(i, both_set_bytes(frame.at, frame.len, written[i], &byte, 1) == 1);
-        CHECK_ROW(i, frame.at[written[i]] == 0xff);
-    }
+    static const size_t kept6[] = {0, 5, 6, 11, 12, 13, 14, 18, 19, 20, 66, 70, 71, 94};
+    static const size_t written6[] = {15, 17, 21, 22, 53, 54, 57, 65, 67, 69, 72, 93};
+    for (size_t i = 0; i < sizeof kept / sizeof kept[0]; i++)
+        set_byte(&syn, i, kept[i], 0);
+    for (size_t i = 0; i < sizeof written / sizeof written[0]; i++)
+        set_byte(&syn, i, written[i], 1);
+    for (size_t i = 0; i < sizeof kept6 / sizeof kept6[0]; i++)
+        set_byte(&syn6, i, kept6[i], 0);
+    for (size_t i = 0; i < sizeof written6 / sizeof written6[0]; i++)
+        set_byte(&syn6, i, written6[i], 1);
 }
 
 static void edit_frames(void)

@@ -418,6 +418,36 @@ static void rejects_packets(void)
     }
 }
 
+/* ---- packets of which the first bytes were captured: lengths that are wrong whatever follows (RFC 791, section 3.1) ---- */
+
+static const struct {
+    const char *hex; /* the front of a packet */
+    size_t captured, len;
+    uint8_t reason;
+} cut_packets[] = {
+    {"", 0, 0, LK_TOO_SHORT},
+    {"", 0, 1, LK_HEADER_CUT}, /* it has no version yet */
+    {"", 0, 20, LK_HEADER_CUT},
+    {"45000064", 20, 100, LK_READ},
+    {"44000064", 24, 100, LK_BAD_LENGTH},     /* a header of 16 bytes */
+    {"4f000064", 24, 100, LK_HEADER_CUT},     /* one of 60 bytes */
+    {"4f000028", 24, 100, LK_BAD_LENGTH},     /* the same in a packet of 40 bytes */
+    {"45000064", 24, 99, LK_BAD_LENGTH},      /* a packet of 100 bytes in a frame with 99 */
+    {"600000000014", 40, 60, LK_READ},        /* 20 bytes of payload */
+    {"600000000014", 40, 59, LK_BAD_LENGTH},
+};
+
+static void rejects_cut_packets(void)
+{
+    for (size_t i = 0; i < sizeof cut_packets / sizeof cut_packets[0]; i++) {
+        struct octets packet = octets(cut_packets[i].hex);
+        struct lk_frame found;
+        int reason = both_read_captured_packet(packet.at, cut_packets[i].captured, cut_packets[i].len, &found);
+        CHECK_ROW(i, reason == cut_packets[i].reason);
+        CHECK_ROW(i, (found.network == LK_NO_NETWORK) == (reason != LK_READ));
+    }
+}
+
 /* ---- the fragment header of IPv6, 8 bytes (RFC 8200, section 4.5) ---- */
 
 static void reads_fragment_headers(void)
@@ -443,5 +473,6 @@ void worked_read(void)
     reads_verdicts();
     reads_first_reasons();
     rejects_packets();
+    rejects_cut_packets();
     reads_fragment_headers();
 }

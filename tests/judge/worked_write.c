@@ -318,6 +318,14 @@ static void no_source_port(void)
     WRAPS(octets(udp6_hex), 62, both_wrap_udp_frame(&ipv6, 5, out, cap));
 }
 
+/* A frame of nothing but its Ethernet header is rebuilt as it is; fewer bytes are no frame. */
+static void rebuilds_headers(void)
+{
+    struct octets header = octets("0600aabbccdd02000000000188b5");
+    WRITES(header, both_rebuild(header.at, 14, out, cap));
+    FAILS(LK_NO_HEADER, both_rebuild(header.at, 13, out, ROOM));
+}
+
 static void replies(void)
 {
     static const struct lk_ip fresh = {0, 0, 0, 6, 64, 46, 0, 0, 1};
@@ -349,5 +357,6 @@ void worked_write(void)
     frames();
     longest_packets();
     no_source_port();
+    rebuilds_headers();
     replies();
 }
