@@ -422,14 +422,14 @@ static void sum_transport(uint8_t *ptr, unsigned protocol, size_t len, size_t fi
         put_word(ptr + field_at, 0xffff);
 }
 
-/* The checksum of ICMP: right, 0xffff instead of 0, or any. */
+/* The checksum of ICMP: right, 0xffff instead of 0, that of a pseudo-header, or any. */
 static void sum_icmp(uint8_t *ptr, size_t len, unsigned version)
 {
     struct lk_addr src = addr_at(version == 4 ? 26 : 22, version), dst = addr_at(version == 4 ? 30 : 38, version);
     put_word(ptr + 2, 0);
     put_word(ptr + 2, one_in(12) ? (unsigned)any() & 0xffff : 0xffffu - icmp_sum(&src, &dst, ptr, len));
     if (one_in(24))
-        put_word(ptr + 2, one_in(2) ? 0xffff : 0);
+        put_word(ptr + 2, one_in(2) ? 0xffff : one_in(2) ? 0 : pseudo_sum(&src, &dst, version == 4 ? 1 : 58, ptr, len, 0));
 }
 
 /* Sums what the fields say, as far as it is there. */

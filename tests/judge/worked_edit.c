@@ -196,6 +196,11 @@ static const struct {
     {{&syn, LOOKS_LEFT, ADDR, 1, "198.51.100.7", 0, {NEW_ADDR, {50, 0x1b}, {51, 0xfa}}}, LK_COMPLETE},
     {{&syn, LOOKS_LEFT, BYTES, 56, "04ec", 0, {{50, 0x84}, {51, 0xfa}, {56, 0x04}, {57, 0xec}}}, LK_COMPLETE},
     {{&echo_request, {{0, 0}}, BYTES, 38, "4321", 0, {{36, 0xb5}, {37, 0x06}, {38, 0x43}, {39, 0x21}}}, LK_OFFLOADED},
+    /* an ICMP checksum that is by chance the sum of a pseudo-header */
+    {{&echo_request, {{36, 0x84}, {37, 0x12}}, BYTES, 38, "4321", 0, {{36, 0xf6}, {37, 0xd4}, {38, 0x43}, {39, 0x21}}},
+     LK_GUESS},
+    {{&echo_request6, {{56, 0x5b}, {57, 0xbc}}, BYTES, 58, "4321", 0, {{56, 0xce}, {57, 0x7e}, {58, 0x43}, {59, 0x21}}},
+     LK_GUESS},
 };
 
 /* Makes the call of a row. */

@@ -295,6 +295,8 @@ static const struct flow {
     GOES(10, PSH, 2, 1024, 1, 80, 1024, 7440010),
     GOES(20, FIN, 2, 1024, 1, 80, 1024, 240020),
     GOES(30, PSH, 2, 1024, 1, 80, 1024, 240030),
+    GOES(40, ACK, 2, 1024, 1, 80, 1024, 240040),
+    GOES(50, PSH, 2, 1024, 1, 80, 1024, 240050),
     /* Neither another host nor the end of one of two connections ends the mapping. */
     BEGINS(1024, 3),
     GOES(0, SYN, 2, 1024, 1, 80, 1024, 240000),

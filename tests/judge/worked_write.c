@@ -259,10 +259,12 @@ static void frames(void)
            both_emit_arp_frame(&ipv4, out, cap));
 }
 
-/* A call writes `written` bytes with a payload of `most` bytes, and rejects one byte more. */
+/* A call writes `written` bytes with a payload of `most` bytes, if there is room, and rejects one byte more. */
 #define AT_MOST(most, written, call) \
     do { \
-        size_t len = (most); \
+        size_t len = (most), cap = 0; \
+        CHECK((call) == LK_NO_ROOM); \
+        cap = sizeof room; \
         CHECK((call) == (written)); \
         len++; \
         CHECK((call) == LK_PAYLOAD_TOO_LONG); \
@@ -273,7 +275,6 @@ static void frames(void)
 static void longest_packets(void)
 {
     static uint8_t zeros[65536], room[65536 + 80];
-    const size_t cap = sizeof room;
     struct lk_frame v4 = headers("192.0.2.1:5353", "198.51.100.7:53"),
                     v6 = headers("[2001:db8::1]:5353", "[2001:db8:ffff::7]:53");
     struct lk_tcp_options none, full;
