@@ -17,6 +17,8 @@ pub fn tcp_header_len(options: &TcpOptions) -> Option<usize>
     ensures some { MatchOption result (tcp_header_len options.now ≡ None) (λ len.
         (len ≡ options_header_len options.now) × (options.now.sack_range_count ≤ length options.now.sack_ranges) × (len ≤ 60)) }
 {
+    // Once one is read, the checker knows how many the struct has room for.
+    let _first = options.sack_ranges[0].left;
     if usize::from(options.sack_range_count) > SACK_BLOCKS {
         return None;
     }
