@@ -27,7 +27,7 @@ sum-apart xs bytes at first last even order inside room apart =
     (λ k a b. index-outside xs bytes at k room (place-apart at (length bytes) first last k apart a (omega (arith, order, b))))
     ∙ sym (total-range xs first last even order inside)
 
-word-is : (xs : List ℕ) (c : ℕ) → word_at xs c ≡ 256 * slice_index xs c + slice_index xs (c + 1)
+pub word-is : (xs : List ℕ) (c : ℕ) → word_at xs c ≡ 256 * slice_index xs c + slice_index xs (c + 1)
 word-is xs c =
     let high : get_or (drop c xs) 0 0 ≡ slice_index xs c = get_or-drop c xs 0 0 ∙ ap (slice_index xs) (omega arith) in
     let low : get_or (drop c xs) 1 0 ≡ slice_index xs (c + 1) = get_or-drop c xs 1 0 in

@@ -3,7 +3,7 @@
 ghost use Rattle.std.specs.Prelude.{◌≡◌, ◌≤◌, ◌<◌, ◌^◌, is_some, length, true};
 ghost use Rattle.std.specs.Option.{unwrap_or};
 ghost use Rattle.app_edit.specs.Edited.{addr_set, address_place, allows, bytes_set, dscp_set, edited, hop_limit_place, hop_limit_set, is_apart, keeps_carried, keeps_header, keeps_segment, port_place, port_set, takes_address, with_dscp};
-ghost use Rattle.app_edit.specs.Places.{Holds, carried_start};
+ghost use Rattle.app_edit.specs.Places.{Holds, carried_start, places_of};
 ghost use Rattle.ip_wire.specs.IpAddress.{address_bytes};
 
 use crate::offsets::{
@@ -21,6 +21,7 @@ use ip_wire::{IpAddress, IpProtocol, IpVersion, Ipv4PacketMut, Ipv6PacketMut};
 pub fn set_hop_limit(frame: &mut [u8], hop_limit: u8) -> bool
     ensures done { result ≡ is_some (hop_limit_set frame.old hop_limit) }
     ensures bytes { frame.new ≡ unwrap_or (hop_limit_set frame.old hop_limit) frame.old }
+    ensures places { places_of frame.new ≡ places_of frame.old }
 {
     let Some(places) = Places::of(frame) else {
         return false;
@@ -135,6 +136,7 @@ fn write_address(places: &Places, frame: &mut [u8], side: Side, addr: &IpAddress
 pub fn set_port(frame: &mut [u8], side: Side, port: u16, offload: Offload) -> bool
     ensures done { result ≡ is_some (port_set offload frame.old side port) }
     ensures bytes { frame.new ≡ unwrap_or (port_set offload frame.old side port) frame.old }
+    ensures places { places_of frame.new ≡ places_of frame.old }
 {
     let Some(places) = Places::of(frame) else {
         return false;
@@ -178,6 +180,7 @@ fn port_place(side: Side, carried: Carried) -> Option<usize>
 pub fn set_bytes(frame: &mut [u8], at: usize, bytes: &[u8], offload: Offload) -> bool
     ensures done { result ≡ is_some (bytes_set offload frame.old at bytes.now) }
     ensures bytes { frame.new ≡ unwrap_or (bytes_set offload frame.old at bytes.now) frame.old }
+    ensures places { places_of frame.new ≡ places_of frame.old }
 {
     if at > frame.len() || bytes.len() > frame.len() - at {
         return false;

@@ -1,9 +1,10 @@
 //! Laws of the edits, over the definitions of what they write. Sums are one's complement sums (RFC 1071).
 
-ghost use Rattle.std.specs.Prelude.{◌≡◌, ◌≢◌, ◌≤◌, ◌+◌, ◌%◌, ◌⊎◌, Some, drop, false, length, slice_range, true};
+ghost use Rattle.std.specs.Prelude.{◌≡◌, ◌≢◌, ◌≤◌, ◌+◌, ◌%◌, ◌⊎◌, Some, drop, false, length, slice_index, slice_range, true};
 ghost use Rattle.app_edit.specs.Edited.{allows, edited, is_left, pseudo_header_sum, segment_sum, word_at};
 ghost use Rattle.app_edit.specs.Filled.{filled};
 ghost use Rattle.app_edit.specs.Layout.{layout_of};
+ghost use Rattle.app_edit.specs.Outside.{IsOutside, OutsideHeaderChecksum, OutsideTransportChecksum};
 ghost use Rattle.app_edit.specs.Places.{checksum_place, places_of};
 ghost use Rattle.app_edit.specs.declared.places.Carried.TheVariants.{Segment as OfSegment};
 ghost use Rattle.app_edit.specs.declared.places.Places.{Places as PlacesOf};
@@ -69,6 +70,25 @@ pub fn layout_stays(frame: &[u8], at: usize, bytes: &[u8])
     requires { at + length bytes.now ≤ length frame.now }
     ensures { (o : OffloadOf) (p : PlacesOf) → places_of frame.now ≡ Some p → allows p at (at + length bytes.now) ≡ true
         → layout_of p.version (drop 14 (edited o p frame.now at bytes.now)) ≡ layout_of p.version (drop 14 frame.now) }
+{
+    let _ = Places::of(frame);
+}
+
+/// An edit of bytes that `set_bytes` may replace keeps all places in the frame.
+pub fn places_stay(frame: &[u8], at: usize, bytes: &[u8])
+    requires { at + length bytes.now ≤ length frame.now }
+    ensures { (o : OffloadOf) (p : PlacesOf) → places_of frame.now ≡ Some p → allows p at (at + length bytes.now) ≡ true
+        → places_of (edited o p frame.now at bytes.now) ≡ Some p }
+{
+    let _ = Places::of(frame);
+}
+
+/// An edit keeps byte `i`, if it is none of those that are replaced, and not in the checksum of an IPv4 header or of a
+/// transport packet.
+pub fn other_bytes_stay(frame: &[u8], at: usize, bytes: &[u8], i: usize)
+    requires { at + length bytes.now ≤ length frame.now }
+    ensures { (o : OffloadOf) (p : PlacesOf) → places_of frame.now ≡ Some p → IsOutside at (at + length bytes.now) i → OutsideHeaderChecksum p.version i
+        → OutsideTransportChecksum p.carried i → slice_index (edited o p frame.now at bytes.now) i ≡ slice_index frame.now i }
 {
     let _ = Places::of(frame);
 }

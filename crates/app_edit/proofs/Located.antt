@@ -1,0 +1,213 @@
+-- What locates the parts of a packet: frames with the same lengths, protocols and fragment fields have the same places.
+use Rattle.std.proofs.Common.{ℕ, ◌≡◌, ◌∙◌, ◌⊎◌, ◌+◌, ◌-◌, ◌/◌, ◌<◌, ◌≤◌, ◌==◌, ◌&&◌, Bool, List, None, Some, ap, arith, drop, false, if◌then◌else◌, inl, inr, length, length-drop, min, nat_le, nat_lt, not, refl, slice_index, subst, sym, true}
+use Rattle.std.proofs.lemmas.Bool.Decides.{nat_tests}
+use Rattle.std.proofs.lemmas.List.{get_or-drop}
+use Rattle.ip_wire.proofs.Readings.{if-Some}
+use Rattle.ip_wire.specs.Ethernet as ethernet
+use Rattle.ip_wire.specs.Field.{field}
+use Rattle.ip_wire.specs.Ipv4 as ipv4
+use Rattle.ip_wire.specs.Ipv6 as ipv6
+use Rattle.ip_wire.specs.Protocol.{protocol_of}
+use Rattle.ip_wire.specs.Types.{EthernetProtocol, IpProtocol, IpVersion}
+use Rattle.ip_wire.specs.declared.EthernetProtocol.TheVariants as ethertype
+use Rattle.ip_wire.specs.declared.IpProtocol.TheVariants as protocol
+use Rattle.ip_wire.specs.declared.IpVersion.TheVariants as version
+use Rattle.app_edit.specs.Places.{carried_by, datagram_at, datagram_len, fragment_carried, ipv4_carried, ipv4_places, ipv6_places, places_after, places_by, places_of}
+use Rattle.app_edit.specs.declared.places.Carried.{Carried}
+use Rattle.app_edit.specs.declared.places.Carried.TheVariants as carried
+use Rattle.app_edit.specs.declared.places.Places.{Places}
+
+-- ---- two frames that are the same where the parts of the packet are located
+
+-- the first byte of an IP header: the version, and the header length of IPv4
+abbrev pub SameFirst : IpVersion → ℕ → ℕ → Type 0
+SameFirst version.Ipv4 old new = new ≡ old
+SameFirst version.Ipv6 old new = new / 16 ≡ old / 16
+
+-- The bytes of the IP header after it: from the total length to the fragment offset and the protocol; from the payload
+-- length to the next header, and a fragment header.
+abbrev pub Locates : IpVersion → ℕ → ℕ → Type 0
+Locates version.Ipv4 start k = ((16 ≤ k) × (k < 22)) ⊎ (k ≡ 23)
+Locates version.Ipv6 start k = ((18 ≤ k) × (k < 21)) ⊎ ((54 ≤ k) × (k < start))
+
+pub record Same (p : Places) (xs ys : List ℕ) : Type 0 where
+  pub long : length ys ≡ length xs
+  pub link : (k : ℕ) → k < 14 → slice_index ys k ≡ slice_index xs k
+  pub first : SameFirst p.version (slice_index xs 14) (slice_index ys 14)
+  pub header : (k : ℕ) → Locates p.version p.start k → slice_index ys k ≡ slice_index xs k
+  pub datagram : (whole : Bool) → p.carried ≡ datagram_at xs p.start p.end whole → p.start + 8 ≤ p.end → datagram_len ys p.start ≡ datagram_len xs p.start
+
+-- ---- what the packet carries
+
+-- the length field of UDP, where it is used
+abbrev SameLength : List ℕ → List ℕ → ℕ → ℕ → Carried → Type 0
+SameLength xs ys start end c = (whole : Bool) → c ≡ datagram_at xs start end whole → start + 8 ≤ end → datagram_len ys start ≡ datagram_len xs start
+
+datagram-same : (b : Bool) (xs ys : List ℕ) (start end : ℕ) (whole : Bool) → nat_lt end (start + 8) ≡ b
+    → SameLength xs ys start end (if b then carried.Hidden else datagram_at xs start end whole)
+    → (if b then carried.Hidden else datagram_at ys start end whole) ≡ (if b then carried.Hidden else datagram_at xs start end whole)
+datagram-same true xs ys start end whole short same = refl
+datagram-same false xs ys start end whole short same =
+    let room : start + 8 ≤ end = grind (arith, nat_tests) in
+    let len = same whole refl room in
+    λ i. if nat_lt (len i) 8 then carried.Hidden
+    else carried.Segment (record { protocol = protocol.Udp; start = start; end = min end (start + len i); is_whole = whole && nat_le (start + len i) end })
+
+carried-same : (q : IpProtocol) (xs ys : List ℕ) (over_ipv4 : Bool) (start end : ℕ) (whole : Bool) → SameLength xs ys start end (carried_by xs over_ipv4 q start end whole)
+    → carried_by ys over_ipv4 q start end whole ≡ carried_by xs over_ipv4 q start end whole
+carried-same protocol.Udp xs ys over_ipv4 start end whole same = datagram-same (nat_lt end (start + 8)) xs ys start end whole refl same
+carried-same protocol.Tcp xs ys over_ipv4 start end whole same = refl
+carried-same protocol.Icmp xs ys over_ipv4 start end whole same = refl
+carried-same protocol.Icmpv6 xs ys over_ipv4 start end whole same = refl
+carried-same protocol.HopByHop xs ys over_ipv4 start end whole same = refl
+carried-same protocol.Igmp xs ys over_ipv4 start end whole same = refl
+carried-same protocol.Ipv6Route xs ys over_ipv4 start end whole same = refl
+carried-same protocol.Ipv6Frag xs ys over_ipv4 start end whole same = refl
+carried-same protocol.IpSecEsp xs ys over_ipv4 start end whole same = refl
+carried-same protocol.IpSecAh xs ys over_ipv4 start end whole same = refl
+carried-same protocol.Ipv6NoNxt xs ys over_ipv4 start end whole same = refl
+carried-same protocol.Ipv6Opts xs ys over_ipv4 start end whole same = refl
+carried-same (protocol.Unknown n) xs ys over_ipv4 start end whole same = refl
+
+-- also in a fragment
+first-same : (first : Bool) (q : IpProtocol) (xs ys : List ℕ) (over_ipv4 : Bool) (start end : ℕ) (whole : Bool)
+    → SameLength xs ys start end (if first then carried_by xs over_ipv4 q start end whole else carried.Fragment)
+    → (if first then carried_by ys over_ipv4 q start end whole else carried.Fragment) ≡ (if first then carried_by xs over_ipv4 q start end whole else carried.Fragment)
+first-same true q xs ys over_ipv4 start end whole same = carried-same q xs ys over_ipv4 start end whole same
+first-same false q xs ys over_ipv4 start end whole same = refl
+
+-- ---- the places
+
+-- byte k after the first n
+index-same : (xs ys : List ℕ) (n k : ℕ) → slice_index ys (n + k) ≡ slice_index xs (n + k) → slice_index (drop n ys) k ≡ slice_index (drop n xs) k
+index-same xs ys n k same = get_or-drop n ys k 0 ∙ same ∙ sym (get_or-drop n xs k 0)
+
+-- the places of an IPv4 packet, if it parses
+abbrev of_ipv4 : List ℕ → Places
+of_ipv4 xs =
+    let bytes = drop 14 xs in
+    let start = 14 + ipv4.header_len bytes in
+    let end = 14 + ipv4.total_len bytes in
+    record { version = version.Ipv4; start = start; end = end; carried = ipv4_carried xs start end }
+
+ipv4-same : (xs ys : List ℕ) → Same (of_ipv4 xs) xs ys → ipv4_places ys ≡ ipv4_places xs
+ipv4-same xs ys s =
+    let b0 = index-same xs ys 14 0 s.first in
+    let b2 = index-same xs ys 14 2 (s.header 16 (inl (omega arith, omega arith))) in
+    let b3 = index-same xs ys 14 3 (s.header 17 (inl (omega arith, omega arith))) in
+    let b6 = index-same xs ys 14 6 (s.header 20 (inl (omega arith, omega arith))) in
+    let b7 = index-same xs ys 14 7 (s.header 21 (inl (omega arith, omega arith))) in
+    let b9 = index-same xs ys 14 9 (s.header 23 (inr refl)) in
+    let header : ipv4.header_len (drop 14 ys) ≡ ipv4.header_len (drop 14 xs) = omega (arith, b0) in
+    let total : ipv4.total_len (drop 14 ys) ≡ ipv4.total_len (drop 14 xs) = omega (arith, b2, b3) in
+    let four : ipv4.ip_version_of (drop 14 ys) ≡ ipv4.ip_version_of (drop 14 xs) = omega (arith, b0) in
+    let offset : ipv4.fragment_offset (drop 14 ys) ≡ ipv4.fragment_offset (drop 14 xs) = omega (arith, b6, b7) in
+    let more : field (drop 14 ys) 50 1 ≡ field (drop 14 xs) 50 1 = omega (arith, b6) in
+    let number : field (drop 14 ys) 72 8 ≡ field (drop 14 xs) 72 8 = omega (arith, b9) in
+    let long : length (drop 14 ys) ≡ length (drop 14 xs) = length-drop 14 ys ∙ ap (λ k. k - 14) s.long ∙ sym (length-drop 14 xs) in
+    let inner = (λ i. if offset i == 0
+    then carried_by ys true (protocol_of (number i)) (14 + header i) (14 + total i) (not (more i == 1))
+    else carried.Fragment)
+    ∙ first-same (ipv4.fragment_offset (drop 14 xs) == 0) (protocol_of (field (drop 14 xs) 72 8)) xs ys true (14 + ipv4.header_len (drop 14 xs)) (14 + ipv4.total_len (drop 14 xs))
+    (not (field (drop 14 xs) 50 1 == 1)) s.datagram
+    in
+    λ i. if (nat_le 20 (long i) && nat_le 20 (header i) && nat_le (header i) (total i) && nat_le (total i) (long i)) && four i == 4 && true
+    then Some (record { version = version.Ipv4; start = 14 + header i; end = 14 + total i; carried = inner i })
+    else None
+
+-- those of an IPv6 packet with the next header of a fragment header, if there is one
+abbrev before_fragment : Bool → List ℕ → ℕ → Places
+before_fragment b xs len =
+    if b then record { version = version.Ipv6; start = 62; end = 14 + len; carried = fragment_carried xs (14 + len) }
+    else record { version = version.Ipv6; start = 54; end = 14 + len; carried = carried_by xs false protocol.Ipv6Frag 54 (14 + len) true }
+
+fragment-same : (b : Bool) (xs ys : List ℕ) (len : ℕ) → Same (before_fragment b xs len) xs ys → before_fragment b ys len ≡ before_fragment b xs len
+fragment-same false xs ys len s = refl
+fragment-same true xs ys len s =
+    let next = s.header 54 (inr (omega arith, omega arith)) in
+    let high = index-same xs ys 56 0 (s.header 56 (inr (omega arith, omega arith))) in
+    let low = index-same xs ys 56 1 (s.header 57 (inr (omega arith, omega arith))) in
+    let offset : field (drop 56 ys) 0 13 ≡ field (drop 56 xs) 0 13 = omega (arith, high, low) in
+    let more : field (drop 56 ys) 15 1 ≡ field (drop 56 xs) 15 1 = omega (arith, low) in
+    let inner = (λ i. if offset i == 0 then carried_by ys false (protocol_of (next i)) 62 (14 + len) (not (more i == 1)) else carried.Fragment)
+    ∙ first-same (field (drop 56 xs) 0 13 == 0) (protocol_of (slice_index xs 54)) xs ys false 62 (14 + len) (not (field (drop 56 xs) 15 1 == 1)) s.datagram
+    in
+    λ i. record { version = version.Ipv6; start = 62; end = 14 + len; carried = inner i }
+
+after-same : (q : IpProtocol) (xs ys : List ℕ) (len : ℕ) → Same (places_after xs q len) xs ys → places_after ys q len ≡ places_after xs q len
+after-same protocol.Udp xs ys len s =
+    let inner = carried-same protocol.Udp xs ys false 54 (14 + len) true s.datagram in λ i. record { version = version.Ipv6; start = 54; end = 14 + len; carried = inner i }
+after-same protocol.Ipv6Frag xs ys len s = fragment-same (nat_le 48 len) xs ys len s
+after-same protocol.Tcp xs ys len s = refl
+after-same protocol.Icmp xs ys len s = refl
+after-same protocol.Icmpv6 xs ys len s = refl
+after-same protocol.HopByHop xs ys len s = refl
+after-same protocol.Igmp xs ys len s = refl
+after-same protocol.Ipv6Route xs ys len s = refl
+after-same protocol.IpSecEsp xs ys len s = refl
+after-same protocol.IpSecAh xs ys len s = refl
+after-same protocol.Ipv6NoNxt xs ys len s = refl
+after-same protocol.Ipv6Opts xs ys len s = refl
+after-same (protocol.Unknown n) xs ys len s = refl
+
+-- the version of the places of an IPv6 packet
+after-version : (q : IpProtocol) (xs : List ℕ) (len : ℕ) → (places_after xs q len).version ≡ version.Ipv6
+after-version protocol.Ipv6Frag xs len = by-test (nat_le 48 len)
+  where
+    by-test : (b : Bool) → (before_fragment b xs len).version ≡ version.Ipv6
+    by-test true = refl
+    by-test false = refl
+after-version protocol.Udp xs len = refl
+after-version protocol.Tcp xs len = refl
+after-version protocol.Icmp xs len = refl
+after-version protocol.Icmpv6 xs len = refl
+after-version protocol.HopByHop xs len = refl
+after-version protocol.Igmp xs len = refl
+after-version protocol.Ipv6Route xs len = refl
+after-version protocol.IpSecEsp xs len = refl
+after-version protocol.IpSecAh xs len = refl
+after-version protocol.Ipv6NoNxt xs len = refl
+after-version protocol.Ipv6Opts xs len = refl
+after-version (protocol.Unknown n) xs len = refl
+
+ipv6-same : (xs ys : List ℕ) → Same (places_after xs (protocol_of (field (drop 14 xs) 48 8)) (ipv6.total_len (drop 14 xs))) xs ys → ipv6_places ys ≡ ipv6_places xs
+ipv6-same xs ys s =
+    let q = protocol_of (field (drop 14 xs) 48 8) in
+    let len = ipv6.total_len (drop 14 xs) in
+    let start = (places_after xs q len).start in
+    let is = after-version q xs len in
+    let first : slice_index ys 14 / 16 ≡ slice_index xs 14 / 16 = subst (λ (v : IpVersion). SameFirst v (slice_index xs 14) (slice_index ys 14)) is s.first in
+    let located : (k : ℕ) → 18 ≤ k → k < 21 → slice_index ys k ≡ slice_index xs k =
+    λ k a b. s.header k (subst (λ (v : IpVersion). Locates v start k) (sym is) (inl (a, b)))
+    in
+    let b0 : slice_index (drop 14 ys) 0 / 16 ≡ slice_index (drop 14 xs) 0 / 16 = ap (λ n. n / 16) (get_or-drop 14 ys 0 0) ∙ first ∙ sym (ap (λ n. n / 16) (get_or-drop 14 xs 0 0)) in
+    let b4 = index-same xs ys 14 4 (located 18 (omega arith) (omega arith)) in
+    let b5 = index-same xs ys 14 5 (located 19 (omega arith) (omega arith)) in
+    let b6 = index-same xs ys 14 6 (located 20 (omega arith) (omega arith)) in
+    let total : ipv6.total_len (drop 14 ys) ≡ ipv6.total_len (drop 14 xs) = omega (arith, b4, b5) in
+    let six : ipv6.ip_version_of (drop 14 ys) ≡ ipv6.ip_version_of (drop 14 xs) = omega (arith, b0) in
+    let next : field (drop 14 ys) 48 8 ≡ field (drop 14 xs) 48 8 = omega (arith, b6) in
+    let long : length (drop 14 ys) ≡ length (drop 14 xs) = length-drop 14 ys ∙ ap (λ k. k - 14) s.long ∙ sym (length-drop 14 xs) in
+    (λ i. if nat_le (total i) (long i) && six i == 6 then Some (places_after ys (protocol_of (next i)) (total i)) else None)
+    ∙ ap (λ (v : Places). if ipv6.is_read (drop 14 xs) then Some v else None) (after-same q xs ys len s)
+
+by-type : (e : EthernetProtocol) (xs ys : List ℕ) (p : Places) → places_by e xs ≡ Some p → Same p xs ys → places_by e ys ≡ Some p
+by-type ethertype.Ipv4 xs ys p is s =
+    ipv4-same xs ys (subst (λ (v : Places). Same v xs ys) (sym ((if-Some (ipv4.is_read false (drop 14 xs)) (of_ipv4 xs) p).0 is).1) s) ∙ is
+by-type ethertype.Ipv6 xs ys p is s =
+    let v = places_after xs (protocol_of (field (drop 14 xs) 48 8)) (ipv6.total_len (drop 14 xs)) in
+    ipv6-same xs ys (subst (λ (w : Places). Same w xs ys) (sym ((if-Some (ipv6.is_read (drop 14 xs)) v p).0 is).1) s) ∙ is
+by-type ethertype.Arp xs ys p is s = is
+by-type (ethertype.Unknown n) xs ys p is s = is
+
+in-length : (b : Bool) (e : EthernetProtocol) (xs ys : List ℕ) (p : Places) → (if b then None else places_by e xs) ≡ Some p → Same p xs ys
+    → (if b then None else places_by e ys) ≡ Some p
+in-length true e xs ys p is s = is
+in-length false e xs ys p is s = by-type e xs ys p is s
+
+pub places-same : (xs ys : List ℕ) (p : Places) → places_of xs ≡ Some p → Same p xs ys → places_of ys ≡ Some p
+unfolding places_of
+places-same xs ys p is s =
+    let type : field ys 96 16 ≡ field xs 96 16 = omega (arith, s.link 12 (omega arith), s.link 13 (omega arith)) in
+    (λ i. if nat_lt (s.long i) 14 then None else places_by (ethernet.protocol_of (type i)) ys)
+    ∙ in-length (nat_lt (length xs) 14) (ethernet.protocol_of (field xs 96 16)) xs ys p is s
