@@ -1,6 +1,6 @@
 //! The ICMP errors of a router (RFC 1812, section 5.2.7; RFC 4443, section 3).
 
-ghost use Rattle.std.specs.Prelude.{◌≡◌, ◌↔◌, IsTrue, true};
+ghost use Rattle.std.specs.Prelude.{◌≡◌, ◌↔◌, IfSome, IsTrue, true};
 ghost use Rattle.app_router.specs.IcmpProblem.{HasProblem, IsTooLong, Tells, message_of};
 ghost use Rattle.app_host.specs.Message.{Gives};
 ghost use Rattle.ip_wire.specs.Ip.{Reads};
@@ -31,7 +31,8 @@ pub enum Problem {
 /// far as its bytes show that, and if `icmp_error::error` returns `None`. A router limits how many it sends
 /// (RFC 1812, section 4.3.2.8; RFC 4443, section 2.4 f); this call does not.
 pub fn error<'a>(frame: &'a [u8], ours: &Interface, problem: Problem) -> Option<MessageFrame<'a>>
-    ensures { Gives (Tells ours.now frame.now problem) result }
+    ensures error { Gives (Tells ours.now frame.now problem) result }
+    ensures unmarked { IfSome result (λ error. error.dscp ≡ 0) }
 {
     if frame.len() < ETHERNET_HEADER_LEN {
         return None;
