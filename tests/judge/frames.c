@@ -429,7 +429,9 @@ static void sum_icmp(uint8_t *ptr, size_t len, unsigned version)
     put_word(ptr + 2, 0);
     put_word(ptr + 2, one_in(12) ? (unsigned)any() & 0xffff : 0xffffu - icmp_sum(&src, &dst, ptr, len));
     if (one_in(24))
-        put_word(ptr + 2, one_in(2) ? 0xffff : one_in(2) ? 0 : pseudo_sum(&src, &dst, version == 4 ? 1 : 58, ptr, len, 0));
+        put_word(ptr + 2, one_in(2) ? 0xffff : 0);
+    if (one_in(48))
+        put_word(ptr + 2, pseudo_sum(&src, &dst, version == 4 ? 1 : 58, ptr, len, 0));
 }
 
 /* Sums what the fields say, as far as it is there. */

@@ -418,7 +418,7 @@ static void rejects_packets(void)
     }
 }
 
-/* ---- packets of which the first bytes were captured: lengths that are wrong whatever follows (RFC 791, section 3.1) ---- */
+/* ---- the first bytes of packets: lengths that are wrong whatever follows (RFC 791, section 3.1) ---- */
 
 static const struct {
     const char *hex; /* the front of a packet */
