@@ -5,7 +5,7 @@ use Rattle.std.proofs.lemmas.Grind.{common_steps}
 use Rattle.std.proofs.lemmas.Option.{none-some}
 use Rattle.std.specs.Option.{option_and_then, option_map}
 use Rattle.ip_wire.specs.Types.{IpAddress, IpRepr}
-use Rattle.wire_field.specs.Filled as filled
+use Rattle.net_base.specs.Filled as filled
 use Rattle.wire_icmp.specs.Icmp.{emitted}
 use Rattle.wire_icmp.specs.declared.icmp.header.IcmpHeader.{IcmpHeader}
 use Rattle.c_structs.specs.Addresses.{pair_of}

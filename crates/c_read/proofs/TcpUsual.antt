@@ -2,8 +2,8 @@
 use Rattle.std.proofs.Common.{◌≡◌, ◌≤◌, ◌⊎◌, inl, inr, false, List, ℕ, [], ◌∷◌, Some, arith, length}
 use Rattle.ip_wire.specs.TcpRepr.{tcp_of}
 use Rattle.wire_addr.specs.declared.ip_address.IpAddress.{IpAddress}
-use Rattle.wire_field.proofs.Spelled.{AreBytes}
-use Rattle.wire_field.specs.Field.{field}
+use Rattle.net_base.proofs.Spelled.{AreBytes}
+use Rattle.net_base.specs.Field.{field}
 use Rattle.wire_tcp.proofs.TcpComputed.{reads-with, tcp_of-Reads}
 use Rattle.wire_tcp.specs.Tcp.{HasLengths, options_of}
 use Rattle.wire_tcp.specs.TcpRepr.{HasControl, TcpHeader, header_with}

@@ -23,7 +23,7 @@ use ip_wire::{
     EthernetProtocol, IPV6_HEADER_LEN, IpAddress, IpProtocol, Ipv4Address, Ipv4Packet, Ipv4Repr,
     Ipv6FragmentHeader, Ipv6Packet, Ipv6Repr,
 };
-use wire_field::array_at;
+use net_base::array_at;
 
 // The byte of the EtherType in an Ethernet header.
 const ETHERTYPE: usize = 12;

@@ -9,7 +9,7 @@ use crate::captured::{reject_cut, store_cut_arp, store_cut_ipv4, store_cut_ipv6}
 use crate::frame_fields::{reject, step_after, store_arp, store_ipv4, store_ipv6};
 use c_structs::{Ethernet, FrameFields, Reason};
 use ip_wire::EthernetProtocol;
-use wire_field::array_at;
+use net_base::array_at;
 use wire_link::{Link, LinkFault, LinkType};
 
 /// Stores the link-layer header that captured bytes begin with, and returns 0. Returns why there is none, and

@@ -1,7 +1,7 @@
 -- The options of a TCP header with two bytes of no operation before a timestamp.
 use Rattle.std.proofs.Common.{ℕ, ◌≡◌, ◌∙◌, ◌≤◌, ◌++◌, List, [], ◌∷◌, ap, arith, length, refl, slice_index, slice_range}
-use Rattle.wire_field.proofs.Cells.{cells-drop}
-use Rattle.wire_field.proofs.Spelled.{AreBytes}
+use Rattle.net_base.proofs.Cells.{cells-drop}
+use Rattle.net_base.proofs.Spelled.{AreBytes}
 use Rattle.wire_tcp.specs.Tcp.{options_of}
 use Rattle.wire_tcp_options.proofs.Items.{IsItem_bare}
 use Rattle.wire_tcp_options.specs.TcpItems.{IsOptionList, Item, item}

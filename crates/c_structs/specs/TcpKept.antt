@@ -16,4 +16,3 @@ pub record HasPaddedStamp (bytes : List ℕ) : Type 0 where
   pub whole : 32 ≤ length bytes
   pub size : header_len bytes ≡ 32
   pub kinds : field bytes 160 32 ≡ 0x0101080a
-

@@ -8,8 +8,8 @@ use Rattle.ip_wire.specs.Field.{field}
 use Rattle.ip_wire.specs.Frame.{rebuilt_payload}
 use Rattle.ip_wire.specs.declared.ArpRepr.{ArpRepr}
 use Rattle.ip_wire.specs.declared.EthernetProtocol.TheVariants.{Arp}
-use Rattle.wire_field.proofs.Cells.{cells-drop}
-use Rattle.wire_field.proofs.Spelled.{AreBytes}
+use Rattle.net_base.proofs.Cells.{cells-drop}
+use Rattle.net_base.proofs.Spelled.{AreBytes}
 use Rattle.c_write.proofs.Spelled.{pair}
 
 bytes_of-value : (bytes : List ℕ) (v : ArpRepr) → AreBytes bytes → Reads bytes v → bytes_of (value_of bytes) ≡ take 28 bytes

@@ -8,8 +8,8 @@ use Rattle.ip_wire.specs.Field.{field}
 use Rattle.ip_wire.specs.Frame.{rebuilt, rebuilt_payload}
 use Rattle.wire_ethernet.proofs.EthernetComputed.{ethernet_of-whole}
 use Rattle.wire_ethernet.proofs.EthernetNormal.{number_of-protocol_of}
-use Rattle.wire_field.proofs.Cells.{cells-drop}
-use Rattle.wire_field.proofs.Spelled.{AreBytes}
+use Rattle.net_base.proofs.Cells.{cells-drop}
+use Rattle.net_base.proofs.Spelled.{AreBytes}
 use Rattle.c_write.specs.Frames.{rebuilt_of}
 use Rattle.c_write.specs.Headers.{only_if}
 use Rattle.c_structs.specs.Written.{Fills}

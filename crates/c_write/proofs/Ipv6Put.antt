@@ -5,8 +5,8 @@ use Rattle.ip_wire.specs.Ip.{bytes_of, with_payload_len}
 use Rattle.ip_wire.specs.Ipv6.{header_of}
 use Rattle.ip_wire.specs.Types.{Ipv6}
 use Rattle.wire_addr.proofs.Protocols.{number_of-protocol_of}
-use Rattle.wire_field.proofs.Cells.{cells-drop}
-use Rattle.wire_field.proofs.Spelled.{AreBytes}
+use Rattle.net_base.proofs.Cells.{cells-drop}
+use Rattle.net_base.proofs.Spelled.{AreBytes}
 
 pub put-ipv6 : (bytes old : List ℕ) (n : ℕ) → AreBytes bytes → 40 ≤ length bytes → 40 ≤ length old
     → with_range (0x60 ∷ 0 ∷ 0 ∷ 0 ∷ n / 256 % 256 ∷ n % 256 ∷ slice_index bytes 6 ∷ slice_index bytes 7 ∷ drop 8 old) 8 (8 + length (slice_range bytes 8 40)) (slice_range bytes 8 40)

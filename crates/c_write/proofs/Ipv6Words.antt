@@ -5,7 +5,7 @@ use Rattle.ip_wire.specs.Ipv6.{bytes_of}
 use Rattle.ip_wire.specs.Protocol.{number_of}
 use Rattle.ip_wire.specs.declared.Ipv6Repr.{Ipv6Repr}
 use Rattle.wire_addr.specs.Bytes.{IsByteArray}
-use Rattle.wire_field.proofs.Cells.{cells-all}
+use Rattle.net_base.proofs.Cells.{cells-all}
 use Rattle.c_write.proofs.Spelled.{octuple}
 use Rattle.c_write.specs.Headers.{with_ipv6_fields}
 use Rattle.c_structs.specs.declared.types.Ip.{Ip}

@@ -11,8 +11,8 @@ use Rattle.wire_checksum.specs.WordSum.{residue, words}
 use Rattle.wire_addr.specs.IpAddress.{address_bytes}
 use Rattle.wire_addr.specs.declared.ip_address.IpAddress.{IpAddress}
 use Rattle.wire_addr.specs.declared.ip_protocol.IpProtocol.TheVariants as protocol
-use Rattle.wire_field.specs.Field.{with_field}
-use Rattle.wire_field.specs.Filled as filled
+use Rattle.net_base.specs.Field.{with_field}
+use Rattle.net_base.specs.Filled as filled
 use Rattle.wire_tcp.proofs.Sums.{field-word}
 use Rattle.wire_tcp.proofs.TcpEmitted.{length-header_bytes}
 use Rattle.wire_tcp.specs.Tcp.{header_len, segment_sum}

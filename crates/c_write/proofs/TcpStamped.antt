@@ -12,9 +12,9 @@ use Rattle.wire_checksum.specs.PseudoHeader.{with_pseudo_header}
 use Rattle.wire_checksum.specs.WordSum.{residue, updated, words}
 use Rattle.wire_addr.specs.declared.ip_address.IpAddress.{IpAddress}
 use Rattle.wire_addr.specs.declared.ip_protocol.IpProtocol.TheVariants as protocol
-use Rattle.wire_field.proofs.Cells.{cells-drop}
-use Rattle.wire_field.proofs.Spelled.{AreBytes}
-use Rattle.wire_field.specs.Field.{field, with_range}
+use Rattle.net_base.proofs.Cells.{cells-drop}
+use Rattle.net_base.proofs.Spelled.{AreBytes}
+use Rattle.net_base.specs.Field.{field, with_range}
 use Rattle.wire_tcp.proofs.Sums.{field-word}
 use Rattle.wire_tcp.proofs.TcpComputed.{reads-with, tcp_of-Reads}
 use Rattle.wire_tcp.specs.Tcp.{Verifies, options_of, payload_of, segment_sum}

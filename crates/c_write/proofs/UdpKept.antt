@@ -12,9 +12,9 @@ use Rattle.wire_checksum.specs.WordSum.{residue, words}
 use Rattle.wire_addr.specs.IpAddress.{address_bytes}
 use Rattle.wire_addr.specs.declared.ip_address.IpAddress.{IpAddress}
 use Rattle.wire_addr.specs.declared.ip_protocol.IpProtocol.TheVariants as protocol
-use Rattle.wire_field.proofs.Cells.{cells-drop}
-use Rattle.wire_field.proofs.Spelled.{AreBytes}
-use Rattle.wire_field.specs.Field.{field}
+use Rattle.net_base.proofs.Cells.{cells-drop}
+use Rattle.net_base.proofs.Spelled.{AreBytes}
+use Rattle.net_base.specs.Field.{field}
 use Rattle.wire_udp.proofs.UdpComputed.{Reads-is, udp_of-Reads}
 use Rattle.wire_udp.proofs.UdpReadsBack.{checksum_for-cases}
 use Rattle.wire_udp.specs.Udp.{HasLengths, Reads, bytes_of, checksum_for, header_bytes, header_of, packet_len, packet_sum, packet_with, payload_of, udp_of}

@@ -10,7 +10,7 @@ use crate::tcp::wrap_segment;
 use crate::tcp_len::segment_header_len;
 use c_structs::{Endpoint, Tcp, TcpOptions};
 use ip_wire::{ChecksumCapabilities, IpAddress, UDP_MAX_PAYLOAD_LEN, UdpRepr};
-use wire_field::write_at;
+use net_base::write_at;
 
 /// Writes a UDP packet to the front of `out` and returns its length. `None` if it does not fit, or if there is an
 /// `udp_failure`.

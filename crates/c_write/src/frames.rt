@@ -16,7 +16,7 @@ use ip_wire::{
     ETHERNET_HEADER_LEN, EthernetAddress, EthernetFrameMut, EthernetProtocol, EthernetRepr, IpRepr,
     UDP_HEADER_LEN, UDP_MAX_PAYLOAD_LEN, UdpRepr,
 };
-use wire_field::write_at;
+use net_base::write_at;
 
 // The protocols of IP.
 const TCP: u8 = 6;

@@ -21,7 +21,7 @@ use ip_wire::{
     IPV4_HEADER_LEN, IPV6_HEADER_LEN, IpAddress, IpProtocol, IpRepr, Ipv4Packet, Ipv4Repr,
     Ipv6Packet, Ipv6Repr, TcpPacket, TcpRepr, UDP_HEADER_LEN, UdpPacket, UdpRepr,
 };
-use wire_field::{array_at, try_copy, write_at, write_front};
+use net_base::{array_at, try_copy, write_at, write_front};
 
 // The length of an ARP packet for Ethernet and IPv4.
 const ARP_LEN: usize = 28;

@@ -10,7 +10,7 @@ ghost use Rattle.c_write.specs.TcpKept.{IsAck, IsPlain, IsSound, with_stamp_firs
 use byteorder::{ByteOrder, NetworkEndian};
 use c_structs::{has_padded_stamp, has_stamp};
 use ip_wire::{IpAddress, TCP_HEADER_LEN, TcpPacket, TcpPacketMut, checksum};
-use wire_field::{try_copy, write_at};
+use net_base::{try_copy, write_at};
 
 // No sum has this complement.
 const NO_CHECKSUM: u16 = 0xffff;

@@ -1,10 +1,10 @@
 -- An ARP packet that is read, written again.
 use Rattle.std.proofs.Common.{ℕ, inl, ◌≡◌, ◌^◌, ◌<◌, List, [], Some, length, refl, sym, ap, subst, append-nil, arith}
 use Rattle.ip_wire.proofs.Layers.{IsLeaf, length-part}
-use Rattle.wire_field.proofs.ByteLists.{AreBytes-append, AreBytes-bytes_high_first, AreBytes-slice_range, AreBytes-tested}
-use Rattle.wire_field.proofs.Cells.{cells-all}
-use Rattle.wire_field.proofs.Spelled.{AreBytes}
-use Rattle.wire_field.specs.Field.{field}
+use Rattle.net_base.proofs.ByteLists.{AreBytes-append, AreBytes-bytes_high_first, AreBytes-slice_range, AreBytes-tested}
+use Rattle.net_base.proofs.Cells.{cells-all}
+use Rattle.net_base.proofs.Spelled.{AreBytes}
+use Rattle.net_base.specs.Field.{field}
 use Rattle.wire_arp.proofs.ArpComputed.{arp_of-Reads}
 use Rattle.wire_arp.proofs.ArpEmitted.{IsInRange, reads_bytes_of}
 use Rattle.wire_arp.proofs.ArpNormal.{normal_read, operation_number-of}

@@ -12,10 +12,10 @@ use Rattle.wire_addr.proofs.Protocols.{number_of-protocol_of}
 use Rattle.wire_addr.specs.Protocol.{number_of}
 use Rattle.ip_wire.specs.Types.{EthernetProtocol, IpRepr, Ipv4, Ipv4Repr, Ipv6, Ipv6Repr}
 use Rattle.wire_addr.specs.declared.IpVersion.TheVariants as version
-use Rattle.wire_field.proofs.ByteLists.{AreBytes-append, AreBytes-cons, AreBytes-part, AreBytes-slice_range}
-use Rattle.wire_field.proofs.Cells.{cells-all}
-use Rattle.wire_field.proofs.Spelled.{AreBytes}
-use Rattle.wire_field.specs.Field.{field}
+use Rattle.net_base.proofs.ByteLists.{AreBytes-append, AreBytes-cons, AreBytes-part, AreBytes-slice_range}
+use Rattle.net_base.proofs.Cells.{cells-all}
+use Rattle.net_base.proofs.Spelled.{AreBytes}
+use Rattle.net_base.specs.Field.{field}
 use Rattle.wire_ip.proofs.IpReadsBack.{IsInRange}
 use Rattle.wire_ip.specs.Ip.{bytes_of, dst_addr_of, header_len_of, normal, payload_len_of, src_addr_of, version_of, with_payload_len}
 use Rattle.wire_ipv4.proofs.Ipv4Normal as ipv4_normal

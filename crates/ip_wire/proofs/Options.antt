@@ -1,7 +1,7 @@
 -- Options, and what is read into them.
 use Rattle.std.proofs.Common.{◌≡◌, ◌∙◌, Bool, IsSome, true, false, is_some, Option, Some, None, refl, sym, ap, if◌then◌else◌}
 use Rattle.std.specs.Option.{option_and_then, option_map}
-pub use Rattle.wire_field.proofs.Readings.{none_of, option_map-Some}
+pub use Rattle.net_base.proofs.Readings.{none_of, option_map-Some}
 
 -- a value that an option has
 pub value : {A : Type 0} (o : Option A) → IsSome o → (a : A) × (o ≡ Some a)

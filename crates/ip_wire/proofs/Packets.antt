@@ -14,7 +14,7 @@ use Rattle.ip_wire.specs.declared.frame.packet.Packet.{Packet}
 use Rattle.ip_wire.specs.declared.frame.transport.Transport as inner
 use Rattle.net_base.specs.declared.ChecksumCapabilities.{ChecksumCapabilities}
 use Rattle.wire_addr.specs.IpVersion.{IsOfVersion}
-use Rattle.wire_field.proofs.Spelled.{AreBytes}
+use Rattle.net_base.proofs.Spelled.{AreBytes}
 use Rattle.wire_ip.specs.Ip.{version_of}
 
 packet-in : (d : EthernetRepr × Carried) (link : EthernetRepr) (v : IpRepr) (t : Transport) → packet_in d ≡ Some (link, v, t) → d ≡ (link, packet v t)

@@ -6,8 +6,8 @@ use Rattle.std.proofs.lemmas.List.Sums.{count_by-le-length}
 use Rattle.std.specs.Int.{bytes_high_first}
 use Rattle.std.specs.Prelude.{replicate}
 use Rattle.ip_wire.proofs.Layers.{byte-lt}
-use Rattle.wire_field.proofs.ByteLists.{AreBytes-append, AreBytes-bytes_high_first, AreBytes-cons, AreBytes-tested}
-use Rattle.wire_field.proofs.Spelled.{AreBytes}
+use Rattle.net_base.proofs.ByteLists.{AreBytes-append, AreBytes-bytes_high_first, AreBytes-cons, AreBytes-tested}
+use Rattle.net_base.proofs.Spelled.{AreBytes}
 use Rattle.wire_tcp_options.proofs.Ranges.{length-range_bytes}
 use Rattle.wire_tcp_options.specs.TcpItems.{Item, item, text, texts}
 use Rattle.wire_tcp_options.specs.TcpOption.{range_bytes}

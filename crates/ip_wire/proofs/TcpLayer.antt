@@ -5,8 +5,8 @@ use Rattle.ip_wire.proofs.UdpLayer.{AreWords}
 use Rattle.ip_wire.specs.Frame.{rebuilt_transport_by}
 use Rattle.wire_addr.specs.declared.IpAddress.{IpAddress}
 use Rattle.wire_addr.specs.declared.IpProtocol.TheVariants as protocol
-use Rattle.wire_field.proofs.ByteLists.{AreBytes-drop}
-use Rattle.wire_field.proofs.Spelled.{AreBytes}
+use Rattle.net_base.proofs.ByteLists.{AreBytes-drop}
+use Rattle.net_base.proofs.Spelled.{AreBytes}
 use Rattle.wire_tcp.specs.Tcp.{header_len, payload_of, segment_sum}
 use Rattle.wire_tcp.proofs.TcpEmitted.{length-header_bytes}
 use Rattle.wire_tcp.proofs.TcpForms.{Reads-IsInRange, Reads-IsWritable, normal_or_shorter}

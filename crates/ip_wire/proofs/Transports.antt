@@ -10,7 +10,7 @@ use Rattle.ip_wire.specs.Frame.{ReadsTransportBy, Transport, all_checked, datagr
 use Rattle.ip_wire.specs.Types.{IpAddress, IpProtocol}
 use Rattle.net_base.specs.Checksum.{computes, verifies}
 use Rattle.net_base.specs.declared.ChecksumCapabilities.{ChecksumCapabilities}
-use Rattle.wire_field.proofs.Spelled.{AreBytes}
+use Rattle.net_base.proofs.Spelled.{AreBytes}
 use Rattle.wire_tcp.proofs.OptionLens.{header_len-read}
 use Rattle.wire_tcp.proofs.OptionsBack.{twice}
 use Rattle.wire_tcp.specs.Tcp as tcp_bytes

@@ -5,8 +5,8 @@ use Rattle.ip_wire.specs.Frame.{rebuilt_transport_by}
 use Rattle.ip_wire.specs.Types.{IpAddress, UdpRepr}
 use Rattle.wire_addr.specs.IpAddress.{address_bytes}
 use Rattle.wire_addr.specs.declared.IpProtocol.TheVariants as protocol
-use Rattle.wire_field.proofs.ByteLists.{AreBytes-cons, AreBytes-part}
-use Rattle.wire_field.proofs.Spelled.{AreBytes}
+use Rattle.net_base.proofs.ByteLists.{AreBytes-cons, AreBytes-part}
+use Rattle.net_base.proofs.Spelled.{AreBytes}
 use Rattle.wire_udp.proofs.UdpReadsBack.{IsInRange, reads_bytes_of}
 use Rattle.wire_udp.specs.Udp.{Reads, bytes_of, packet_len, packet_with, payload_of, udp_of}
 

@@ -7,9 +7,9 @@ use Rattle.ip_wire.proofs.Frames.{rebuilt-ip, rebuilt-read}
 use Rattle.ip_wire.proofs.IpLayer.{ReadsPacket-IsHeader, sets_len}
 use Rattle.ip_wire.proofs.Options.{none_of}
 use Rattle.ip_wire.specs.Frame.{CarriesMessage, CarriesPacket, CarriesTransport, ReadsPacket, ReadsTransportBy, Transport, all_checked, datagram, describe_transport, header_by, other, packet_payload, rebuilt, rebuilt_packet, rebuilt_payload, rebuilt_transport_by, segment, transport_by, type_of}
-use Rattle.wire_field.proofs.Cells.{cells-drop}
-use Rattle.wire_field.proofs.Spelled.{AreBytes}
-use Rattle.wire_field.specs.Field.{field}
+use Rattle.net_base.proofs.Cells.{cells-drop}
+use Rattle.net_base.proofs.Spelled.{AreBytes}
+use Rattle.net_base.specs.Field.{field}
 use Rattle.ip_wire.specs.Types.{ArpRepr, EthernetProtocol, EthernetRepr, IpAddress, IpProtocol, IpRepr, UdpRepr}
 use Rattle.wire_ip.specs.Ip as ip_header
 use Rattle.wire_ip.specs.Ip.{dst_addr_of, next_header_of, payload_len_of, src_addr_of}

@@ -4,7 +4,7 @@ use Rattle.std.specs.Prelude.{ℕ, ◌≡◌, ◌<◌, ◌≤◌, ◌+◌, ◌-�
 use Rattle.wire_arp.specs.Arp as arp
 use Rattle.wire_checksum.specs.WordSum.{sum_of_bytes}
 use Rattle.wire_ethernet.specs.Ethernet as ethernet
-use Rattle.wire_field.specs.Field.{with_field}
+use Rattle.net_base.specs.Field.{with_field}
 use Rattle.wire_ip.specs.Ip.{dst_addr_of, src_addr_of}
 use Rattle.wire_ipv4.specs.Ipv4 as ipv4
 use Rattle.wire_ipv6.specs.Ipv6 as ipv6

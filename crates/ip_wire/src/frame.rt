@@ -7,7 +7,7 @@ ghost use Rattle.ip_wire.specs.FrameValue.{Finds, Fits, Gives, Parses, carried_p
 ghost use Rattle.ip_wire.specs.Frame.{ReadsFrame, frame_of};
 ghost use Rattle.ip_wire.specs.Packet.{IsFrame};
 ghost use Rattle.wire_ethernet.specs.declared.EthernetRepr.{EthernetRepr};
-ghost use Rattle.wire_field.specs.Filled.{Fills};
+ghost use Rattle.net_base.specs.Filled.{Fills};
 
 mod build;
 mod carried;

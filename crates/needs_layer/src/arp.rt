@@ -7,7 +7,7 @@ ghost use Rattle.wire_arp.specs.ArpFields.{widths};
 ghost use Rattle.wire_arp.specs.declared.arp.ArpHardware.TheVariants as hardware;
 ghost use Rattle.wire_arp.specs.declared.arp.ArpOperation.TheVariants as operation;
 ghost use Rattle.wire_arp.specs.declared.arp.repr.ArpRepr.TheVariants.{EthernetIpv4};
-ghost use Rattle.wire_field.specs.Field.{field};
+ghost use Rattle.net_base.specs.Field.{field};
 
 use wire_addr::{EthernetAddress, Ipv4Address};
 use wire_arp::{ArpHardware, ArpOperation, ArpPacket, ArpPacketMut, ArpRepr, laws};

@@ -5,7 +5,7 @@ ghost use Rattle.std.specs.declared.cmp.Ordering.TheVariants.{Equal, Greater, Le
 ghost use Rattle.wire_ethernet.specs.Ethernet.{Reads, bytes_of, ethernet_of, frame_bytes, frame_bytes_mut, normal};
 ghost use Rattle.wire_ethernet.specs.declared.ethernet.EthernetProtocol.TheVariants.{Arp, Ipv4, Ipv6, Unknown};
 ghost use Rattle.wire_ethernet.specs.declared.ethernet.EthernetRepr.{EthernetRepr};
-ghost use Rattle.wire_field.specs.Field.{field};
+ghost use Rattle.net_base.specs.Field.{field};
 
 use wire_addr::EthernetAddress;
 use wire_ethernet::{EthernetFrame, EthernetFrameMut, EthernetProtocol, EthernetRepr, laws};

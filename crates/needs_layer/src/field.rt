@@ -1,9 +1,9 @@
 //! Needs the statements of fields of headers.
 
 ghost use Rattle.std.specs.Prelude.{◌≡◌, ℕ, ◌+◌, ◌*◌, ◌%◌, ◌^◌, ◌<◌, ◌≤◌, ◌∷◌, [], length, slice_index};
-ghost use Rattle.wire_field.specs.Field.{bit, field, spelled, with_field};
+ghost use Rattle.net_base.specs.Field.{bit, field, spelled, with_field};
 
-use wire_field::{
+use net_base::{
     Located, array_at, is_bit_set, laws, set_bits, set_bits_u16, set_bits_u24, write_at,
     write_front, write_six,
 };

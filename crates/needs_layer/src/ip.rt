@@ -6,7 +6,7 @@ ghost use Rattle.wire_addr.specs.IpVersion.{packet_version};
 ghost use Rattle.wire_addr.specs.Protocol.{known, number_of};
 ghost use Rattle.wire_addr.specs.declared.ip_protocol.IpProtocol.TheVariants as protocol;
 ghost use Rattle.wire_addr.specs.declared.ip_version.IpVersion.TheVariants as version;
-ghost use Rattle.wire_field.specs.Field.{field};
+ghost use Rattle.net_base.specs.Field.{field};
 ghost use Rattle.wire_ip.specs.Ip.{Reads, bytes_of, header_len_of, ip_of, next_header_of, normal, packet_bytes, payload_len_of, version_of};
 ghost use Rattle.wire_ip.specs.declared.ip.repr.IpRepr.{IpRepr};
 ghost use Rattle.wire_ip.specs.declared.ip.repr.IpRepr.TheVariants.{Ipv4, Ipv6};

@@ -6,14 +6,14 @@ ghost use Rattle.std.specs.declared.cmp.Ordering.TheVariants.{Less};
 ghost use Rattle.wire_checksum.specs.WordSum.{sum_of_bytes};
 ghost use Rattle.wire_addr.specs.Protocol.{known, number_of, protocol_of};
 ghost use Rattle.wire_addr.specs.declared.ip_protocol.IpProtocol.TheVariants as protocol;
-ghost use Rattle.wire_field.specs.Field.{field, with_field};
+ghost use Rattle.net_base.specs.Field.{field, with_field};
 ghost use Rattle.wire_ipv4.specs.Ipv4.{HasChecksum, Reads, bytes_of, header_len, ipv4_of, key_cmp, normal, packet_bytes, packet_bytes_mut, with_checksum};
 ghost use Rattle.wire_ipv4.specs.declared.ipv4.repr.Ipv4Repr.{Ipv4Repr};
 
 mod lengths;
 
+use net_base::laws::bytes_fit;
 use wire_addr::{IpProtocol, Ipv4Address};
-use wire_field::laws::bytes_fit;
 use wire_ipv4::{Ipv4FragKey, Ipv4Packet, Ipv4PacketMut, Ipv4Repr, laws};
 
 /// The longest payload that a packet can have. The total length is then 65,535.

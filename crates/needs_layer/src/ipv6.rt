@@ -3,7 +3,7 @@
 ghost use Rattle.std.specs.Prelude.{◌≡◌, ◌+◌, ◌++◌, ◌∷◌, ◌<◌, ◌≤◌, [], IsTrue, List, Some, length, ℕ};
 ghost use Rattle.wire_addr.specs.Protocol.{known, protocol_of};
 ghost use Rattle.wire_addr.specs.declared.ip_protocol.IpProtocol.TheVariants as protocol;
-ghost use Rattle.wire_field.specs.Field.{with_field, with_range};
+ghost use Rattle.net_base.specs.Field.{with_field, with_range};
 ghost use Rattle.wire_ipv6.specs.Ipv6.{HasLengths, Reads, bytes_of, ipv6_of, normal, packet_bytes, packet_bytes_mut};
 ghost use Rattle.wire_ipv6.specs.declared.ipv6.repr.Ipv6Repr.{Ipv6Repr};
 

@@ -6,7 +6,7 @@ ghost use Rattle.std.specs.Option.{option_map};
 ghost use Rattle.wire_tcp.specs.TcpFields.{quiet_of};
 ghost use Rattle.wire_addr.specs.IpAddress.{version_of};
 ghost use Rattle.wire_addr.specs.declared.ip_address.IpAddress.{IpAddress};
-ghost use Rattle.wire_field.specs.Field.{field, with_field};
+ghost use Rattle.net_base.specs.Field.{field, with_field};
 ghost use Rattle.wire_tcp.specs.Tcp.{header_len, packet_bytes, payload_of, segment_sum, with_checksum};
 ghost use Rattle.wire_tcp.specs.TcpRepr.{IsQuiet, Reads, TcpHeader, bytes_of, header_len_of, header_of, no_ranges, normal, seq_of, tcp_of};
 

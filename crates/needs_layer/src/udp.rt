@@ -2,7 +2,7 @@
 
 ghost use Rattle.std.specs.Prelude.{◌≡◌, ◌≢◌, ◌≤◌, ◌++◌, ◌∷◌, [], Bool, IsTrue, List, Some, false, length, true, ℕ};
 ghost use Rattle.wire_addr.specs.IpAddress.{version_of};
-ghost use Rattle.wire_field.specs.Field.{field, with_field};
+ghost use Rattle.net_base.specs.Field.{field, with_field};
 ghost use Rattle.wire_udp.specs.Udp.{HasChecksum, HasLengths, Reads, Verifies, bytes_of, packet_bytes, packet_bytes_mut, packet_len, payload_of, udp_of, with_checksum};
 ghost use Rattle.wire_udp.specs.declared.udp.repr.UdpRepr.{UdpRepr};
 

@@ -3,8 +3,8 @@ use Rattle.std.proofs.Common.{ℕ, ◌≡◌, ◌↔◌, ◌≤◌, List, Some, 
 use Rattle.std.proofs.lemmas.Bool.Decides.{nat_tests}
 use Rattle.std.proofs.lemmas.Slice.Eq.{bytes_eq-Decides}
 use Rattle.wire_addr.specs.declared.ethernet_address.EthernetAddress.{EthernetAddress}
-use Rattle.wire_field.specs.Field.{field}
-use Rattle.wire_field.proofs.Spelled.{AreBytes}
+use Rattle.net_base.specs.Field.{field}
+use Rattle.net_base.proofs.Spelled.{AreBytes}
 use Rattle.wire_arp.specs.Arp.{Reads, arp_of, ethernet_ipv4, hardware_len, hardware_of, operation_of, protocol_len, value_of}
 use Rattle.wire_ethernet.specs.Ethernet.{protocol_of}
 use Rattle.wire_arp.specs.declared.arp.ArpHardware.TheVariants as hardware

@@ -2,8 +2,8 @@
 use Rattle.std.proofs.Common.{ℕ, ◌≡◌, ◌<◌, ◌≤◌, ◌^◌, List, ◌++◌, length, drop, slice_range, refl, ◌+◌, arith}
 use borrow.Rule.Slice.PartMut.{put_mid}
 use Rattle.byteorder.specs.Endian.{big_bytes}
-use Rattle.wire_field.specs.Field.{field}
-use Rattle.wire_field.proofs.Cells.{cells-all, cells-drop}
+use Rattle.net_base.specs.Field.{field}
+use Rattle.net_base.proofs.Cells.{cells-all, cells-drop}
 use Rattle.wire_arp.proofs.ArpComputed.{value_of-fields}
 use Rattle.wire_arp.specs.Arp.{Reads, bytes_of, ethernet_ipv4, normal, operation_number, operation_of}
 use Rattle.wire_arp.specs.declared.arp.repr.ArpRepr.{ArpRepr}

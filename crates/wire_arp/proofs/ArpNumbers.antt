@@ -2,9 +2,9 @@
 use Rattle.std.proofs.Common.{ℕ, ◌≡◌, ◌≤◌, ◌+◌, ◌*◌, List, length, slice_range, ap, ◌∙◌, arith}
 use Rattle.std.proofs.lemmas.Grind.{common_steps}
 use Rattle.byteorder.specs.Endian.{big_number}
-use Rattle.wire_field.specs.Field.{field, with_field, with_range}
-use Rattle.wire_field.proofs.Ranges.{range_field, range-number}
-use Rattle.wire_field.proofs.Spelled.{AreBytes}
+use Rattle.net_base.specs.Field.{field, with_field, with_range}
+use Rattle.net_base.proofs.Ranges.{range_field, range-number}
+use Rattle.net_base.proofs.Spelled.{AreBytes}
 
 -- an address that is written
 pub address-written : (bytes a : List ℕ) (first last n place : ℕ) → AreBytes a → length a ≡ n → last ≡ first + n → place ≡ 8 * first

@@ -3,8 +3,8 @@
 use Rattle.std.specs.Prelude.{ℕ, ◌≡◌, ◌≤◌, ◌+◌, ◌*◌, ◌++◌, ◌==◌, ◌&&◌, nat_le, bytes_eq, if◌then◌else◌, Bool, Option, Some, None, List, [], ◌∷◌, length, slice_range, take}
 use Rattle.std.specs.Borrow.{Bor, MutBor}
 use Rattle.byteorder.specs.Endian.{big_bytes}
-use Rattle.wire_field.specs.Field.{field}
-use Rattle.wire_field.specs.Borrow.{Holds}
+use Rattle.net_base.specs.Field.{field}
+use Rattle.net_base.specs.Borrow.{Holds}
 use Rattle.wire_arp.specs.declared.arp.ArpHardware.{ArpHardware}
 use Rattle.wire_arp.specs.declared.arp.ArpHardware.TheVariants as hardware
 use Rattle.wire_arp.specs.declared.arp.ArpOperation.{ArpOperation}

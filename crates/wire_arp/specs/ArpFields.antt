@@ -1,7 +1,7 @@
 -- The fields of an ARP packet in the order of RFC 826, and which of them each call reads or writes.
 -- Pinned by: `tests/docs/diagrams.py`
 use Rattle.std.specs.Prelude.{ℕ, ◌≡◌, ◌*◌, List, [], ◌∷◌, length, slice_index, ⊤}
-use Rattle.wire_field.specs.Diagram.{nth_field, with_nth}
+use Rattle.net_base.specs.Diagram.{nth_field, with_nth}
 use Rattle.byteorder.specs.Endian.{big_number}
 use Rattle.wire_ethernet.specs.Ethernet.{number_of}
 use Rattle.wire_arp.specs.Arp.{hardware_number, operation_number}

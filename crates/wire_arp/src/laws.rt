@@ -2,13 +2,13 @@
 
 ghost use Rattle.std.specs.Prelude.{◌≡◌, ◌↔◌, ◌++◌, ◌≤◌, IsTrue, Some, length, true};
 ghost use Rattle.wire_addr.specs.Order.{named_cmp};
-ghost use Rattle.wire_field.specs.Diagram.{end_of, nth_field};
+ghost use Rattle.net_base.specs.Diagram.{end_of, nth_field};
 ghost use Rattle.wire_arp.specs.Arp.{Reads, arp_of, bytes_of, hardware_number, is_unknown_hardware, is_unknown_operation, normal, operation_number, packet_bytes, packet_bytes_mut};
 ghost use Rattle.wire_arp.specs.ArpFields.{Fits, IsGot, address_of, after, diagram, got, read_of, widths, write_of};
 
 use crate::arp::{ArpHardware, ArpOperation, ArpPacket, ArpPacketMut, ArpRepr};
+use net_base::laws::bytes_fit;
 use wire_ethernet::EthernetProtocol;
-use wire_field::laws::bytes_fit;
 
 /// The packet of a value, with any bytes after it, parses as the value's normal form.
 pub fn emit_reads_back_arp(value: ArpRepr, rest: &[u8])

@@ -5,9 +5,9 @@ use Rattle.std.proofs.Math.Seq.{take-append-add}
 use Rattle.byteorder.specs.Endian.{big_bytes}
 use Rattle.wire_checksum.specs.WordSum.{words}
 use Rattle.wire_checksum.proofs.WordLists.{sum-words-append, sum-words-cons, sum-words-split}
-use Rattle.wire_field.proofs.Cells.{whole_byte, word_high, word_low}
-use Rattle.wire_field.proofs.Spelled.{AreBytes}
-use Rattle.wire_field.specs.Field.{bits_after, field, span, with_field, with_range}
+use Rattle.net_base.proofs.Cells.{whole_byte, word_high, word_low}
+use Rattle.net_base.proofs.Spelled.{AreBytes}
+use Rattle.net_base.specs.Field.{bits_after, field, span, with_field, with_range}
 use Rattle.std.proofs.lemmas.Grind.{common_steps}
 use Rattle.std.proofs.lemmas.Bool.Decides.{nat_tests}
 

@@ -4,9 +4,9 @@ use Rattle.wire_checksum.specs.WordSum.{residue, sum_of_bytes, updated, words}
 use Rattle.wire_checksum.proofs.Parts.{sum-take-with_field, sum-words-with_field}
 use Rattle.wire_checksum.proofs.Residues.{residue-of_zero}
 use Rattle.wire_checksum.proofs.Updated.{stays_valid, updated-small}
-use Rattle.wire_field.proofs.Spelled.{AreBytes}
-use Rattle.wire_field.proofs.Written.{AreBytes-with_field, length_with_field}
-use Rattle.wire_field.specs.Field.{field, with_field}
+use Rattle.net_base.proofs.Spelled.{AreBytes}
+use Rattle.net_base.proofs.Written.{AreBytes-with_field, length_with_field}
+use Rattle.net_base.specs.Field.{field, with_field}
 
 -- the bytes with the c-th word, their checksum, updated
 abbrev pub with_updated : List ℕ → ℕ → ℕ → ℕ → List ℕ

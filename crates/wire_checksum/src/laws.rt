@@ -3,7 +3,7 @@
 
 ghost use Rattle.std.specs.Prelude.{◌≡◌, ◌+◌, ◌*◌, ◌++◌, ◌%◌, ◌<◌, ◌≤◌, ◌∷◌, [], length, replicate, sum, true};
 ghost use Rattle.wire_checksum.specs.WordSum.{IsSum, sum_of, sum_of_bytes, updated, words};
-ghost use Rattle.wire_field.specs.Field.{field, with_field};
+ghost use Rattle.net_base.specs.Field.{field, with_field};
 
 use crate::checksum;
 use wire_addr::{IpAddress, IpProtocol, Ipv4Address, Ipv6Address};

@@ -2,8 +2,8 @@
 use Rattle.std.proofs.Common.{ℕ, ◌≡◌, ◌≤◌, ◌<◌, ◌^◌, List, ◌++◌, length, drop, slice_range, refl, sym, ap, arith}
 use borrow.Rule.Slice.PartMut.{put_mid}
 use Rattle.byteorder.specs.Endian.{big_bytes}
-use Rattle.wire_field.specs.Field.{field}
-use Rattle.wire_field.proofs.Cells.{cells-all, cells-drop}
+use Rattle.net_base.specs.Field.{field}
+use Rattle.net_base.proofs.Cells.{cells-all, cells-drop}
 use Rattle.wire_ethernet.specs.Ethernet.{Reads, bytes_of, normal, number_of, protocol_of}
 use Rattle.wire_ethernet.specs.declared.ethernet.EthernetRepr.{EthernetRepr}
 

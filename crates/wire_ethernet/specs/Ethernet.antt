@@ -5,8 +5,8 @@ use Rattle.std.specs.Borrow.{Bor, MutBor}
 use Rattle.std.specs.Option.{option_map_or}
 use Rattle.byteorder.specs.Endian.{big_bytes}
 use Rattle.wire_addr.specs.Printed.{dashed, hex_byte}
-use Rattle.wire_field.specs.Field.{field}
-use Rattle.wire_field.specs.Borrow.{Holds}
+use Rattle.net_base.specs.Field.{field}
+use Rattle.net_base.specs.Borrow.{Holds}
 use Rattle.wire_ethernet.specs.declared.ethernet.EthernetView.{EthernetView}
 use Rattle.wire_ethernet.specs.declared.ethernet.EthernetRepr.{EthernetRepr}
 use Rattle.wire_ethernet.specs.declared.ethernet.EthernetProtocol.{EthernetProtocol}

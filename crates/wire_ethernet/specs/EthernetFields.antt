@@ -1,7 +1,7 @@
 -- The fields of an Ethernet header in their order, and which of them each call reads or writes.
 -- Pinned by: `tests/docs/diagrams.py`
 use Rattle.std.specs.Prelude.{ℕ, List, [], ◌∷◌}
-use Rattle.wire_field.specs.Diagram.{nth_field, with_nth}
+use Rattle.net_base.specs.Diagram.{nth_field, with_nth}
 use Rattle.byteorder.specs.Endian.{big_number}
 use Rattle.wire_ethernet.specs.Ethernet.{number_of}
 use Rattle.wire_ethernet.specs.declared.laws.EthernetGetting.{EthernetGetting}

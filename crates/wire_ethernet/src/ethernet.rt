@@ -4,18 +4,17 @@ ghost use Rattle.std.specs.Prelude.{◌≡◌, ◌↔◌, ◌≤◌, ◌+◌, �
 ghost use Rattle.std.specs.Result.{result_ok};
 ghost use Rattle.std.specs.Borrow.{sem};
 ghost use Rattle.arrayvec.specs.ArrayString.{array_string_len};
-ghost use Rattle.wire_field.specs.Field.{with_field, with_range};
-ghost use Rattle.wire_field.specs.Borrow.{Checks, Holds, Locates, StaysIfErr};
+ghost use Rattle.net_base.specs.Field.{with_field, with_range};
+ghost use Rattle.net_base.specs.Borrow.{Checks, Holds, Locates, StaysIfErr};
 ghost use Rattle.wire_ethernet.specs.EthernetBorrow.{BorrowsPayload};
 ghost use Rattle.wire_ethernet.specs.Ethernet.{Becomes, Reads, bytes_of, dst_addr_of, ethernet_of, ethertype_of, frame_bytes, frame_bytes_mut, frame_slice, frame_text, header_text, number_of, protocol_of, protocol_text, src_addr_of};
 ghost use Rattle.wire_ethernet.specs.declared.ethernet.EthernetRepr.{EthernetRepr};
 
 use arrayvec::ArrayString;
 use byteorder::{ByteOrder, NetworkEndian};
-use net_base::{Error, Result};
+use net_base::{Checked, Error, Located, Octets, Result, debug_view, write_six};
 use std::fmt;
 use wire_addr::{EthernetAddress, push_dashed, push_hex_byte};
-use wire_field::{Checked, Located, Octets, debug_view, write_six};
 
 /// The length of a frame's header.
 pub const ETHERNET_HEADER_LEN: usize = 14;

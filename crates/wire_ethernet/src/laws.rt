@@ -4,12 +4,12 @@ ghost use Rattle.std.specs.Prelude.{◌≡◌, ◌↔◌, ◌++◌, ◌≤◌, I
 ghost use Rattle.wire_addr.specs.Order.{named_cmp};
 ghost use Rattle.wire_ethernet.specs.Ethernet.{Reads, bytes_of, ethernet_of, frame_bytes, frame_bytes_mut, is_unknown, normal, number_of};
 ghost use Rattle.wire_ethernet.specs.EthernetFields.{after, diagram, got, read_of, write_of};
-ghost use Rattle.wire_field.specs.Diagram.{end_of};
+ghost use Rattle.net_base.specs.Diagram.{end_of};
 
 use crate::ethernet::{EthernetFrame, EthernetFrameMut, EthernetProtocol, EthernetRepr};
 use byteorder::{ByteOrder, NetworkEndian};
+use net_base::laws::bytes_fit;
 use wire_addr::EthernetAddress;
-use wire_field::laws::bytes_fit;
 
 /// The header of a value, with any bytes after it, parses as the value's normal form.
 pub fn emit_reads_back_ethernet(value: EthernetRepr, rest: &[u8])

@@ -1,7 +1,7 @@
 -- What `emit` writes.
 use Rattle.std.proofs.Common.{ℕ, ◌≡◌, List, ◌∷◌, ◌++◌, length, slice_set, take, refl}
 use borrow.Rule.Slice.PartMut.{put_mid}
-use Rattle.wire_field.proofs.Cells.{cells-all}
+use Rattle.net_base.proofs.Cells.{cells-all}
 
 -- the target, the type and length of an option, and its address
 pub body_written : (type : ℕ) (target address front six rest others : List ℕ) → length target ≡ 16 → length address ≡ 6 → length rest ≡ 8

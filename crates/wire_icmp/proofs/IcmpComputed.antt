@@ -2,7 +2,7 @@
 use Rattle.std.proofs.Common.{ℕ, ◌≡◌, ◌↔◌, Bool, true, false, List, Some, Result, Ok, arith}
 use Rattle.std.proofs.lemmas.Bool.Decides.{nat_tests}
 use Rattle.std.specs.Result.{result_ok}
-use Rattle.wire_field.proofs.Readings.{answer_computed}
+use Rattle.net_base.proofs.Readings.{answer_computed}
 use Rattle.net_base.specs.declared.error.Error.{Error}
 use Rattle.wire_addr.specs.declared.ip_address.IpAddress.{IpAddress}
 use Rattle.wire_icmp.specs.Icmp.{Reads, icmp_of, payload_of}

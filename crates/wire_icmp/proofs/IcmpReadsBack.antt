@@ -1,8 +1,8 @@
 -- An emitted ICMP message parses as the normal form of its value. A parsed value is its own normal form.
 use Rattle.std.proofs.Common.{ℕ, ◌≡◌, ◌<◌, ◌+◌, ◌-◌, ◌^◌, Bool, true, false, IsTrue, Some, List, drop, length, sum, refl, sym, ap, ◌∙◌, arith}
-use Rattle.wire_field.specs.Field.{with_field}
-use Rattle.wire_field.proofs.Cells.{cells-drop}
-use Rattle.wire_field.specs.Field.{field}
+use Rattle.net_base.specs.Field.{with_field}
+use Rattle.net_base.proofs.Cells.{cells-drop}
+use Rattle.net_base.specs.Field.{field}
 use Rattle.wire_checksum.proofs.Residues.{residue-complement}
 use Rattle.wire_checksum.proofs.WordLists.{sum-words-append}
 use Rattle.wire_checksum.specs.WordSum.{residue, words}

@@ -1,9 +1,9 @@
 -- The checksum of an ICMP message, filled in or updated.
 use Rattle.std.proofs.Common.{ℕ, ◌≡◌, ◌≤◌, ◌<◌, ◌+◌, ◌-◌, ◌*◌, ◌%◌, ◌⊎◌, inl, inr, List, length, sum, refl, subst, ap, ◌∙◌, arith}
 use Rattle.std.proofs.lemmas.Bool.Decides.{nat_tests}
-use Rattle.wire_field.specs.Field.{field, with_field}
-use Rattle.wire_field.proofs.Spelled.{AreBytes}
-use Rattle.wire_field.proofs.Written.{AreBytes-with_field, field_with_field_same, length_with_field}
+use Rattle.net_base.specs.Field.{field, with_field}
+use Rattle.net_base.proofs.Spelled.{AreBytes}
+use Rattle.net_base.proofs.Written.{AreBytes-with_field, field_with_field_same, length_with_field}
 use Rattle.wire_checksum.proofs.Parts.{sum-words-with_field}
 use Rattle.wire_checksum.proofs.PseudoSums.{pseudo_header_total, sum-with_pseudo_header}
 use Rattle.wire_checksum.proofs.Residues.{residue-bound, residue-complement, residue-quotient, residue-same, residue-small}

@@ -9,7 +9,7 @@ use Rattle.std.specs.Bool.{Decides}
 use Rattle.std.proofs.lemmas.Option.{same_Some}
 use Rattle.wire_addr.specs.declared.ethernet_address.EthernetAddress.{EthernetAddress}
 use Rattle.wire_addr.specs.declared.ip_address.IpAddress.TheVariants as address
-use Rattle.wire_field.specs.Field.{field}
+use Rattle.net_base.specs.Field.{field}
 use Rattle.wire_icmp.specs.Icmp.{Verifies}
 use Rattle.wire_icmp.proofs.Addresses.{is_allowed-IsAllowed}
 use Rattle.wire_icmp.proofs.OptionsComputed.{lladdr_of-has}

@@ -12,7 +12,7 @@ use Rattle.wire_checksum.specs.PseudoHeader.{pseudo_header_bytes, with_pseudo_he
 use Rattle.wire_checksum.specs.WordSum.{residue, words}
 use Rattle.wire_addr.specs.declared.ip_address.IpAddress.TheVariants as address
 use Rattle.wire_addr.specs.declared.ip_protocol.IpProtocol.TheVariants as protocol
-use Rattle.wire_field.specs.Field.{field}
+use Rattle.net_base.specs.Field.{field}
 use Rattle.wire_icmp.proofs.IcmpReadsBack.{sum-words-header}
 use Rattle.wire_icmp.specs.Icmp.{Verifies, emitted, header_bytes, message_with}
 use Rattle.wire_icmp.specs.declared.icmp.header.IcmpHeader.{IcmpHeader}

@@ -12,8 +12,8 @@ use Rattle.wire_addr.specs.declared.ip_protocol.IpProtocol.{IpProtocol}
 use Rattle.wire_addr.specs.declared.ip_protocol.IpProtocol.TheVariants as protocol
 use Rattle.wire_addr.specs.declared.ip_version.IpVersion.{IpVersion}
 use Rattle.wire_addr.specs.declared.ip_version.IpVersion.TheVariants as version
-use Rattle.wire_field.specs.Field.{field, with_field}
-use Rattle.wire_field.specs.Borrow.{Holds}
+use Rattle.net_base.specs.Field.{field, with_field}
+use Rattle.net_base.specs.Borrow.{Holds}
 use Rattle.wire_checksum.specs.PseudoHeader.{with_pseudo_header}
 use Rattle.wire_checksum.specs.WordSum.{sum_of_bytes, updated}
 use Rattle.wire_icmp.specs.declared.icmp.header.IcmpHeader.{IcmpHeader}

@@ -2,7 +2,7 @@
 use Rattle.std.specs.Prelude.{ℕ, ◌-◌, List, [], ◌∷◌}
 use Rattle.wire_checksum.specs.WordSum.{updated}
 use Rattle.wire_addr.specs.declared.ip_address.IpAddress.{IpAddress}
-use Rattle.wire_field.specs.Diagram.{nth_field, with_nth}
+use Rattle.net_base.specs.Diagram.{nth_field, with_nth}
 use Rattle.wire_icmp.specs.Icmp.{message_sum, not_zero}
 use Rattle.wire_icmp.specs.declared.laws.IcmpGetting.{IcmpGetting}
 use Rattle.wire_icmp.specs.declared.laws.IcmpGetting.TheVariants as get

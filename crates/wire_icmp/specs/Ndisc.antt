@@ -8,7 +8,7 @@ use Rattle.wire_addr.specs.Prefix.{bit_of}
 use Rattle.wire_addr.specs.declared.ethernet_address.EthernetAddress.{EthernetAddress}
 use Rattle.wire_addr.specs.declared.ip_address.IpAddress.{IpAddress}
 use Rattle.wire_addr.specs.declared.ip_address.IpAddress.TheVariants as address
-use Rattle.wire_field.specs.Field.{field}
+use Rattle.net_base.specs.Field.{field}
 use Rattle.wire_icmp.specs.Icmp.{Verifies, emitted, msg_code_of, msg_type_of, verifies}
 use Rattle.wire_icmp.specs.declared.icmp.header.IcmpHeader.{IcmpHeader}
 use Rattle.wire_icmp.specs.NdOption.{HasLladdr, lladdr_of}

@@ -3,14 +3,14 @@
 ghost use Rattle.std.specs.Prelude.{◌≡◌, ◌≢◌, ◌↔◌, ◌%◌, ◌≤◌, IsTrue, List, Some, false, length, not, true, ℕ};
 ghost use Rattle.wire_addr.specs.IpAddress.{address_bytes, version_of};
 ghost use Rattle.wire_addr.specs.declared.ip_address.IpAddress.{IpAddress};
-ghost use Rattle.wire_field.specs.Diagram.{end_of, nth_field, with_nth};
+ghost use Rattle.net_base.specs.Diagram.{end_of, nth_field, with_nth};
 ghost use Rattle.wire_icmp.specs.Icmp.{IsExact, IsNormal, Reads, Verifies, bytes_of, icmp_of, packet_bytes, packet_bytes_mut, payload_of, with_checksum};
 ghost use Rattle.wire_icmp.specs.IcmpFields.{after, after_fill, echo_diagram, got, read_in, read_of, with_sums, write_in, write_of};
 ghost use Rattle.wire_icmp.specs.declared.icmp.repr.IcmpRepr.{IcmpRepr};
 
 use crate::icmp::{IcmpPacket, IcmpPacketMut, IcmpRepr};
+use net_base::laws::bytes_fit;
 use wire_addr::{IpAddress, IpVersion};
-use wire_field::laws::bytes_fit;
 
 mod ndisc;
 

@@ -17,7 +17,7 @@ use Rattle.wire_ipv6.specs.Ipv6.{ipv6_of}
 use Rattle.wire_ip.specs.declared.ip.repr.IpRepr.{IpRepr}
 use Rattle.wire_ip.specs.declared.ip.repr.IpRepr.TheVariants.{Ipv4, Ipv6}
 use Rattle.wire_ipv6.specs.declared.ipv6.repr.Ipv6Repr.{Ipv6Repr}
-use Rattle.wire_field.proofs.Readings.{option_map-Some}
+use Rattle.net_base.proofs.Readings.{option_map-Some}
 
 -- a value that parses by the rules of a version has that version
 pub header_of_version-Some : (verified : Bool) (bytes : List ℕ) (number : IpVersion) (v : IpRepr) → header_of_version verified bytes number ≡ Some v

@@ -1,8 +1,8 @@
 -- The computed value of a header is the one that it is read as.
 use Rattle.std.proofs.Common.{subst, ℕ, ◌≡◌, ◌↔◌, ◌==◌, Bool, true, false, List, ◌++◌, Some, None, codes, slice_range, refl, arith}
 use Rattle.std.proofs.lemmas.Bool.Decides.{nat_tests}
-use Rattle.wire_field.proofs.Readings.{if-Some}
-use Rattle.wire_field.specs.Field.{field}
+use Rattle.net_base.proofs.Readings.{if-Some}
+use Rattle.net_base.specs.Field.{field}
 use Rattle.wire_ipv4.specs.Ipv4.{Reads, fragment_offset, header_of, ipv4_of, is_read}
 use Rattle.wire_ipv4.specs.Ipv4Text.{addresses_text, fields_text, fragments_text, header_fields_text, lengths_text, packet_text, value_text}
 use Rattle.wire_addr.specs.Protocol.{protocol_of}

@@ -1,6 +1,6 @@
 -- Normal forms: what was read is in its own, and a normal form is its own.
 use Rattle.std.proofs.Common.{ℕ, ◌≡◌, Bool, List, ap}
-use Rattle.wire_field.specs.Field.{field}
+use Rattle.net_base.specs.Field.{field}
 use Rattle.wire_addr.proofs.Protocols.{known-known, known-read}
 use Rattle.wire_ipv4.specs.Ipv4.{Reads, normal}
 use Rattle.wire_ipv4.specs.declared.ipv4.repr.Ipv4Repr.{Ipv4Repr}

@@ -2,10 +2,10 @@
 use Rattle.std.proofs.Common.{ℕ, ◌≡◌, ◌≤◌, ◌+◌, ◌*◌, ◌-◌, List, length, slice_range, take, refl, ap, ◌∙◌, arith}
 use Rattle.byteorder.specs.Endian.{big_bytes, big_number}
 use Rattle.wire_addr.specs.Prefix.{number_of}
-use Rattle.wire_field.specs.Field.{field, with_field, with_range}
-use Rattle.wire_field.proofs.Cells.{cells-all}
-use Rattle.wire_field.proofs.Ranges.{number-range, range_field, range-number}
-use Rattle.wire_field.proofs.Spelled.{AreBytes}
+use Rattle.net_base.specs.Field.{field, with_field, with_range}
+use Rattle.net_base.proofs.Cells.{cells-all}
+use Rattle.net_base.proofs.Ranges.{number-range, range_field, range-number}
+use Rattle.net_base.proofs.Spelled.{AreBytes}
 use Rattle.wire_checksum.specs.WordSum.{sum_of_bytes}
 use Rattle.wire_ipv4.specs.Ipv4.{header_len, with_checksum, with_updated_checksum}
 use Rattle.wire_ipv4.specs.Ipv4Fields.{after_fill, with_sums}

@@ -1,7 +1,7 @@
 -- A header that was written is read as what it was written from.
 use Rattle.std.proofs.Common.{ℕ, ◌≡◌, ◌≤◌, ◌<◌, ◌+◌, ◌-◌, Bool, true, false, IsTrue, List, ◌++◌, length, take, sum, refl, ap, ◌∙◌, arith}
-use Rattle.wire_field.specs.Field.{field}
-use Rattle.wire_field.proofs.Cells.{cells-all}
+use Rattle.net_base.specs.Field.{field}
+use Rattle.net_base.proofs.Cells.{cells-all}
 use Rattle.wire_checksum.proofs.Residues.{residue-complement}
 use Rattle.wire_ipv4.specs.Ipv4.{Reads, bytes_of, header_with, normal, total_len}
 use Rattle.wire_addr.specs.Protocol.{number_of, protocol_of}

@@ -1,9 +1,9 @@
 -- The checksum of a header, filled in or updated.
 use Rattle.std.proofs.Common.{ℕ, suc, inl, [], ◌≡◌, ◌≤◌, ◌<◌, ◌+◌, ◌-◌, ◌*◌, ◌%◌, Bool, false, List, ◌∷◌, ◌++◌, length, slice_index, slice_range, sum, drop, take, refl, subst, ap, ◌∙◌, arith}
-use Rattle.wire_field.specs.Field.{field, with_field, with_part, with_range, word_at}
-use Rattle.wire_field.proofs.ByteLists.{AreBytes-append, AreBytes-drop, AreBytes-take}
-use Rattle.wire_field.proofs.Spelled.{AreBytes}
-use Rattle.wire_field.proofs.Written.{AreBytes-with_field, field_with_field_same, length_with_field}
+use Rattle.net_base.specs.Field.{field, with_field, with_part, with_range, word_at}
+use Rattle.net_base.proofs.ByteLists.{AreBytes-append, AreBytes-drop, AreBytes-take}
+use Rattle.net_base.proofs.Spelled.{AreBytes}
+use Rattle.net_base.proofs.Written.{AreBytes-with_field, field_with_field_same, length_with_field}
 use Rattle.wire_checksum.proofs.Parts.{sum-take-positive, sum-take-with_byte, sum-take-with_field, sum-take-with_range}
 use Rattle.wire_checksum.proofs.Residues.{residue-complement}
 use Rattle.wire_checksum.proofs.WordLists.{sum-words-cons}

@@ -4,7 +4,7 @@ use Rattle.std.specs.Prelude.{ℕ, List, []}
 use Rattle.std.specs.Borrow.{Lends, MutBor, Fml, Array, u8}
 use denote.Slice.{MutSlice}
 use mir.Syntax.{named}
-use Rattle.wire_field.specs.Field.{with_range}
+use Rattle.net_base.specs.Field.{with_range}
 use Rattle.wire_ipv4.specs.Ipv4.{Writing, header_len, packet_bytes_mut, total_len}
 use Rattle.wire_ipv4.specs.contracts.ipv4.packet.Ipv4View.{the_row}
 

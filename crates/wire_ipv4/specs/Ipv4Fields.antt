@@ -1,8 +1,8 @@
 -- The fields of an IPv4 header in the order of RFC 791's diagram, and which of them each call reads or writes.
 -- Pinned by: `tests/docs/diagrams.py`
 use Rattle.std.specs.Prelude.{ℕ, ◌-◌, ◌*◌, ◌/◌, ◌%◌, List, [], ◌∷◌, slice_range, sum, take}
-use Rattle.wire_field.specs.Diagram.{flag, nth_field, with_nth}
-use Rattle.wire_field.specs.Field.{with_field}
+use Rattle.net_base.specs.Diagram.{flag, nth_field, with_nth}
+use Rattle.net_base.specs.Field.{with_field}
 use Rattle.byteorder.specs.Endian.{big_bytes, big_number}
 use Rattle.wire_checksum.specs.WordSum.{sum_of_bytes, updated}
 use Rattle.wire_addr.specs.Protocol.{number_of}

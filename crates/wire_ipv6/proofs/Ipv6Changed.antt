@@ -1,10 +1,10 @@
 -- A header in which one field changed.
 use Rattle.std.proofs.Common.{ℕ, ◌≡◌, inr, inl, ◌≤◌, ◌<◌, ◌+◌, List, ◌++◌, drop, length, refl, sym, ap, ◌∙◌, arith}
-use Rattle.wire_field.specs.Field.{field, with_field, with_range}
-use Rattle.wire_field.proofs.Following.{drop-with_field}
-use Rattle.wire_field.proofs.Cells.{cells, cells-all, cells-drop}
-use Rattle.wire_field.proofs.Spelled.{AreBytes}
-use Rattle.wire_field.proofs.Written.{field_with_field_other, length_with_field}
+use Rattle.net_base.specs.Field.{field, with_field, with_range}
+use Rattle.net_base.proofs.Following.{drop-with_field}
+use Rattle.net_base.proofs.Cells.{cells, cells-all, cells-drop}
+use Rattle.net_base.proofs.Spelled.{AreBytes}
+use Rattle.net_base.proofs.Written.{field_with_field_other, length_with_field}
 use Rattle.wire_addr.specs.Protocol.{protocol_of}
 use Rattle.wire_ipv6.proofs.Ipv6Computed.{Reads-is}
 use Rattle.wire_ipv6.specs.Ipv6.{Reads, header_of}

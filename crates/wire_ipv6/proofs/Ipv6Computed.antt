@@ -1,7 +1,7 @@
 -- The computed value of a header is the value that it parses as.
 use Rattle.std.proofs.Common.{true, subst, ℕ, ◌≡◌, ◌↔◌, List, Some, None, codes, refl, arith}
 use Rattle.std.proofs.lemmas.Bool.Decides.{nat_tests}
-use Rattle.wire_field.proofs.Readings.{if-Some}
+use Rattle.net_base.proofs.Readings.{if-Some}
 use Rattle.wire_ipv6.specs.Ipv6.{Reads, header_of, ipv6_of, is_read}
 use Rattle.wire_ipv6.specs.Ipv6Text.{packet_text, value_text}
 use Rattle.wire_ipv6.specs.declared.ipv6.repr.Ipv6Repr.{Ipv6Repr}

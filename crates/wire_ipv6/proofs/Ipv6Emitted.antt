@@ -1,7 +1,7 @@
 -- The bytes of a header after the setters.
 use Rattle.std.proofs.Common.{ℕ, ◌≡◌, ◌≤◌, ◌<◌, List, ◌++◌, length, drop, arith}
-use Rattle.wire_field.specs.Field.{with_field, with_range}
-use Rattle.wire_field.proofs.Cells.{cells-all, cells-drop}
+use Rattle.net_base.specs.Field.{with_field, with_range}
+use Rattle.net_base.proofs.Cells.{cells-all, cells-drop}
 use Rattle.wire_addr.specs.Protocol.{number_of}
 use Rattle.wire_ipv6.specs.Ipv6.{bytes_of}
 use Rattle.wire_ipv6.specs.declared.ipv6.repr.Ipv6Repr.{Ipv6Repr}

@@ -1,8 +1,8 @@
 -- The computed value of a fragment header is the value that it parses as.
 use Rattle.std.proofs.Common.{ℕ, ◌≡◌, ◌↔◌, List, Some, refl, arith}
 use Rattle.std.proofs.lemmas.Bool.Decides.{nat_tests}
-use Rattle.wire_field.specs.Field.{field}
-use Rattle.wire_field.proofs.Readings.{flag_test}
+use Rattle.net_base.specs.Field.{field}
+use Rattle.net_base.proofs.Readings.{flag_test}
 use Rattle.wire_ipv6.specs.Ipv6Fragment.{Reads, header_of, ipv6_fragment_of}
 use Rattle.wire_ipv6.specs.declared.ipv6fragment.repr.Ipv6FragmentRepr.{Ipv6FragmentRepr}
 

@@ -1,8 +1,8 @@
 -- The bytes of a fragment header after the setters, and the value that they parse as.
 use Rattle.std.proofs.Common.{ℕ, ◌≡◌, ◌+◌, ◌*◌, ◌%◌, ◌≤◌, ◌<◌, ◌^◌, ◌↔◌, Bool, true, false, IsTrue, List, ◌++◌, length, drop, refl, arith}
 use Rattle.byteorder.specs.Endian.{big_bytes}
-use Rattle.wire_field.specs.Field.{field, with_field}
-use Rattle.wire_field.proofs.Cells.{cells-drop}
+use Rattle.net_base.specs.Field.{field, with_field}
+use Rattle.net_base.proofs.Cells.{cells-drop}
 use Rattle.wire_ipv6.specs.Ipv6Fragment.{Reads, bytes_of, flag, normal}
 use Rattle.wire_ipv6.specs.declared.ipv6fragment.repr.Ipv6FragmentRepr.{Ipv6FragmentRepr}
 

@@ -1,6 +1,6 @@
 -- Normal forms: a parsed value is in normal form, and the normal form of a normal form is itself.
 use Rattle.std.proofs.Common.{ℕ, ◌≡◌, List, ap}
-use Rattle.wire_field.specs.Field.{field}
+use Rattle.net_base.specs.Field.{field}
 use Rattle.wire_addr.proofs.Protocols.{known-known, known-read}
 use Rattle.wire_ipv6.specs.Ipv6.{Reads, normal}
 use Rattle.wire_ipv6.specs.declared.ipv6.repr.Ipv6Repr.{Ipv6Repr}

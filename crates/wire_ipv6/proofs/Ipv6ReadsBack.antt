@@ -1,7 +1,7 @@
 -- An emitted header parses as the value from which it was emitted.
 use Rattle.std.proofs.Common.{ℕ, ◌≡◌, ◌≤◌, List, ◌++◌, length, refl, ap, arith}
-use Rattle.wire_field.specs.Field.{field}
-use Rattle.wire_field.proofs.Cells.{cells-all}
+use Rattle.net_base.specs.Field.{field}
+use Rattle.net_base.proofs.Cells.{cells-all}
 use Rattle.wire_addr.specs.Protocol.{number_of, protocol_of}
 use Rattle.wire_ipv6.proofs.Ipv6Emitted.{IsInRange}
 use Rattle.wire_ipv6.specs.Ipv6.{HasLengths, Reads, bytes_of, normal}

@@ -4,8 +4,8 @@
 use Rattle.std.specs.Prelude.{ℕ, ◌≡◌, ◌≤◌, ◌+◌, ◌++◌, ◌==◌, ◌&&◌, nat_le, if◌then◌else◌, Bool, Option, Some, None, List, [], ◌∷◌, length, slice_range}
 use Rattle.std.specs.Borrow.{Bor, MutBor}
 use Rattle.byteorder.specs.Endian.{big_bytes}
-use Rattle.wire_field.specs.Field.{field}
-use Rattle.wire_field.specs.Borrow.{Holds}
+use Rattle.net_base.specs.Field.{field}
+use Rattle.net_base.specs.Borrow.{Holds}
 use Rattle.wire_addr.specs.Protocol.{known, number_of, protocol_of}
 use Rattle.wire_addr.specs.declared.ip_protocol.IpProtocol.{IpProtocol}
 use Rattle.wire_ipv6.specs.declared.ipv6.packet.Ipv6View.{Ipv6View}

@@ -2,7 +2,7 @@
 use Rattle.std.specs.Prelude.{ℕ, List, [], ◌∷◌}
 use Rattle.byteorder.specs.Endian.{big_number}
 use Rattle.wire_addr.specs.Protocol.{number_of}
-use Rattle.wire_field.specs.Diagram.{nth_field, with_nth}
+use Rattle.net_base.specs.Diagram.{nth_field, with_nth}
 use Rattle.wire_ipv6.specs.declared.laws.Ipv6Getting.{Ipv6Getting}
 use Rattle.wire_ipv6.specs.declared.laws.Ipv6Getting.TheVariants as get
 use Rattle.wire_ipv6.specs.declared.laws.Ipv6Setting.{Ipv6Setting}

@@ -1,7 +1,7 @@
 -- The fields of a fragment header after its first two bytes, in the order of RFC 8200's diagram, and which of them each
 -- call reads or writes.
 use Rattle.std.specs.Prelude.{ℕ, List, [], ◌∷◌}
-use Rattle.wire_field.specs.Diagram.{flag, nth_field, with_nth}
+use Rattle.net_base.specs.Diagram.{flag, nth_field, with_nth}
 use Rattle.wire_ipv6.specs.declared.laws.Ipv6FragmentGetting.{Ipv6FragmentGetting}
 use Rattle.wire_ipv6.specs.declared.laws.Ipv6FragmentGetting.TheVariants as get
 use Rattle.wire_ipv6.specs.declared.laws.Ipv6FragmentSetting.{Ipv6FragmentSetting}

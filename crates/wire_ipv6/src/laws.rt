@@ -2,8 +2,8 @@
 
 ghost use Rattle.std.specs.Prelude.{◌≡◌, ◌↔◌, ℕ, ◌+◌, ◌++◌, ◌<◌, ◌≤◌, IsTrue, Some, length};
 ghost use Rattle.wire_addr.specs.Protocol.{protocol_of};
-ghost use Rattle.wire_field.specs.Diagram.{end_of};
-ghost use Rattle.wire_field.specs.Field.{with_field, with_range};
+ghost use Rattle.net_base.specs.Diagram.{end_of};
+ghost use Rattle.net_base.specs.Field.{with_field, with_range};
 ghost use Rattle.wire_ipv6.specs.Ipv6 as ipv6;
 ghost use Rattle.wire_ipv6.specs.Ipv6Fields as ipv6_fields;
 ghost use Rattle.wire_ipv6.specs.Ipv6Fragment as fragment;
@@ -11,8 +11,8 @@ ghost use Rattle.wire_ipv6.specs.Ipv6FragmentFields as fragment_fields;
 
 use crate::ipv6::{IPV6_HEADER_LEN, Ipv6Packet, Ipv6PacketMut, Ipv6Repr};
 use crate::ipv6fragment::{Ipv6FragmentHeader, Ipv6FragmentHeaderMut, Ipv6FragmentRepr};
+use net_base::laws::bytes_fit;
 use wire_addr::{IpProtocol, Ipv6Address};
-use wire_field::laws::bytes_fit;
 
 /// The header of a value, with its payload and any bytes after it, parses as the value's normal
 /// form.

@@ -2,7 +2,7 @@
 -- Pinned by: `worked/link`, `apps/links`
 use Rattle.std.specs.Prelude.{ℕ, ◌+◌, ◌==◌, ◌||◌, not, nat_lt, if◌then◌else◌, Bool, List, [], ◌∷◌, drop, length, slice_index, Option, Some, None, Result, Ok, Err}
 use Rattle.byteorder.specs.Endian.{little_number}
-use Rattle.wire_field.specs.Field.{field}
+use Rattle.net_base.specs.Field.{field}
 use Rattle.wire_link.specs.declared.link.Link.{Link}
 use Rattle.wire_link.specs.declared.link.LinkFault.{LinkFault}
 use Rattle.wire_link.specs.declared.link.LinkFault.TheVariants as fault

@@ -7,7 +7,7 @@ use Rattle.wire_tcp_options.specs.TcpItems.{IsItem, IsOptionList, IsTail, Item, 
 use Rattle.wire_tcp_options.proofs.FirstItems.{Leads, Leads-first_item, first_item-Leads}
 use Rattle.wire_tcp_options.proofs.OptionLists.{shorter, text_head}
 use Rattle.wire_tcp.specs.TcpRepr.{items_in, items_within}
-use Rattle.wire_field.proofs.Readings.{option_map-Some}
+use Rattle.net_base.proofs.Readings.{option_map-Some}
 use Rattle.std.proofs.lemmas.Grind.{common_steps}
 use Rattle.std.proofs.lemmas.Bool.Decides.{nat_tests}
 

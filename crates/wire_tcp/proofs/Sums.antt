@@ -2,10 +2,10 @@
 use Rattle.std.proofs.Common.{ℕ, ◌≡◌, ◌≢◌, ◌≤◌, ◌<◌, ◌+◌, ◌-◌, ◌*◌, ◌%◌, List, ◌++◌, length, slice_range, sum, take, drop, refl, sym, subst, ap, ◌∙◌, arith}
 use Rattle.byteorder.specs.Endian.{big_bytes}
 use Rattle.wire_addr.specs.declared.ip_address.IpAddress.{IpAddress}
-use Rattle.wire_field.proofs.Cells.{cells-drop, word_high, word_low}
-use Rattle.wire_field.proofs.Spelled.{AreBytes}
-use Rattle.wire_field.proofs.Written.{AreBytes-with_field, length_with_field}
-use Rattle.wire_field.specs.Field.{field, with_field}
+use Rattle.net_base.proofs.Cells.{cells-drop, word_high, word_low}
+use Rattle.net_base.proofs.Spelled.{AreBytes}
+use Rattle.net_base.proofs.Written.{AreBytes-with_field, length_with_field}
+use Rattle.net_base.specs.Field.{field, with_field}
 use Rattle.wire_checksum.proofs.Parts.{sum-words-with_field, sum-words-with_range, sum-words-word}
 use Rattle.wire_checksum.proofs.PseudoSums.{pseudo_header_total, sum-with_pseudo_header}
 use Rattle.wire_checksum.proofs.Residues.{residue-complement}

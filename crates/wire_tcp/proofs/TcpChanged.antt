@@ -3,11 +3,11 @@ use Rattle.std.proofs.Common.{ℕ, ◌≡◌, ◌≢◌, ◌⊎◌, inl, ◌≤�
 use Rattle.std.proofs.lemmas.Bool.Decides.{nat_tests}
 use Rattle.std.proofs.lemmas.List.{drop-drop}
 use Rattle.std.specs.Option.{option_map}
-use Rattle.wire_field.specs.Field.{field, with_field}
-use Rattle.wire_field.proofs.Following.{drop-with_field}
-use Rattle.wire_field.proofs.Cells.{cells-drop}
-use Rattle.wire_field.proofs.Spelled.{AreBytes}
-use Rattle.wire_field.proofs.Written.{field_with_field_other, length_with_field}
+use Rattle.net_base.specs.Field.{field, with_field}
+use Rattle.net_base.proofs.Following.{drop-with_field}
+use Rattle.net_base.proofs.Cells.{cells-drop}
+use Rattle.net_base.proofs.Spelled.{AreBytes}
+use Rattle.net_base.proofs.Written.{field_with_field_other, length_with_field}
 use Rattle.wire_addr.specs.declared.ip_address.IpAddress.{IpAddress}
 use Rattle.wire_addr.specs.IpAddress.{address_bytes}
 use Rattle.wire_tcp.proofs.Sums.{verifies}

@@ -7,7 +7,7 @@ use Rattle.std.specs.Prelude.{if◌then◌else◌}
 use Rattle.std.specs.Result.{result_ok}
 use Rattle.net_base.specs.declared.error.Error.{Error}
 use Rattle.wire_addr.specs.declared.ip_address.IpAddress.{IpAddress}
-use Rattle.wire_field.specs.Field.{field}
+use Rattle.net_base.specs.Field.{field}
 use Rattle.wire_tcp.specs.Tcp.{HasLengths, Verifies, has_lengths, options_of, payload_of}
 use Rattle.wire_tcp_options.specs.TcpItems.{IsOptionList, Item}
 use Rattle.wire_tcp_options.specs.declared.tcp.control.TcpControl.{TcpControl}

@@ -4,7 +4,7 @@ use Rattle.std.proofs.lemmas.Bool.Decides.{nat_tests}
 use Rattle.std.proofs.lemmas.Grind.{common_steps}
 use mathlib.Core.Bool.{beq}
 use Rattle.wire_addr.specs.declared.ip_address.IpAddress.{IpAddress}
-use Rattle.wire_field.specs.Field.{field}
+use Rattle.net_base.specs.Field.{field}
 use Rattle.wire_tcp.specs.Tcp.{header_len, segment_len}
 use Rattle.wire_tcp.specs.TcpRepr.{HasControl, IsQuiet, Reads, TcpHeader}
 use Rattle.wire_tcp_options.specs.TcpSeq.{control_len}

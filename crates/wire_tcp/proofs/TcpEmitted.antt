@@ -6,8 +6,8 @@ use Rattle.std.proofs.lemmas.List.{append-nil, drop-drop, drop_at, length-replic
 use Rattle.std.proofs.lemmas.Grind.{flat_map-append}
 use Rattle.std.proofs.Math.Dec.{eqb-suc-zero}
 use Rattle.wire_addr.specs.declared.ip_address.IpAddress.{IpAddress}
-use Rattle.wire_field.specs.Field.{with_field, with_range}
-use Rattle.wire_field.specs.Borrow.{Holds}
+use Rattle.net_base.specs.Field.{with_field, with_range}
+use Rattle.net_base.specs.Borrow.{Holds}
 use Rattle.wire_tcp.specs.Tcp.{segment_sum, with_checksum}
 use Rattle.wire_tcp_options.specs.TcpItems.{Item, item, texts}
 use Rattle.wire_tcp_options.specs.TcpOption.{range_bytes}

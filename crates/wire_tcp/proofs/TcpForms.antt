@@ -8,9 +8,9 @@ use Rattle.std.proofs.lemmas.List.{length-map, length-replicate}
 use Rattle.std.proofs.Math.Facts.{sfits_to_z}
 use Rattle.byteorder.specs.Endian.{big_number}
 use Rattle.wire_addr.specs.declared.ip_address.IpAddress.{IpAddress}
-use Rattle.wire_field.specs.Field.{field}
-use Rattle.wire_field.proofs.ByteLists.{AreBytes-drop, AreBytes-take}
-use Rattle.wire_field.proofs.Spelled.{AreBytes}
+use Rattle.net_base.specs.Field.{field}
+use Rattle.net_base.proofs.ByteLists.{AreBytes-drop, AreBytes-take}
+use Rattle.net_base.proofs.Spelled.{AreBytes}
 use Rattle.wire_tcp.specs.Tcp.{header_len, options_of}
 use Rattle.wire_tcp_options.specs.TcpItems.{Item, IsItem, block_at, first_blocks, is_of, is_timestamp, last_of, stamps, text, texts, timestamp_of, window_scale_of}
 use Rattle.wire_tcp_options.specs.declared.tcp.TheConstants.{SACK_BLOCKS}

@@ -7,7 +7,7 @@ use Rattle.std.specs.Int.{w32}
 use mir.ValLaws as laws
 use Rattle.wire_addr.specs.IpAddress.{address_bytes}
 use Rattle.wire_addr.specs.declared.ip_address.IpAddress.{IpAddress}
-use Rattle.wire_field.specs.Field.{field}
+use Rattle.net_base.specs.Field.{field}
 use Rattle.wire_tcp.specs.Tcp.{Verifies, header_len, options_of, payload_of}
 use Rattle.wire_tcp_options.specs.TcpSeq.{number}
 use Rattle.wire_tcp.proofs.Sums.{verifies}

@@ -9,10 +9,10 @@ use Rattle.wire_checksum.proofs.Parts.{sum-words-with_range, take-with_range}
 use Rattle.wire_checksum.specs.WordSum.{words}
 use Rattle.wire_addr.specs.IpAddress.{address_bytes}
 use Rattle.wire_addr.specs.declared.ip_address.IpAddress.{IpAddress}
-use Rattle.wire_field.specs.Field.{field, with_range}
-use Rattle.wire_field.proofs.ByteLists.{AreBytes-append, AreBytes-bytes_high_first, AreBytes-drop, AreBytes-take}
-use Rattle.wire_field.proofs.Cells.{cells-all}
-use Rattle.wire_field.proofs.Spelled.{AreBytes}
+use Rattle.net_base.specs.Field.{field, with_range}
+use Rattle.net_base.proofs.ByteLists.{AreBytes-append, AreBytes-bytes_high_first, AreBytes-drop, AreBytes-take}
+use Rattle.net_base.proofs.Cells.{cells-all}
+use Rattle.net_base.proofs.Spelled.{AreBytes}
 use Rattle.wire_tcp.proofs.OptionItems.{items_in-list}
 use Rattle.wire_tcp.proofs.Sums.{valid-updated}
 use Rattle.wire_tcp.proofs.TcpChanged.{control_kept, receiver_read, reads_checksum, sender_read}
@@ -25,7 +25,7 @@ use Rattle.wire_tcp_options.specs.TcpItems.{IsOptionList, Item, segment_size_of}
 use Rattle.wire_tcp_options.specs.TcpPlace.{segment_size_at}
 use Rattle.wire_tcp_options.specs.TcpSummary.{HasNoList}
 use Rattle.wire_tcp_options.specs.declared.tcp.control.TcpControl.{TcpControl}
-use Rattle.wire_field.proofs.Readings.{option_map-Some}
+use Rattle.net_base.proofs.Readings.{option_map-Some}
 use Rattle.std.proofs.lemmas.Grind.{common_steps}
 use Rattle.std.proofs.lemmas.Bool.Decides.{nat_tests}
 

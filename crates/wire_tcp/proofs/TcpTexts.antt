@@ -6,7 +6,7 @@ use Rattle.std.specs.Prelude.{if◌then◌else◌}
 use Rattle.std.proofs.lemmas.Bool.{false_from_ne_true, eqb-true}
 use Rattle.std.proofs.lemmas.Bool.Decides.{nat_tests}
 use Rattle.std.proofs.lemmas.List.{append-nil}
-use Rattle.wire_field.specs.Field.{field}
+use Rattle.net_base.specs.Field.{field}
 use Rattle.wire_tcp.specs.Tcp.{HasLengths, has_lengths, header_len, options_of}
 use Rattle.wire_tcp_options.specs.TcpItems.{IsItem, Item, first_item, is_timestamp, text}
 use Rattle.wire_tcp_options.specs.TcpOption.{BeginsNothing, IsReading}

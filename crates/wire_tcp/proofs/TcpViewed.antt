@@ -4,7 +4,7 @@ use mathlib.Core.List.{List}
 use Prim.Native.Nat.{ℕ}
 use denote.Builtin.{u8}
 use denote.Ref.{MutBor}
-use Rattle.wire_field.proofs.Views.{View}
+use Rattle.net_base.proofs.Views.{View}
 use Rattle.wire_tcp.specs.Tcp.{Writing}
 use Rattle.wire_tcp.specs.contracts.tcp.packet.TcpView as T
 

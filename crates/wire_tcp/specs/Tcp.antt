@@ -3,8 +3,8 @@
 use Rattle.std.specs.Prelude.{ℕ, Bool, if◌then◌else◌, nat_le, ◌&&◌, ◌≡◌, ◌≤◌, ◌+◌, ◌-◌, ◌*◌, List, drop, length, slice_range}
 use Rattle.std.specs.Borrow.{Bor, MutBor}
 use Rattle.wire_addr.specs.declared.ip_address.IpAddress.{IpAddress}
-use Rattle.wire_field.specs.Field.{field, with_field}
-use Rattle.wire_field.specs.Borrow.{Holds}
+use Rattle.net_base.specs.Field.{field, with_field}
+use Rattle.net_base.specs.Borrow.{Holds}
 use Rattle.wire_checksum.specs.PseudoHeader.{pseudo_header_bytes, with_pseudo_header}
 use Rattle.wire_addr.specs.IpAddress.{address_bytes}
 use Rattle.wire_checksum.specs.WordSum.{sum_of_bytes, updated}

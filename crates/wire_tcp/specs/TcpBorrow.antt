@@ -4,7 +4,7 @@ use Rattle.std.specs.Prelude.{ℕ, ◌++◌, List, [], take}
 use Rattle.std.specs.Borrow.{Lends, MutBor, Fml, Array, u8}
 use denote.Slice.{MutSlice}
 use mir.Syntax.{named}
-use Rattle.wire_field.specs.Field.{with_range}
+use Rattle.net_base.specs.Field.{with_range}
 use Rattle.wire_tcp.specs.Tcp.{Writing, header_len, packet_bytes_mut}
 use Rattle.wire_tcp.specs.contracts.tcp.packet.TcpView.{the_row}
 

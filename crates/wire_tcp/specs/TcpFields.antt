@@ -3,8 +3,8 @@ use Rattle.std.specs.Prelude.{ℕ, ◌-◌, ◌*◌, ◌/◌, ◌==◌, if◌the
 use Rattle.wire_checksum.specs.WordSum.{sum_of_bytes, updated}
 use Rattle.wire_addr.specs.IpAddress.{address_bytes}
 use Rattle.wire_addr.specs.declared.ip_address.IpAddress.{IpAddress}
-use Rattle.wire_field.specs.Diagram.{flag, nth_field, with_nth}
-use Rattle.wire_field.specs.Field.{with_field}
+use Rattle.net_base.specs.Diagram.{flag, nth_field, with_nth}
+use Rattle.net_base.specs.Field.{with_field}
 use Rattle.wire_tcp.specs.Tcp.{segment_sum}
 use Rattle.wire_tcp_options.specs.TcpSeq.{number}
 use Rattle.wire_tcp_options.specs.declared.tcp.control.TcpControl.{TcpControl}

@@ -4,7 +4,7 @@ use Rattle.std.specs.Prelude.{ℕ, ◌+◌, List, Option}
 use Rattle.std.specs.Option.{option_and_then, option_map, option_map_or}
 use Rattle.byteorder.specs.Endian.{big_bytes}
 use Rattle.wire_checksum.specs.WordSum.{sum_of_bytes}
-use Rattle.wire_field.specs.Field.{with_range}
+use Rattle.net_base.specs.Field.{with_range}
 use Rattle.wire_tcp.specs.Tcp.{options_of, with_updated_checksum}
 use Rattle.wire_tcp.specs.TcpRepr.{items_in}
 use Rattle.wire_tcp_options.specs.TcpItems.{segment_size_of}

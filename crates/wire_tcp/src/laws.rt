@@ -4,16 +4,16 @@ ghost use Rattle.std.specs.Prelude.{◌≡◌, ◌≢◌, ◌⊎◌, ◌↔◌, 
 ghost use Rattle.std.specs.Option.{option_map};
 ghost use Rattle.wire_addr.specs.IpAddress.{address_bytes, version_of};
 ghost use Rattle.wire_addr.specs.declared.ip_address.IpAddress.{IpAddress};
-ghost use Rattle.wire_field.specs.Diagram.{end_of};
-ghost use Rattle.wire_field.specs.Field.{field, with_field};
+ghost use Rattle.net_base.specs.Diagram.{end_of};
+ghost use Rattle.net_base.specs.Field.{field, with_field};
 ghost use Rattle.wire_tcp.specs.Tcp.{HasLengths, Verifies, ack_bits_of, header_len, packet_bytes, packet_bytes_mut, payload_of, with_checksum, with_checksum_field, with_dst_port, with_flag, with_src_port, with_window_len};
 ghost use Rattle.wire_tcp.specs.TcpRepr.{HasIdleRanges, IsQuiet, Reads, TcpHeader, bytes_of, header_len_of, header_of, no_ranges, normal, seq_of, tcp_of};
 ghost use Rattle.wire_tcp.specs.TcpFields.{address_after, address_before, after, after_fill, after_update, diagram, got, quiet_of, read_of, with_no_flags, with_sums, write_of};
 
 use crate::tcp::{TCP_HEADER_LEN, TcpPacket, TcpPacketMut, TcpRepr};
 use net_base::ChecksumCapabilities;
+use net_base::laws::bytes_fit;
 use wire_addr::IpAddress;
-use wire_field::laws::bytes_fit;
 use wire_tcp_options::{TcpControl, TcpSeqNumber};
 
 /// The emitted segment, in a buffer of exactly its length, parses as the value's normal form and

@@ -7,7 +7,7 @@ use Rattle.std.proofs.lemmas.List.{drop_at, length-take-le, take_at}
 use Rattle.wire_tcp_options.specs.TcpItems.{Item, IsItem, first_item, is_sized, item, text}
 use Rattle.wire_tcp_options.proofs.Items.{IsItem_bare, text-bare, text-other, text_here}
 use Rattle.wire_tcp_options.proofs.Summaries.{and_right}
-use Rattle.wire_field.proofs.Readings.{none_of}
+use Rattle.net_base.proofs.Readings.{none_of}
 use Rattle.std.proofs.lemmas.Grind.{common_steps}
 
 -- the data of an item have a length that its kind allows

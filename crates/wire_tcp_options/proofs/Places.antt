@@ -6,8 +6,8 @@ use Rattle.std.proofs.lemmas.Bool.{eq-eqb, eqb-true, false_from_ne_true}
 use Rattle.std.proofs.lemmas.Grind.{flat_map-append}
 use Rattle.std.proofs.lemmas.List.{drop_at, take_at}
 use Rattle.byteorder.specs.Endian.{big_bytes, big_number}
-use Rattle.wire_field.specs.Field.{with_range}
-use Rattle.wire_field.proofs.Cells.{cells-all}
+use Rattle.net_base.specs.Field.{with_range}
+use Rattle.net_base.proofs.Cells.{cells-all}
 use Rattle.wire_tcp_options.proofs.FirstItems.{is_item}
 use Rattle.wire_tcp_options.proofs.Items.{text-other}
 use Rattle.wire_tcp_options.proofs.OptionLists.{Items, one_list}

@@ -2,7 +2,7 @@
 -- Pinned by: `wire/tcp_options`
 use Rattle.std.specs.Prelude.{ℕ, ◌≡◌, ◌++◌, List, length}
 use Rattle.std.specs.Borrow.{Lends, MutBor, Fml, Array, u8}
-use Rattle.wire_field.specs.declared.located.Located.{Located}
+use Rattle.net_base.specs.declared.located.Located.{Located}
 
 -- At the end of the borrow the slice has these bytes at its front, followed by the bytes that were written to the
 -- rest.

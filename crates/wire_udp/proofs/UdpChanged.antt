@@ -1,7 +1,7 @@
 -- A packet in which a field of the header changed.
 use Rattle.std.proofs.Common.{ℕ, ◌≡◌, ◌≢◌, ◌<◌, ◌-◌, Bool, IsTrue, List, drop, length, take, refl, sym, ap, ◌∙◌, arith}
-use Rattle.wire_field.specs.Field.{with_field}
-use Rattle.wire_field.proofs.Cells.{cells-drop}
+use Rattle.net_base.specs.Field.{with_field}
+use Rattle.net_base.proofs.Cells.{cells-drop}
 use Rattle.wire_addr.specs.declared.ip_address.IpAddress.{IpAddress}
 use Rattle.wire_udp.proofs.UdpComputed.{Reads-is}
 use Rattle.wire_udp.specs.Udp.{HasChecksum, Reads, header_of, packet_len}

@@ -3,7 +3,7 @@ use Rattle.std.proofs.Common.{ℕ, ◌≡◌, ◌↔◌, Bool, true, false, List
 use Rattle.std.proofs.lemmas.Bool.Decides.{nat_tests}
 use Rattle.std.specs.Bool.{Decides}
 use Rattle.std.specs.Result.{result_ok}
-use Rattle.wire_field.proofs.Readings.{answer_computed}
+use Rattle.net_base.proofs.Readings.{answer_computed}
 use Rattle.net_base.specs.declared.error.Error.{Error}
 use Rattle.wire_addr.specs.declared.ip_address.IpAddress.{IpAddress}
 use Rattle.wire_addr.specs.declared.ip_address.IpAddress.TheVariants as address

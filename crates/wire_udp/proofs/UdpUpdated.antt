@@ -2,9 +2,9 @@
 use Rattle.std.proofs.Common.{ℕ, ◌≡◌, ◌≢◌, ◌≤◌, ◌<◌, ◌+◌, ◌-◌, ◌*◌, ◌%◌, ◌==◌, if◌then◌else◌, inl, inr, Bool, true, false, IsTrue, List, length, sum, take, refl, sym, subst, ap, ◌∙◌, arith}
 use Rattle.std.proofs.lemmas.Bool.Decides.{nat_tests}
 use Rattle.std.proofs.lemmas.List.{length-take-le}
-use Rattle.wire_field.specs.Field.{field, with_field}
-use Rattle.wire_field.proofs.Spelled.{AreBytes}
-use Rattle.wire_field.proofs.Written.{AreBytes-with_field, field_with_field_other, field_with_field_same, length_with_field}
+use Rattle.net_base.specs.Field.{field, with_field}
+use Rattle.net_base.proofs.Spelled.{AreBytes}
+use Rattle.net_base.proofs.Written.{AreBytes-with_field, field_with_field_other, field_with_field_same, length_with_field}
 use Rattle.wire_checksum.proofs.Parts.{sum-take-with_field}
 use Rattle.wire_checksum.proofs.PseudoSums.{pseudo_header_total, sum-with_pseudo_header}
 use Rattle.wire_checksum.proofs.Residues.{residue-bound, residue-of_zero, residue-same}

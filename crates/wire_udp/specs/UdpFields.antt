@@ -3,7 +3,7 @@ use Rattle.std.specs.Prelude.{ℕ, ◌-◌, ◌==◌, if◌then◌else◌, List,
 use Rattle.wire_checksum.specs.WordSum.{sum_of_bytes, updated}
 use Rattle.wire_addr.specs.IpAddress.{address_bytes}
 use Rattle.wire_addr.specs.declared.ip_address.IpAddress.{IpAddress}
-use Rattle.wire_field.specs.Diagram.{nth_field, with_nth}
+use Rattle.net_base.specs.Diagram.{nth_field, with_nth}
 use Rattle.wire_udp.specs.Udp.{checksum_for, packet_sum}
 use Rattle.wire_udp.specs.declared.laws.UdpGetting.{UdpGetting}
 use Rattle.wire_udp.specs.declared.laws.UdpGetting.TheVariants as get

@@ -3,14 +3,14 @@
 ghost use Rattle.std.specs.Prelude.{◌≡◌, ◌≢◌, ◌↔◌, ◌++◌, ◌%◌, ◌≤◌, IsTrue, List, Some, false, length, true, ℕ};
 ghost use Rattle.wire_addr.specs.IpAddress.{address_bytes, version_of};
 ghost use Rattle.wire_addr.specs.declared.ip_address.IpAddress.{IpAddress};
-ghost use Rattle.wire_field.specs.Diagram.{end_of, nth_field};
+ghost use Rattle.net_base.specs.Diagram.{end_of, nth_field};
 ghost use Rattle.wire_udp.specs.Udp.{HasChecksum, HasLengths, Reads, Verifies, bytes_of, checksum_of, max_payload_len, packet_bytes, packet_bytes_mut, packet_len, payload_of, udp_of, with_checksum, with_checksum_field, with_dst_port, with_src_port};
 ghost use Rattle.wire_udp.specs.UdpFields.{address_after, address_before, after, after_fill, after_update, diagram, got, read_of, with_sums, write_of};
 ghost use Rattle.wire_udp.specs.declared.udp.repr.UdpRepr.{UdpRepr};
 
 use crate::udp::{UDP_HEADER_LEN, UdpPacket, UdpPacketMut, UdpRepr};
+use net_base::laws::bytes_fit;
 use wire_addr::IpAddress;
-use wire_field::laws::bytes_fit;
 
 /// The emitted packet, with any bytes after it, parses as the same value and payload. A checksum
 /// that is verified must have been computed.

@@ -5,15 +5,14 @@ ghost use Rattle.std.specs.Option.{option_map};
 ghost use Rattle.ip_wire.specs.Frame as frame;
 ghost use Rattle.ip_wire.specs.Frame.{ReadsCarried};
 ghost use Rattle.ip_wire.specs.FrameValue.{FindsCarried, FitsCarried, FitsTransport, GivesCarried, ParsesCarried, carried_bytes, carried_len, carried_of, carried_payload, carried_text, packet_bytes, transport_len};
-ghost use Rattle.wire_field.specs.Filled.{Fills};
+ghost use Rattle.net_base.specs.Filled.{Fills};
 ghost use Rattle.wire_ip.specs.Ip as ip;
 
 use super::Transport;
-use net_base::{ChecksumCapabilities, Error, Result};
+use net_base::{ChecksumCapabilities, Error, Result, try_copy};
 use std::fmt;
 use wire_arp::{ArpPacket, ArpRepr};
 use wire_ethernet::EthernetProtocol;
-use wire_field::try_copy;
 use wire_ip::IpRepr;
 use wire_ipv4::{Ipv4Packet, Ipv4Repr};
 use wire_ipv6::{Ipv6Packet, Ipv6Repr};

@@ -5,12 +5,11 @@ ghost use Rattle.std.specs.Option.{option_map};
 ghost use Rattle.ip_wire.specs.Frame as frame;
 ghost use Rattle.ip_wire.specs.Frame.{ReadsTransport};
 ghost use Rattle.ip_wire.specs.FrameValue.{FindsTransport, FitsTransport, GivesTransport, ParsesTransport, transport_bytes, transport_len, transport_of, transport_payload, transport_text};
-ghost use Rattle.wire_field.specs.Filled.{Fills};
+ghost use Rattle.net_base.specs.Filled.{Fills};
 
-use net_base::{ChecksumCapabilities, Error, Result};
+use net_base::{ChecksumCapabilities, Error, Result, try_copy};
 use std::fmt;
 use wire_addr::IpProtocol;
-use wire_field::try_copy;
 use wire_ip::IpRepr;
 use wire_tcp::{TCP_MAX_HEADER_LEN, TcpPacket, TcpRepr};
 use wire_udp::{UDP_HEADER_LEN, UDP_MAX_PAYLOAD_LEN, UdpPacket, UdpRepr};

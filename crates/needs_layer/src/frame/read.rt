@@ -9,7 +9,7 @@ ghost use Rattle.wire_addr.specs.IpVersion.{version_number};
 ghost use Rattle.wire_ethernet.specs.Ethernet as ethernet;
 ghost use Rattle.wire_ethernet.specs.declared.EthernetRepr.{EthernetRepr};
 ghost use Rattle.wire_ethernet.specs.declared.EthernetProtocol.TheVariants as ethertype;
-ghost use Rattle.wire_field.specs.Field.{field};
+ghost use Rattle.net_base.specs.Field.{field};
 ghost use Rattle.wire_ip.specs.Ip as ip;
 ghost use Rattle.wire_ip.specs.declared.IpRepr.{IpRepr};
 

@@ -3,7 +3,7 @@
 ghost use Rattle.std.specs.Prelude.{◌≡◌, ◌%◌, ◌≤◌, ◌∷◌, [], length, true};
 ghost use Rattle.wire_addr.specs.IpAddress.{address_bytes, version_of};
 ghost use Rattle.wire_addr.specs.declared.ip_address.IpAddress.TheVariants.{Ipv4};
-ghost use Rattle.wire_field.specs.Field.{with_field};
+ghost use Rattle.net_base.specs.Field.{with_field};
 ghost use Rattle.wire_tcp.specs.TcpFields.{address_after, address_before};
 ghost use Rattle.wire_tcp.specs.Tcp.{header_len, packet_bytes, packet_bytes_mut, segment_sum};
 

@@ -9,10 +9,9 @@ use super::places::{self, FIXED_LEN};
 use super::text::write_fields;
 use super::{ArpHardware, ArpOperation, ArpRepr};
 use byteorder::{ByteOrder, NetworkEndian};
-use net_base::{Error, Result};
+use net_base::{Error, Octets, Result, debug_view};
 use std::fmt;
 use wire_ethernet::EthernetProtocol;
-use wire_field::{Octets, debug_view};
 
 /// A view of the bytes of a packet. Its calls ask for the bytes that they read, and for no more.
 #[derive(Clone, Copy, PartialEq, Eq, Drop)]

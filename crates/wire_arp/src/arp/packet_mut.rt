@@ -2,17 +2,16 @@
 
 ghost use Rattle.std.specs.Prelude.{◌≡◌, ◌↔◌, ◌≤◌, IfOk, IsOk, length};
 ghost use Rattle.std.specs.Borrow.{sem};
-ghost use Rattle.wire_field.specs.Field.{with_field, with_range};
-ghost use Rattle.wire_field.specs.Borrow.{Checks, Holds, StaysIfErr};
+ghost use Rattle.net_base.specs.Field.{with_field, with_range};
+ghost use Rattle.net_base.specs.Borrow.{Checks, Holds, StaysIfErr};
 ghost use Rattle.wire_arp.specs.Arp.{Becomes, HasLengths, hardware_len, hardware_number, operation_number, packet_bytes_mut, packet_slice, protocol_len, source_hardware_addr, source_hardware_end, source_protocol_addr, source_protocol_end, target_hardware_addr, target_hardware_end, target_protocol_addr, target_protocol_end};
 ghost use Rattle.wire_ethernet.specs.Ethernet.{number_of};
 
 use super::packet::ArpView;
 use super::{ArpHardware, ArpOperation, ArpPacket, ArpPacketMut, places};
 use byteorder::{ByteOrder, NetworkEndian};
-use net_base::{Error, Result};
+use net_base::{Checked, Error, Result};
 use wire_ethernet::EthernetProtocol;
-use wire_field::Checked;
 
 impl<'a> ArpPacketMut<'a> {
     /// The view of bytes that `check_len` takes. An error leaves them as they are.

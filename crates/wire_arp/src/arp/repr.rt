@@ -4,17 +4,16 @@ ghost use Rattle.std.specs.Prelude.{◌≡◌, ◌↔◌, ◌≤◌, ◌++◌, I
 ghost use Rattle.std.specs.Result.{result_ok};
 ghost use Rattle.wire_arp.specs.Arp.{Becomes, HasLengths, Reads, arp_of, bytes_of, ethernet_ipv4, packet_bytes, packet_bytes_mut};
 ghost use Rattle.wire_arp.specs.ArpText.{value_text};
-ghost use Rattle.wire_field.specs.Filled.{Fills};
+ghost use Rattle.net_base.specs.Filled.{Fills};
 ghost use Rattle.wire_arp.specs.declared.arp.repr.ArpRepr.{ArpRepr};
 
 use super::text::OperationWord;
 use super::{ArpHardware, ArpOperation, ArpPacket, ArpPacketMut};
 use byteorder::{ByteOrder, NetworkEndian};
-use net_base::{Error, Result};
+use net_base::{Error, Result, array_at, write_front};
 use std::fmt;
 use wire_addr::{EthernetAddress, Ipv4Address};
 use wire_ethernet::EthernetProtocol;
-use wire_field::{array_at, write_front};
 
 /// The length of an Ethernet address, in bytes.
 const ETHERNET_ADDR_LEN: u8 = 6;

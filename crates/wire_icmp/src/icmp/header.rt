@@ -3,7 +3,7 @@
 ghost use Rattle.std.specs.Prelude.{◌≡◌, ◌≤◌, ◌+◌, ◌-◌, ◌++◌, drop, length};
 ghost use Rattle.net_base.specs.Checksum.{computes};
 ghost use Rattle.wire_addr.specs.IpAddress.{version_of};
-ghost use Rattle.wire_field.specs.Filled.{Fills};
+ghost use Rattle.net_base.specs.Filled.{Fills};
 ghost use Rattle.wire_icmp.specs.Icmp.{Becomes, choice_of, emitted, header_bytes, message_sum, message_with, packet_bytes_mut};
 
 use super::{ICMP_HEADER_LEN, IcmpPacketMut, choice_of};

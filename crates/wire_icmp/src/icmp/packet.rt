@@ -7,10 +7,9 @@ ghost use Rattle.wire_icmp.specs.IcmpText.{packet_text};
 
 use super::{ICMP_HEADER_LEN, message_sum};
 use byteorder::{ByteOrder, NetworkEndian};
-use net_base::{Error, Result};
+use net_base::{Error, Octets, Result, debug_view};
 use std::fmt;
 use wire_addr::{IpAddress, IpVersion};
-use wire_field::{Octets, debug_view};
 
 /// A view of a borrowed ICMP message. A call requires only the bytes that it uses.
 #[derive(Clone, Copy, PartialEq, Eq, Drop)]

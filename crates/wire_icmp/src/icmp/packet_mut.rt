@@ -3,18 +3,17 @@
 ghost use Rattle.std.specs.Prelude.{◌≡◌, ◌↔◌, ◌≤◌, ◌+◌, IfOk, IsOk, length};
 ghost use Rattle.std.specs.Borrow.{sem};
 ghost use Rattle.wire_addr.specs.IpAddress.{version_of};
-ghost use Rattle.wire_field.specs.Field.{with_field, with_range};
-ghost use Rattle.wire_field.specs.Borrow.{Checks, Holds, Locates, StaysIfErr};
+ghost use Rattle.net_base.specs.Field.{with_field, with_range};
+ghost use Rattle.net_base.specs.Borrow.{Checks, Holds, Locates, StaysIfErr};
 ghost use Rattle.wire_icmp.specs.Icmp.{Becomes, HasHeader, echo_ident_of, packet_bytes_mut, packet_slice, payload_of, with_checksum, with_updated_checksum};
 ghost use Rattle.wire_icmp.specs.IcmpBorrow.{BorrowsPayload};
 
 use super::packet::IcmpView;
 use super::{ICMP_HEADER_LEN, IcmpPacket, IcmpPacketMut, message_sum};
 use byteorder::{ByteOrder, NetworkEndian};
-use net_base::{Error, Result};
+use net_base::{Checked, Error, Located, Result, write_at};
 use wire_addr::IpAddress;
 use wire_checksum::checksum;
-use wire_field::{Checked, Located, write_at};
 
 impl<'a> IcmpPacketMut<'a> {
     /// A mutable view of bytes that `check_len` accepts, else an error. Rejected bytes are

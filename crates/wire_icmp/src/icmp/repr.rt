@@ -4,7 +4,7 @@ ghost use Rattle.std.specs.Prelude.{◌≡◌, ◌↔◌, ◌≤◌, ◌+◌, �
 ghost use Rattle.std.specs.Result.{result_ok};
 ghost use Rattle.net_base.specs.Checksum.{computes, verifies};
 ghost use Rattle.wire_addr.specs.IpAddress.{version_of};
-ghost use Rattle.wire_field.specs.Filled.{Fills};
+ghost use Rattle.net_base.specs.Filled.{Fills};
 ghost use Rattle.wire_icmp.specs.Icmp.{Becomes, HasHeader, IsNormal, Reads, bytes_of, choice_of, code_of, header_of, icmp_of, is_error, message_of, packet_bytes, packet_bytes_mut, payload_of, type_of, word_of};
 ghost use Rattle.wire_icmp.specs.IcmpText.{value_text};
 ghost use Rattle.wire_icmp.specs.declared.icmp.repr.IcmpRepr.{IcmpRepr};

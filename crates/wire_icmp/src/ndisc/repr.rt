@@ -4,7 +4,7 @@ ghost use Rattle.std.specs.Prelude.{◌≡◌, ◌↔◌, ◌≤◌, ◌-◌, �
 ghost use Rattle.std.specs.Result.{result_ok};
 ghost use Rattle.net_base.specs.Checksum.{computes, verifies};
 ghost use Rattle.wire_addr.specs.IpAddress.{version_of};
-ghost use Rattle.wire_field.specs.Filled.{Fills};
+ghost use Rattle.net_base.specs.Filled.{Fills};
 ghost use Rattle.wire_icmp.specs.Icmp.{Becomes, packet_bytes, packet_bytes_mut};
 ghost use Rattle.wire_icmp.specs.Ndisc.{IsAllowed, Reads, address_in, body_of, bytes_of, flags_of, flags_word, header_of, is_sound, len_of, ndisc_of, option_type, target_of, value_of};
 ghost use Rattle.wire_icmp.specs.declared.ndisc.repr.NdiscRepr.{NdiscRepr};
@@ -12,9 +12,8 @@ ghost use Rattle.wire_icmp.specs.declared.ndisc.repr.NdiscRepr.{NdiscRepr};
 use super::NDISC_HOP_LIMIT;
 use super::option::{UNIT, find_lladdr};
 use crate::{ICMP_HEADER_LEN, IcmpHeader, IcmpPacket, IcmpPacketMut};
-use net_base::{ChecksumCapabilities, Error, Result};
+use net_base::{ChecksumCapabilities, Error, Result, array_at, is_bit_set, write_front, write_six};
 use wire_addr::{EthernetAddress, IpAddress, Ipv6Address};
-use wire_field::{array_at, is_bit_set, write_front, write_six};
 
 /// The type of a solicitation.
 const SOLICIT: u8 = 135;

@@ -1,7 +1,7 @@
 //! A view of an IP packet of either version.
 
 ghost use Rattle.std.specs.Prelude.{◌≡◌, ◌↔◌, ◌≤◌, IfOk, IsOk, length};
-ghost use Rattle.wire_field.specs.Field.{field};
+ghost use Rattle.net_base.specs.Field.{field};
 ghost use Rattle.wire_addr.specs.IpVersion.{IsOfVersion};
 ghost use Rattle.wire_addr.specs.declared.IpVersion.{IpVersion};
 ghost use Rattle.wire_ip.specs.Ip.{HasLengths, packet_bytes, payload_of};

@@ -1,7 +1,7 @@
 //! Views of IPv4 packets, and their getters.
 
 ghost use Rattle.std.specs.Prelude.{◌≡◌, ◌↔◌, ◌≤◌, IfOk, IsOk, IsTrue, Some, length, slice_range, take};
-ghost use Rattle.wire_field.specs.Field.{field};
+ghost use Rattle.net_base.specs.Field.{field};
 ghost use Rattle.wire_ipv4.specs.Ipv4.{HasLengths, checksum_of, dont_frag_of, dscp_of, dst_addr_of, ecn_of, fragment_offset, header_len, hop_limit_of, ident_of, ip_version_of, is_fragment, key_of, more_frags_of, next_header_of, packet_bytes, packet_slice, src_addr_of, total_len};
 ghost use Rattle.wire_ipv4.specs.Ipv4Text.{packet_text};
 ghost use Rattle.wire_checksum.specs.WordSum.{sum_of_bytes};
@@ -9,11 +9,10 @@ ghost use Rattle.wire_checksum.specs.WordSum.{sum_of_bytes};
 use super::text::write_fields;
 use super::{IPV4_HEADER_LEN, Ipv4FragKey, Ipv4Repr};
 use byteorder::{ByteOrder, NetworkEndian};
-use net_base::{ChecksumCapabilities, Error, Result};
+use net_base::{ChecksumCapabilities, Error, Octets, Result, array_at, debug_view, is_bit_set};
 use std::fmt;
 use wire_addr::{IpProtocol, Ipv4Address};
 use wire_checksum::checksum;
-use wire_field::{Octets, array_at, debug_view, is_bit_set};
 
 /// A view of a borrowed IPv4 packet. A call requires only the bytes that it uses.
 #[derive(Clone, Copy, PartialEq, Eq, Drop)]

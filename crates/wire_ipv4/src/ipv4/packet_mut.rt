@@ -2,8 +2,8 @@
 
 ghost use Rattle.std.specs.Prelude.{◌≡◌, ◌↔◌, ◌≤◌, ◌<◌, ◌-◌, ◌/◌, if◌then◌else◌, IfOk, IsOk, length, slice_range};
 ghost use Rattle.std.specs.Borrow.{sem};
-ghost use Rattle.wire_field.specs.Field.{with_field, with_range};
-ghost use Rattle.wire_field.specs.Borrow.{Checks, Holds, Locates, StaysIfErr};
+ghost use Rattle.net_base.specs.Field.{with_field, with_range};
+ghost use Rattle.net_base.specs.Borrow.{Checks, Holds, Locates, StaysIfErr};
 ghost use Rattle.wire_ipv4.specs.Ipv4.{Becomes, HasLengths, header_len, packet_bytes_mut, packet_slice, total_len, with_checksum, with_checksum_field};
 ghost use Rattle.wire_ipv4.specs.Ipv4Borrow.{BorrowsPayload};
 ghost use Rattle.wire_addr.specs.Protocol.{number_of};
@@ -11,10 +11,9 @@ ghost use Rattle.wire_addr.specs.Protocol.{number_of};
 use super::packet::Ipv4View;
 use super::{Ipv4Packet, Ipv4PacketMut};
 use byteorder::{ByteOrder, NetworkEndian};
-use net_base::{Error, Result};
+use net_base::{Checked, Error, Located, Result, set_bits, set_bits_u16};
 use wire_addr::{IpProtocol, Ipv4Address};
 use wire_checksum::checksum;
-use wire_field::{Checked, Located, set_bits, set_bits_u16};
 
 impl<'a> Ipv4PacketMut<'a> {
     /// A mutable view of bytes that `check_len` accepts, else an error. Rejected bytes are

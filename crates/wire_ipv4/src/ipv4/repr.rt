@@ -11,11 +11,10 @@ ghost use Rattle.wire_ipv4.specs.declared.ipv4.repr.Ipv4Repr.{Ipv4Repr};
 use super::{IPV4_HEADER_LEN, Ipv4Packet, Ipv4PacketMut};
 use arrayvec::ArrayString;
 use byteorder::{ByteOrder, NetworkEndian};
-use net_base::{ChecksumCapabilities, Error, Result};
+use net_base::{ChecksumCapabilities, Error, Result, write_front};
 use std::fmt;
 use wire_addr::{IpProtocol, Ipv4Address, push_dotted, push_protocol};
 use wire_checksum::for_emit;
-use wire_field::write_front;
 
 // The byte with the flags, of which only DF (don't fragment) is set, and the first bits of an
 // offset of 0.

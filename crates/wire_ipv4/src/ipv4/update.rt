@@ -2,14 +2,14 @@
 
 ghost use Rattle.std.specs.Prelude.{◌≡◌, ◌*◌, ◌%◌, ◌≤◌, Bool, length};
 ghost use Rattle.wire_checksum.specs.WordSum.{sum_of_bytes};
-ghost use Rattle.wire_field.specs.Field.{with_field, with_range};
+ghost use Rattle.net_base.specs.Field.{with_field, with_range};
 ghost use Rattle.wire_ipv4.specs.Ipv4.{Becomes, HasChecksum, Reads, dscp_of, dst_addr_of, ecn_of, header_len, hop_limit_of, packet_bytes_mut, src_addr_of, with_updated_checksum};
 ghost use Rattle.wire_ipv4.specs.declared.ipv4.repr.Ipv4Repr.{Ipv4Repr};
 
 use super::Ipv4PacketMut;
+use net_base::laws::bytes_fit;
 use wire_addr::Ipv4Address;
 use wire_checksum::checksum;
-use wire_field::laws::bytes_fit;
 
 impl<'a> Ipv4PacketMut<'a> {
     /// Updates the checksum after words of the header changed. `old` and `new` are the sums of these

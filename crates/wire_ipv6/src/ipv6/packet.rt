@@ -1,16 +1,15 @@
 //! Views of IPv6 packets, and their getters.
 
 ghost use Rattle.std.specs.Prelude.{◌≡◌, ◌↔◌, ◌≤◌, IfOk, IsOk, Some, length};
-ghost use Rattle.wire_field.specs.Field.{field};
+ghost use Rattle.net_base.specs.Field.{field};
 ghost use Rattle.wire_ipv6.specs.Ipv6.{HasLengths, dst_addr_of, hop_limit_of, ip_version_of, next_header_of, packet_bytes, packet_slice, payload_len_of, payload_of, src_addr_of, total_len};
 ghost use Rattle.wire_ipv6.specs.Ipv6Text.{packet_text};
 
 use super::{IPV6_HEADER_LEN, Ipv6Repr};
 use byteorder::{ByteOrder, NetworkEndian};
-use net_base::{Error, Result};
+use net_base::{Error, Octets, Result, array_at, debug_view};
 use std::fmt;
 use wire_addr::{IpProtocol, Ipv6Address};
-use wire_field::{Octets, array_at, debug_view};
 
 /// A view of a borrowed IPv6 packet. A call requires only the bytes that it uses.
 #[derive(Clone, Copy, PartialEq, Eq, Drop)]

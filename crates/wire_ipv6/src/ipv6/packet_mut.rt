@@ -2,8 +2,8 @@
 
 ghost use Rattle.std.specs.Prelude.{◌≡◌, ◌↔◌, ◌≤◌, IfOk, IsOk, length};
 ghost use Rattle.std.specs.Borrow.{sem};
-ghost use Rattle.wire_field.specs.Field.{with_field, with_range};
-ghost use Rattle.wire_field.specs.Borrow.{Checks, Holds, Locates, StaysIfErr};
+ghost use Rattle.net_base.specs.Field.{with_field, with_range};
+ghost use Rattle.net_base.specs.Borrow.{Checks, Holds, Locates, StaysIfErr};
 ghost use Rattle.wire_ipv6.specs.Ipv6.{Becomes, HasLengths, packet_bytes_mut, packet_slice, payload_of, total_len};
 ghost use Rattle.wire_ipv6.specs.Ipv6Borrow.{BorrowsPayload};
 ghost use Rattle.wire_addr.specs.Protocol.{number_of};
@@ -11,9 +11,8 @@ ghost use Rattle.wire_addr.specs.Protocol.{number_of};
 use super::packet::Ipv6View;
 use super::{IPV6_HEADER_LEN, Ipv6Packet, Ipv6PacketMut};
 use byteorder::{ByteOrder, NetworkEndian};
-use net_base::{Error, Result};
+use net_base::{Checked, Error, Located, Result, set_bits, set_bits_u16, set_bits_u24};
 use wire_addr::{IpProtocol, Ipv6Address};
-use wire_field::{Checked, Located, set_bits, set_bits_u16, set_bits_u24};
 
 impl<'a> Ipv6PacketMut<'a> {
     /// A mutable view of bytes that `check_len` accepts, else an error. Rejected bytes are unchanged.

@@ -5,9 +5,8 @@ ghost use Rattle.wire_ipv6.specs.Ipv6Fragment.{frag_offset_of, header_bytes, hea
 
 use super::{HEADER_LEN, Ipv6FragmentRepr};
 use byteorder::{ByteOrder, NetworkEndian};
-use net_base::{Error, Result};
+use net_base::{Error, Octets, Result, debug_view, is_bit_set};
 use std::fmt;
-use wire_field::{Octets, debug_view, is_bit_set};
 
 /// A view of a borrowed fragment header, without the next header and the reserved byte. A call
 /// requires only the bytes that it uses.

@@ -2,15 +2,14 @@
 
 ghost use Rattle.std.specs.Prelude.{◌↔◌, ◌≤◌, if◌then◌else◌, IfOk, IsOk, length};
 ghost use Rattle.std.specs.Borrow.{sem};
-ghost use Rattle.wire_field.specs.Field.{with_field};
-ghost use Rattle.wire_field.specs.Borrow.{Checks, Holds, StaysIfErr};
+ghost use Rattle.net_base.specs.Field.{with_field};
+ghost use Rattle.net_base.specs.Borrow.{Checks, Holds, StaysIfErr};
 ghost use Rattle.wire_ipv6.specs.Ipv6Fragment.{Becomes, header_bytes_mut, header_slice};
 
 use super::header::Ipv6FragmentView;
 use super::{Ipv6FragmentHeader, Ipv6FragmentHeaderMut};
 use byteorder::{ByteOrder, NetworkEndian};
-use net_base::{Error, Result};
-use wire_field::{Checked, set_bits, set_bits_u16};
+use net_base::{Checked, Error, Result, set_bits, set_bits_u16};
 
 impl<'a> Ipv6FragmentHeaderMut<'a> {
     /// A mutable view of bytes that `check_len` accepts, else an error. Rejected bytes are unchanged.

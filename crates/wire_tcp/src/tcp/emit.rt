@@ -3,8 +3,8 @@
 ghost use Rattle.std.specs.Prelude.{◌≡◌, ◌+◌, ◌≤◌, ◌++◌, [], drop, length};
 ghost use Rattle.net_base.specs.Checksum.{computes};
 ghost use Rattle.wire_addr.specs.IpAddress.{version_of};
-ghost use Rattle.wire_field.specs.Field.{with_range};
-ghost use Rattle.wire_field.specs.Filled.{Fills};
+ghost use Rattle.net_base.specs.Field.{with_range};
+ghost use Rattle.net_base.specs.Filled.{Fills};
 ghost use Rattle.wire_tcp.specs.Tcp.{Becomes, packet_bytes_mut};
 ghost use Rattle.wire_tcp_options.specs.TcpItems.{texts};
 ghost use Rattle.wire_tcp.specs.TcpFixed.{fixed_bytes};

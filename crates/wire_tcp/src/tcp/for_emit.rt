@@ -3,15 +3,15 @@
 ghost use Rattle.std.specs.Prelude.{◌≡◌, ◌+◌, ◌-◌, ◌≤◌, ◌++◌, drop, length, replicate};
 ghost use Rattle.byteorder.specs.Endian.{big_bytes};
 ghost use Rattle.wire_addr.specs.IpAddress.{version_of};
-ghost use Rattle.wire_field.specs.Field.{with_range};
+ghost use Rattle.net_base.specs.Field.{with_range};
 ghost use Rattle.wire_tcp.specs.Tcp.{Becomes, packet_bytes_mut, segment_sum, with_checksum_field};
 ghost use Rattle.wire_tcp_options.specs.TcpOption.{IsEmittable, option_len, option_text};
 ghost use Rattle.wire_tcp.specs.TcpFixed.{fixed_bytes};
 
 use super::{TCP_HEADER_LEN, TcpPacketMut};
 use byteorder::{ByteOrder, NetworkEndian};
+use net_base::write_at;
 use wire_addr::{IpAddress, IpProtocol};
-use wire_field::write_at;
 use wire_tcp_options::TcpOption;
 
 // The first 20 bytes of a header, with 0 as checksum and urgent pointer. `offset_and_flags` is

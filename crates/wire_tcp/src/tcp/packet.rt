@@ -2,7 +2,7 @@
 
 ghost use Rattle.std.specs.Prelude.{◌≡◌, ◌↔◌, ◌≤◌, [], IfOk, IsOk, IsTrue, OnErr, false, length, true};
 ghost use Rattle.wire_addr.specs.IpAddress.{version_of};
-ghost use Rattle.wire_field.specs.Field.{field};
+ghost use Rattle.net_base.specs.Field.{field};
 ghost use Rattle.wire_tcp.specs.Tcp.{HasLengths, Verifies, ack_bits_of, ack_of, checksum_of, cwr_of, dst_port_of, ece_of, fin_of, header_len, ns_of, options_of, packet_bytes, packet_slice, payload_of, pseudo_header_sum, psh_of, rst_of, segment_len, seq_bits_of, src_port_of, syn_of, urg_of, urgent_at_of, window_len_of};
 ghost use Rattle.wire_tcp_options.specs.TcpItems.{first_blocks};
 ghost use Rattle.wire_tcp_options.specs.TcpSeq.{number};
@@ -11,11 +11,10 @@ ghost use Rattle.wire_tcp_options.specs.TcpWalk.{Answers};
 
 use super::TCP_HEADER_LEN;
 use byteorder::{ByteOrder, NetworkEndian};
-use net_base::{Error, Result};
+use net_base::{Error, Octets, Result, debug_view, is_bit_set};
 use std::fmt;
 use wire_addr::{IpAddress, IpProtocol};
 use wire_checksum::checksum;
-use wire_field::{Octets, debug_view, is_bit_set};
 use wire_tcp_options::{SACK_BLOCKS, TcpOptionSummary, TcpSeqNumber, summarize, walk};
 
 /// A view of a borrowed TCP segment. A call requires only the bytes that it uses.

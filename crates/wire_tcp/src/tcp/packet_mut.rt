@@ -3,8 +3,8 @@
 ghost use Rattle.std.specs.Prelude.{◌≡◌, ◌↔◌, ◌≤◌, ◌/◌, IfOk, IsOk, length};
 ghost use Rattle.std.specs.Borrow.{sem};
 ghost use Rattle.wire_addr.specs.IpAddress.{version_of};
-ghost use Rattle.wire_field.specs.Field.{with_field};
-ghost use Rattle.wire_field.specs.Borrow.{Checks, Holds, Locates, StaysIfErr};
+ghost use Rattle.net_base.specs.Field.{with_field};
+ghost use Rattle.net_base.specs.Borrow.{Checks, Holds, Locates, StaysIfErr};
 ghost use Rattle.wire_tcp.specs.Tcp.{Becomes, HasLengths, header_len, options_of, packet_bytes_mut, packet_slice, payload_of, with_checksum, with_checksum_field, with_dst_port, with_flag, with_src_port, with_window_len};
 ghost use Rattle.wire_tcp.specs.TcpBorrow.{BorrowsOptions, BorrowsPayload};
 ghost use Rattle.wire_tcp_options.specs.TcpSeq.{number};
@@ -12,10 +12,9 @@ ghost use Rattle.wire_tcp_options.specs.TcpSeq.{number};
 use super::packet::TcpView;
 use super::{TCP_HEADER_LEN, TcpPacket, TcpPacketMut};
 use byteorder::{ByteOrder, NetworkEndian};
-use net_base::{Error, Result};
+use net_base::{Checked, Error, Located, Result, set_bits, set_bits_u16};
 use wire_addr::{IpAddress, IpProtocol};
 use wire_checksum::checksum;
-use wire_field::{Checked, Located, set_bits, set_bits_u16};
 use wire_tcp_options::TcpSeqNumber;
 
 impl<'a> TcpPacketMut<'a> {

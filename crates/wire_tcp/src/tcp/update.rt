@@ -6,16 +6,16 @@ ghost use Rattle.byteorder.specs.Endian.{big_bytes, big_number};
 ghost use Rattle.wire_checksum.specs.WordSum.{sum_of_bytes};
 ghost use Rattle.wire_addr.specs.IpAddress.{address_bytes};
 ghost use Rattle.wire_addr.specs.declared.ip_address.IpAddress.{IpAddress};
-ghost use Rattle.wire_field.specs.Field.{with_range};
+ghost use Rattle.net_base.specs.Field.{with_range};
 ghost use Rattle.wire_tcp.specs.Tcp.{Becomes, Verifies, dst_port_of, header_len, packet_bytes_mut, src_port_of, window_len_of, with_dst_port, with_src_port, with_updated_checksum, with_window_len};
 ghost use Rattle.wire_tcp.specs.TcpRepr.{Reads, TcpHeader};
 ghost use Rattle.wire_tcp.specs.TcpSegmentSize.{max_seg_size_at, max_seg_size_of, with_max_seg_size, with_size_at};
 
 use super::{TCP_HEADER_LEN, TcpPacketMut};
 use byteorder::{ByteOrder, NetworkEndian};
+use net_base::laws::bytes_fit;
 use wire_addr::IpAddress;
 use wire_checksum::checksum;
-use wire_field::laws::bytes_fit;
 use wire_tcp_options::max_segment_size_at;
 
 impl<'a> TcpPacketMut<'a> {

@@ -9,8 +9,7 @@ ghost use Rattle.wire_tcp_options.specs.TcpOption.{Begins, BeginsNothing, IsEmit
 
 use super::SACK_BLOCKS;
 use byteorder::{ByteOrder, NetworkEndian};
-use net_base::{Error, Result};
-use wire_field::Located;
+use net_base::{Error, Located, Result};
 
 pub(super) const OPT_END: u8 = 0;
 

@@ -7,11 +7,10 @@ ghost use Rattle.wire_udp.specs.UdpText.{packet_text};
 
 use super::UDP_HEADER_LEN;
 use byteorder::{ByteOrder, NetworkEndian};
-use net_base::{Error, Result};
+use net_base::{Error, Octets, Result, debug_view};
 use std::fmt;
 use wire_addr::{IpAddress, IpProtocol};
 use wire_checksum::checksum;
-use wire_field::{Octets, debug_view};
 
 /// A view of a borrowed UDP packet. A call requires only the bytes that it uses.
 #[derive(Clone, Copy, PartialEq, Eq, Drop)]

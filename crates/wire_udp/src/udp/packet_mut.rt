@@ -3,18 +3,17 @@
 ghost use Rattle.std.specs.Prelude.{◌≡◌, ◌↔◌, ◌≤◌, ◌+◌, IfOk, IsOk, length};
 ghost use Rattle.std.specs.Borrow.{sem};
 ghost use Rattle.wire_addr.specs.IpAddress.{version_of};
-ghost use Rattle.wire_field.specs.Field.{with_field, with_range};
-ghost use Rattle.wire_field.specs.Borrow.{Checks, Holds, Locates, StaysIfErr};
+ghost use Rattle.net_base.specs.Field.{with_field, with_range};
+ghost use Rattle.net_base.specs.Borrow.{Checks, Holds, Locates, StaysIfErr};
 ghost use Rattle.wire_udp.specs.Udp.{Becomes, HasLengths, packet_bytes_mut, packet_len, packet_slice, payload_of, with_checksum, with_checksum_field, with_dst_port, with_src_port};
 ghost use Rattle.wire_udp.specs.UdpBorrow.{BorrowsPayload};
 
 use super::packet::UdpView;
 use super::{UDP_HEADER_LEN, UdpPacket, UdpPacketMut, checksum_for};
 use byteorder::{ByteOrder, NetworkEndian};
-use net_base::{Error, Result};
+use net_base::{Checked, Error, Located, Result, write_at};
 use wire_addr::{IpAddress, IpProtocol};
 use wire_checksum::checksum;
-use wire_field::{Checked, Located, write_at};
 
 impl<'a> UdpPacketMut<'a> {
     /// A mutable view of bytes that `check_len` accepts, else an error. Rejected bytes are

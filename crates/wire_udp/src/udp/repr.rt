@@ -4,7 +4,7 @@ ghost use Rattle.std.specs.Prelude.{◌≡◌, ◌↔◌, ◌≤◌, ◌+◌, �
 ghost use Rattle.std.specs.Result.{result_ok};
 ghost use Rattle.net_base.specs.Checksum.{computes, verifies};
 ghost use Rattle.wire_addr.specs.IpAddress.{version_of};
-ghost use Rattle.wire_field.specs.Filled.{Fills};
+ghost use Rattle.net_base.specs.Filled.{Fills};
 ghost use Rattle.wire_udp.specs.Udp.{Becomes, HasLengths, Reads, bytes_of, checksum_for, header_bytes, max_payload_len, packet_bytes, packet_bytes_mut, packet_sum, packet_with, payload_of, udp_of};
 ghost use Rattle.wire_udp.specs.UdpText.{value_text};
 ghost use Rattle.wire_udp.specs.declared.udp.repr.UdpRepr.{UdpRepr};

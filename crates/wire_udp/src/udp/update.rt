@@ -9,9 +9,9 @@ ghost use Rattle.wire_udp.specs.Udp.{Becomes, HasChecksum, HasLengths, Reads, ds
 ghost use Rattle.wire_udp.specs.declared.udp.repr.UdpRepr.{UdpRepr};
 
 use super::{UdpPacketMut, checksum_for};
+use net_base::laws::bytes_fit;
 use wire_addr::IpAddress;
 use wire_checksum::checksum;
-use wire_field::laws::bytes_fit;
 
 impl<'a> UdpPacketMut<'a> {
     /// Updates the checksum after words that it covers changed. `old` and `new` are the sums of these

@@ -3,8 +3,8 @@ use Rattle.std.proofs.lemmas.Grind.{common_steps}
 use Rattle.ip_wire.specs.Tcp.{HasLengths, options_of}
 use Rattle.ip_wire.specs.TcpItems.{IsOptionList, Item, item}
 use Rattle.ip_wire.specs.TcpSummary.{summary_of}
-use Rattle.wire_field.proofs.Cells.{cells-drop}
-use Rattle.wire_field.proofs.Spelled.{AreBytes}
+use Rattle.net_base.proofs.Cells.{cells-drop}
+use Rattle.net_base.proofs.Spelled.{AreBytes}
 use Rattle.c_structs.proofs.TcpKept.{eight, stamp-list}
 use Rattle.c_structs.proofs.TcpStamped.{padded, padded-list}
 use Rattle.c_read.specs.TcpOptions.{ReadsItems}

@@ -4,7 +4,7 @@ use Rattle.std.specs.Option.{option_map_or}
 use Rattle.ip_wire.specs.Tcp as tcp
 use Rattle.ip_wire.specs.Tcp.{HasLengths}
 use Rattle.ip_wire.specs.TcpRepr.{header_of, tcp_of}
-use Rattle.wire_field.proofs.Spelled.{AreBytes}
+use Rattle.net_base.proofs.Spelled.{AreBytes}
 use Rattle.c_structs.specs.declared.types.FrameFields.{FrameFields}
 use Rattle.c_read.proofs.TcpUsual.{usual-lengths, usual-read}
 use Rattle.c_read.specs.FrameFields.{after_header, rejected_transport, tcp_fault, with_tcp_header}

@@ -1,6 +1,6 @@
 use Rattle.std.proofs.Common.{◌≡◌, ◌∙◌, ◌+◌, ◌%◌, ◌/◌, ◌∷◌, ap, drop, length, rules, slice_index, slice_range}
 use Rattle.ip_wire.specs.Field.{with_range}
-use Rattle.wire_field.proofs.Spelled.{AreBytes}
+use Rattle.net_base.proofs.Spelled.{AreBytes}
 use Rattle.c_write.proofs.Ipv6Put.{put-ipv6}
 use Rattle.c_write.proofs.rebuild.put_ipv6.Goals as goal
 

@@ -1,7 +1,7 @@
 use Rattle.std.proofs.Common.{◌≡◌, ◌≤◌, Some, length, refl, sym}
 use Rattle.std.proofs.lemmas.List.{length-take-le}
 use Rattle.ip_wire.specs.Arp.{arp_of}
-use Rattle.wire_field.proofs.Spelled.{AreBytes}
+use Rattle.net_base.proofs.Spelled.{AreBytes}
 use Rattle.c_write.proofs.ArpKept.{rebuilt-arp-kept}
 use Rattle.c_write.proofs.rebuild.rebuild_arp.Goals as goal
 

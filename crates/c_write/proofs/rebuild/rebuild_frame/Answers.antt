@@ -3,7 +3,7 @@ use Rattle.std.proofs.lemmas.Bool.Decides.{nat_tests}
 use Rattle.ip_wire.specs.Ethernet.{frame_bytes, protocol_of}
 use Rattle.ip_wire.specs.Field.{field}
 use Rattle.ip_wire.specs.Frame.{rebuilt, rebuilt_payload}
-use Rattle.wire_field.proofs.Spelled.{AreBytes}
+use Rattle.net_base.proofs.Spelled.{AreBytes}
 use Rattle.c_write.proofs.Filled.{filled-after}
 use Rattle.c_write.proofs.Headed.{fills-none, length-rebuilt, rebuilt-headed}
 use Rattle.c_write.proofs.rebuild.rebuild_frame.Goals as goal

@@ -9,7 +9,7 @@ use Rattle.ip_wire.specs.Protocol.{protocol_of}
 use Rattle.ip_wire.specs.Types.{Ipv4, Ipv4Repr}
 use Rattle.ip_wire.specs.declared.IpProtocol.TheVariants.{Unknown}
 use Rattle.ip_wire.specs.Checksum.{computes, verifies}
-use Rattle.wire_field.proofs.Spelled.{AreBytes}
+use Rattle.net_base.proofs.Spelled.{AreBytes}
 use Rattle.c_write.proofs.Filled.{filled-after}
 use Rattle.c_write.proofs.Numbered.{bytes_of-number, fits-number}
 use Rattle.c_structs.specs.Written.{Fills}

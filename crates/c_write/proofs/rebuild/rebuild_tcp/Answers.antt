@@ -1,6 +1,6 @@
 use Rattle.std.proofs.Common.{IsTrue, refl, rules}
 use Rattle.ip_wire.proofs.UdpLayer.{AreWords}
-use Rattle.wire_field.proofs.Spelled.{AreBytes}
+use Rattle.net_base.proofs.Spelled.{AreBytes}
 use Rattle.c_write.proofs.TcpStamped.{rebuilt-stamped, rebuilt-unsound}
 use Rattle.c_write.specs.TcpKept.{IsSound}
 use Rattle.c_write.proofs.rebuild.rebuild_tcp.Goals as goal

@@ -2,7 +2,7 @@ use Rattle.std.proofs.Common.{◌≡◌, ◌∙◌, ap, rules, sym}
 use Rattle.ip_wire.proofs.UdpLayer.{AreWords}
 use Rattle.ip_wire.specs.Frame.{rebuilt_transport_by}
 use Rattle.ip_wire.specs.Ip.{dst_addr_of, next_header_of, src_addr_of}
-use Rattle.wire_field.proofs.Spelled.{AreBytes}
+use Rattle.net_base.proofs.Spelled.{AreBytes}
 use Rattle.c_write.proofs.TcpKept.{rebuilt-kept}
 use Rattle.c_write.proofs.UdpKept.{rebuilt-udp-whole}
 use Rattle.c_write.proofs.rebuild.rebuild_transport.Goals.{in_default-via-in-Udp+else-not-is_whole_udp, in_default-via-in-Tcp+else-not-is_kept, in_default-via-in_default}

@@ -3,8 +3,8 @@ use Rattle.ip_wire.proofs.UdpLayer.{AreWords, rebuilt-udp, rebuilt-udp-copied}
 use Rattle.ip_wire.specs.Field.{field}
 use Rattle.ip_wire.specs.Udp.{bytes_of, packet_len, payload_of, udp_of}
 use Rattle.ip_wire.specs.Checksum.{computes, verifies}
-use Rattle.wire_field.proofs.Spelled.{AreBytes}
-use Rattle.wire_field.specs.Filled as filled
+use Rattle.net_base.proofs.Spelled.{AreBytes}
+use Rattle.net_base.specs.Filled as filled
 use Rattle.c_write.proofs.Framed.{length-udp}
 use Rattle.c_write.proofs.UdpKept.{rebuilt-udp-kept}
 use Rattle.c_write.proofs.rebuild.rebuild_udp.Goals as goal

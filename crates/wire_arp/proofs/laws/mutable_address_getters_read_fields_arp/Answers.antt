@@ -1,6 +1,6 @@
 use Rattle.std.proofs.Common.{◌≤◌, length, arith, subst, sym}
-use Rattle.wire_field.proofs.Spelled.{AreBytes}
-use Rattle.wire_field.specs.Diagram.{end_of}
+use Rattle.net_base.proofs.Spelled.{AreBytes}
+use Rattle.net_base.specs.Diagram.{end_of}
 use Rattle.wire_arp.specs.Arp.{hardware_len, packet_bytes_mut, source_hardware_end}
 use Rattle.wire_arp.specs.ArpFields.{IsGot, address_of, widths}
 use Rattle.wire_arp.specs.declared.laws.ArpAddressGetting.{ArpAddressGetting}

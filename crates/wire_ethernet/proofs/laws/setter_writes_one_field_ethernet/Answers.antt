@@ -1,6 +1,6 @@
 use Rattle.std.proofs.Common.{◌≡◌, ◌∙◌, rules, subst, sym}
-use Rattle.wire_field.proofs.Ranges.{range_field}
-use Rattle.wire_field.proofs.Spelled.{AreBytes}
+use Rattle.net_base.proofs.Ranges.{range_field}
+use Rattle.net_base.proofs.Spelled.{AreBytes}
 use Rattle.wire_ethernet.specs.Ethernet.{frame_bytes_mut}
 use Rattle.wire_ethernet.specs.EthernetFields.{after}
 use Rattle.wire_ethernet.specs.declared.laws.EthernetSetting.{EthernetSetting}

@@ -1,5 +1,5 @@
 use Rattle.std.proofs.Common.{subst, sym, arith, rules}
-use Rattle.wire_field.proofs.Spelled.{AreBytes}
+use Rattle.net_base.proofs.Spelled.{AreBytes}
 use Rattle.wire_icmp.proofs.IcmpSums.{valid_word}
 use Rattle.wire_icmp.specs.Icmp.{Verifies, packet_bytes_mut}
 use Rattle.wire_icmp.proofs.laws.update_ident_writes_two_fields_icmp.Goals as goal

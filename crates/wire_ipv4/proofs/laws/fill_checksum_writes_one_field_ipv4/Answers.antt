@@ -1,5 +1,5 @@
 use Rattle.std.proofs.Common.{◌∙◌, arith, subst, sym}
-use Rattle.wire_field.proofs.Spelled.{AreBytes}
+use Rattle.net_base.proofs.Spelled.{AreBytes}
 use Rattle.wire_ipv4.specs.Ipv4.{HasChecksum, packet_bytes_mut}
 use Rattle.wire_ipv4.proofs.Ipv4Numbers.{filled, shape-filled}
 use Rattle.wire_ipv4.proofs.Ipv4Updated.{valid-filled}

@@ -1,5 +1,5 @@
 use Rattle.std.proofs.Common.{◌≡◌, rules, subst, sym}
-use Rattle.wire_field.proofs.Spelled.{AreBytes}
+use Rattle.net_base.proofs.Spelled.{AreBytes}
 use Rattle.wire_ipv4.specs.Ipv4.{packet_bytes}
 use Rattle.wire_ipv4.specs.Ipv4Fields.{got}
 use Rattle.wire_ipv4.specs.declared.laws.Ipv4Getting.{Ipv4Getting}

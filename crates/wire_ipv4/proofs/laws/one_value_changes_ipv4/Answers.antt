@@ -1,6 +1,6 @@
 use Rattle.std.proofs.Common.{ℕ, ◌<◌, ◌≤◌, ◌+◌, ◌⊎◌, false, inl, inr, arith, rules}
-use Rattle.wire_field.proofs.Spelled.{AreBytes}
-use Rattle.wire_field.specs.Field.{with_field}
+use Rattle.net_base.proofs.Spelled.{AreBytes}
+use Rattle.net_base.specs.Field.{with_field}
 use Rattle.wire_ipv4.specs.Ipv4.{Reads}
 use Rattle.wire_ipv4.proofs.Ipv4Changed.{reads_checksum, reads-dst_addr, reads-hop_limit, reads-next_header, reads-no_value, reads-src_addr}
 use Rattle.wire_ipv4.proofs.laws.one_value_changes_ipv4.Goals as goal

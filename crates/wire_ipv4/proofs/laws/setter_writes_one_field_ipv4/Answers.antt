@@ -1,5 +1,5 @@
 use Rattle.std.proofs.Common.{◌≡◌, rules, subst, sym, ◌∙◌}
-use Rattle.wire_field.proofs.Ranges.{range_field}
+use Rattle.net_base.proofs.Ranges.{range_field}
 use Rattle.wire_ipv4.specs.Ipv4.{packet_bytes_mut}
 use Rattle.wire_ipv4.specs.Ipv4Fields.{after}
 use Rattle.wire_ipv4.specs.declared.laws.Ipv4Setting.{Ipv4Setting}

@@ -1,6 +1,6 @@
 use Rattle.std.proofs.Common.{◌≡◌, ◌≤◌, ◌∙◌, length, rules, subst, sym}
-use Rattle.wire_field.specs.Diagram.{end_of}
-use Rattle.wire_field.proofs.Spelled.{AreBytes}
+use Rattle.net_base.specs.Diagram.{end_of}
+use Rattle.net_base.proofs.Spelled.{AreBytes}
 use Rattle.wire_ipv4.specs.Ipv4.{packet_bytes_mut}
 use Rattle.wire_ipv4.specs.Ipv4Fields.{after_update, diagram, setting_of, write_of}
 use Rattle.wire_ipv4.specs.declared.laws.Ipv4Update.{Ipv4Update}

@@ -3,8 +3,8 @@ use Rattle.std.specs.Int.{w128, from_be_bytes}
 use Rattle.byteorder.specs.Endian.{big_number}
 use Rattle.wire_addr.proofs.Numbers.{from_be_bytes_16}
 use Rattle.wire_addr.specs.Prefix.{number_of}
-use Rattle.wire_field.proofs.Ranges.{range-number}
-use Rattle.wire_field.proofs.Spelled.{AreBytes}
+use Rattle.net_base.proofs.Ranges.{range-number}
+use Rattle.net_base.proofs.Spelled.{AreBytes}
 use Rattle.wire_ipv6.specs.Ipv6.{packet_bytes}
 use Rattle.wire_ipv6.specs.Ipv6Fields.{got}
 use Rattle.wire_ipv6.specs.declared.laws.Ipv6Getting.{Ipv6Getting}

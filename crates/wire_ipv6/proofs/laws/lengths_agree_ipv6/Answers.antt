@@ -1,6 +1,6 @@
 use Rattle.std.proofs.Common.{ℕ, ◌≡◌, ◌≤◌, ◌-◌, List, drop, length, sym, ap, ◌∙◌, rules, arith, length-drop}
 use Rattle.std.proofs.lemmas.List.{length-take-le}
-use Rattle.wire_field.specs.Field.{field}
+use Rattle.net_base.specs.Field.{field}
 use Rattle.wire_ipv6.specs.Ipv6.{HasLengths, packet_bytes, payload_of, total_len}
 use Rattle.wire_ipv6.proofs.laws.lengths_agree_ipv6.Goals as goal
 

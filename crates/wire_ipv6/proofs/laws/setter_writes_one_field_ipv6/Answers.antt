@@ -1,5 +1,5 @@
 use Rattle.std.proofs.Common.{◌≡◌, rules, subst, sym, ◌∙◌}
-use Rattle.wire_field.proofs.Ranges.{range_field}
+use Rattle.net_base.proofs.Ranges.{range_field}
 use Rattle.wire_ipv6.specs.Ipv6.{packet_bytes_mut}
 use Rattle.wire_ipv6.specs.Ipv6Fields.{after}
 use Rattle.wire_ipv6.specs.declared.laws.Ipv6Setting.{Ipv6Setting}

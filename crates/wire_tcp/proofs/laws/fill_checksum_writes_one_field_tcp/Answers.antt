@@ -1,6 +1,6 @@
 use Rattle.std.proofs.Common.{subst, ◌∙◌, arith}
-use Rattle.wire_field.proofs.Rewritten.{with_field_twice}
-use Rattle.wire_field.proofs.Spelled.{AreBytes}
+use Rattle.net_base.proofs.Rewritten.{with_field_twice}
+use Rattle.net_base.proofs.Spelled.{AreBytes}
 use Rattle.wire_tcp.proofs.Sums.{verifies}
 use Rattle.wire_tcp.specs.Tcp.{packet_bytes_mut}
 use Rattle.wire_tcp.proofs.laws.fill_checksum_writes_one_field_tcp.Goals as goal

@@ -1,5 +1,5 @@
 use Rattle.std.proofs.Common.{ℕ, ◌≡◌, ◌≤◌, List, length, refl, sym, subst, arith}
-use Rattle.wire_field.proofs.Cells.{cells-drop}
+use Rattle.net_base.proofs.Cells.{cells-drop}
 use Rattle.wire_tcp.specs.Tcp.{with_updated_checksum}
 use Rattle.wire_tcp.specs.TcpFields.{after_update, sums_of, with_update}
 use Rattle.wire_tcp.specs.declared.laws.TcpUpdate.{TcpUpdate}

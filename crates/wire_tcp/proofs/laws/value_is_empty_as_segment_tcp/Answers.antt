@@ -1,6 +1,6 @@
 use Rattle.std.proofs.Common.{ℕ, ◌≡◌, ◌+◌, arith, rules}
 use Rattle.net_base.specs.Checksum.{verifies}
-use Rattle.wire_field.specs.Field.{field}
+use Rattle.net_base.specs.Field.{field}
 use Rattle.wire_tcp.specs.Tcp.{packet_bytes}
 use Rattle.wire_tcp.specs.TcpRepr.{header_of}
 use Rattle.wire_tcp.proofs.TcpCounted.{agree, empty}

@@ -1,5 +1,5 @@
 use Rattle.std.proofs.Common.{subst, sym, rules}
-use Rattle.wire_field.proofs.Spelled.{AreBytes}
+use Rattle.net_base.proofs.Spelled.{AreBytes}
 use Rattle.wire_udp.proofs.UdpUpdated.{filled}
 use Rattle.wire_udp.specs.Udp.{Verifies, packet_bytes_mut}
 use Rattle.wire_udp.proofs.laws.fill_checksum_writes_one_field_udp.Goals as goal

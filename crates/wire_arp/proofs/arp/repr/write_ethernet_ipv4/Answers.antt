@@ -1,5 +1,5 @@
 use Rattle.std.proofs.Common.{◌≡◌, ◌++◌, ◌∙◌, ◌+◌, List, ℕ, drop, slice_range, ap, arith, refl, rules}
-use Rattle.wire_field.proofs.Cells.{cells-all}
+use Rattle.net_base.proofs.Cells.{cells-all}
 use Rattle.wire_arp.specs.Arp.{operation_number}
 use Rattle.wire_arp.proofs.ArpEmitted.{AreAddresses, front_bytes, packet_written}
 use Rattle.wire_arp.proofs.arp.repr.write_ethernet_ipv4.Goals as goal

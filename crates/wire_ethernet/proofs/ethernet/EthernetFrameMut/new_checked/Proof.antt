@@ -1,7 +1,7 @@
 -- `new_checked` takes bytes that hold a header. Assumes `Logic`.
 use Prim.Native.Nat.{◌≤◌}
 use lib.ListN.{length}
-use Rattle.wire_field.proofs.Checks.{error, makes_checked}
+use Rattle.net_base.proofs.Checks.{error, makes_checked}
 use Rattle.wire_ethernet.proofs.EthernetViewed.{view}
 use Rattle.wire_ethernet.proofs.ethernet.check.Symbol as check
 use Rattle.wire_ethernet.proofs.ethernet.check.Met.{met}

@@ -1,5 +1,5 @@
 use Rattle.std.proofs.Common.{slice_range, arith}
-use Rattle.wire_field.proofs.Written.{length_front}
+use Rattle.net_base.proofs.Written.{length_front}
 use Rattle.wire_ethernet.proofs.EthernetEmitted.{header_written}
 use Rattle.wire_ethernet.specs.Ethernet.{number_of}
 use Rattle.wire_ethernet.proofs.ethernet.EthernetRepr.emit.Goals as goal

@@ -1,5 +1,5 @@
 use Rattle.std.proofs.Common.{rules}
-use Rattle.wire_field.proofs.Readings.{answer_computed}
+use Rattle.net_base.proofs.Readings.{answer_computed}
 use Rattle.wire_ethernet.proofs.EthernetComputed.{ethernet_of-Reads}
 use Rattle.wire_ethernet.specs.Ethernet.{Reads, ethernet_of}
 use Rattle.wire_ethernet.proofs.ethernet.EthernetRepr.parse.Goals as goal

@@ -1,5 +1,5 @@
 use Rattle.std.proofs.Common.{◌≡◌, ◌-◌, ◌++◌, ◌∙◌, drop, sym, ap, rules}
-use Rattle.wire_field.specs.Field.{with_field}
+use Rattle.net_base.specs.Field.{with_field}
 use Rattle.wire_tcp.specs.Tcp.{packet_bytes_mut, segment_sum}
 use Rattle.wire_tcp.proofs.tcp.for_emit.write_checksum.Goals as goal
 

@@ -1,7 +1,7 @@
 use Rattle.std.proofs.Common.{◌≡◌, ◌-◌, ℕ, List, length, length-drop, ap, ◌∙◌, rules, subst, sym}
 use Rattle.std.specs.Fmt.{WritesOnOk}
-use Rattle.wire_field.specs.Field.{field}
-use Rattle.wire_field.proofs.Readings.{flag_test}
+use Rattle.net_base.specs.Field.{field}
+use Rattle.net_base.proofs.Readings.{flag_test}
 use Rattle.wire_tcp.specs.Tcp.{header_len}
 use Rattle.wire_tcp_options.specs.TcpSeq.{number}
 use Rattle.wire_tcp.specs.TcpText.{fields_text, numbers_text}

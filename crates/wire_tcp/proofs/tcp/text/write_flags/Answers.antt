@@ -1,7 +1,7 @@
 use Rattle.std.proofs.Common.{arith, rules}
 use Rattle.std.proofs.lemmas.Grind.{common_steps}
-use Rattle.wire_field.specs.Field.{field}
-use Rattle.wire_field.proofs.Readings.{flag_test}
+use Rattle.net_base.specs.Field.{field}
+use Rattle.net_base.proofs.Readings.{flag_test}
 use Rattle.wire_tcp.proofs.TcpTexts.{flags_text-values}
 use Rattle.wire_tcp.proofs.tcp.text.write_flags.Goals as goal
 

@@ -1,5 +1,5 @@
 -- `new_checked` takes bytes that hold the four addresses, by the lengths that they name. Assumes `Logic`.
-use Rattle.wire_field.proofs.Checks.{error, makes_checked}
+use Rattle.net_base.proofs.Checks.{error, makes_checked}
 use Rattle.wire_arp.specs.Arp.{HasLengths}
 use Rattle.wire_arp.proofs.ArpViewed.{view}
 use Rattle.wire_arp.proofs.arp.packet_mut.check.Symbol as check

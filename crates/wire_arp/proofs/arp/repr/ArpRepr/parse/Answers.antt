@@ -1,5 +1,5 @@
 use Rattle.std.proofs.Common.{rules, Result, Err}
-use Rattle.wire_field.proofs.Readings.{answer_computed}
+use Rattle.net_base.proofs.Readings.{answer_computed}
 use Rattle.net_base.specs.declared.error.Error.{Error}
 use Rattle.wire_arp.proofs.ArpComputed.{arp_of-Reads}
 use Rattle.wire_arp.specs.Arp.{Reads, arp_of}

@@ -1,5 +1,5 @@
 -- `new_checked` accepts bytes with a whole header. Assumes `Logic`.
-use Rattle.wire_field.proofs.Checks.{error, makes_checked}
+use Rattle.net_base.proofs.Checks.{error, makes_checked}
 use Rattle.wire_icmp.specs.Icmp.{HasHeader}
 use Rattle.wire_icmp.proofs.IcmpViewed.{view}
 use Rattle.wire_icmp.proofs.icmp.packet_mut.check.Symbol as check

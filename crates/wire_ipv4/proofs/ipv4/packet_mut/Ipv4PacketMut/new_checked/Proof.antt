@@ -1,5 +1,5 @@
 -- `new_checked` takes bytes that hold a whole header, and as many bytes as it speaks of. Assumes `Logic`.
-use Rattle.wire_field.proofs.Checks.{error, makes_checked}
+use Rattle.net_base.proofs.Checks.{error, makes_checked}
 use Rattle.wire_ipv4.specs.Ipv4.{HasLengths}
 use Rattle.wire_ipv4.proofs.Ipv4Viewed.{view}
 use Rattle.wire_ipv4.proofs.ipv4.packet_mut.check.Symbol as check

@@ -2,7 +2,7 @@
 use mathlib.Core.List.{[], ◌∷◌}
 use Prim.Native.Nat.{◌≤◌}
 use lib.ListN.{length}
-use Rattle.wire_field.proofs.Views.{Place, between, borrows_located}
+use Rattle.net_base.proofs.Views.{Place, between, borrows_located}
 use Rattle.wire_ipv4.specs.Ipv4.{header_len, total_len}
 use Rattle.wire_ipv4.proofs.Ipv4Viewed.{view}
 use Rattle.wire_ipv4.proofs.ipv4.packet_mut.locate_payload.Symbol as locate
@@ -17,4 +17,4 @@ payload = between (λ bytes. (4 ≤ length bytes) ∷ (header_len bytes ≤ tota
 pub payload_mut_spec : {M : Type 1} → statement M
 payload_mut_spec 𝓤 𝓛 𝓜 𝓡 wired =
     borrows_located view payload 𝓛 𝓜 𝓡 locate.name (met 𝓤 𝓛 𝓜 𝓡 (code.calls-wire_ipv4::ipv4::packet_mut::locate_payload 𝓡.env wired))
-    (code.calls-wire_field::located::Located::into_slice 𝓡.env wired) key.name (code.unfolded 𝓤 𝓛.H 𝓜 𝓡 wired)
+    (code.calls-net_base::located::Located::into_slice 𝓡.env wired) key.name (code.unfolded 𝓤 𝓛.H 𝓜 𝓡 wired)

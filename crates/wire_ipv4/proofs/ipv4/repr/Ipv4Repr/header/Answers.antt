@@ -1,5 +1,5 @@
 use Rattle.std.proofs.Common.{◌≡◌, length, refl, rules}
-use Rattle.wire_field.proofs.Cells.{cells-all}
+use Rattle.net_base.proofs.Cells.{cells-all}
 use Rattle.wire_ipv4.proofs.ipv4.repr.Ipv4Repr.header.Goals as goal
 
 pub returns : goal.returns

@@ -1,6 +1,6 @@
 use Rattle.std.proofs.Common.{rules, Result, Err}
 use Rattle.net_base.specs.Checksum.{verifies}
-use Rattle.wire_field.proofs.Readings.{answer_computed}
+use Rattle.net_base.proofs.Readings.{answer_computed}
 use Rattle.net_base.specs.declared.error.Error.{Error}
 use Rattle.wire_ipv4.proofs.Ipv4Computed.{ipv4_of-Reads}
 use Rattle.wire_ipv4.specs.Ipv4.{Reads, ipv4_of}

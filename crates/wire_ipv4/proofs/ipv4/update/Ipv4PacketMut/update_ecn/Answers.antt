@@ -1,6 +1,6 @@
 use Rattle.std.proofs.Common.{◌≡◌, ◌%◌, inl, false, subst, sym, arith, rules}
-use Rattle.wire_field.proofs.Spelled.{AreBytes}
-use Rattle.wire_field.specs.Field.{field, with_field}
+use Rattle.net_base.proofs.Spelled.{AreBytes}
+use Rattle.net_base.specs.Field.{field, with_field}
 use Rattle.wire_ipv4.specs.Ipv4.{HasChecksum, packet_bytes_mut, with_updated_checksum}
 use Rattle.wire_ipv4.proofs.Ipv4Changed.{reads-no_value, reads-summed}
 use Rattle.wire_ipv4.proofs.Ipv4Updated.{valid-ecn}

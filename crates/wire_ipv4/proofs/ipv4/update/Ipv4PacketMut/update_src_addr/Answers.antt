@@ -1,7 +1,7 @@
 use Rattle.std.proofs.Common.{◌≡◌, slice_range, false, subst, sym, arith, rules}
 use Rattle.wire_checksum.specs.WordSum.{sum_of_bytes}
-use Rattle.wire_field.proofs.Spelled.{AreBytes}
-use Rattle.wire_field.specs.Field.{with_range}
+use Rattle.net_base.proofs.Spelled.{AreBytes}
+use Rattle.net_base.specs.Field.{with_range}
 use Rattle.wire_ipv4.specs.Ipv4.{HasChecksum, packet_bytes_mut, with_updated_checksum}
 use Rattle.wire_ipv4.proofs.Ipv4Changed.{reads-src_addr, reads-summed}
 use Rattle.wire_ipv4.proofs.Ipv4Updated.{valid-src_addr}

@@ -1,5 +1,5 @@
 -- `new_checked` accepts bytes with a whole header and the payload length that it names. Assumes `Logic`.
-use Rattle.wire_field.proofs.Checks.{error, makes_checked}
+use Rattle.net_base.proofs.Checks.{error, makes_checked}
 use Rattle.wire_ipv6.specs.Ipv6.{HasLengths}
 use Rattle.wire_ipv6.proofs.Ipv6Viewed.{view}
 use Rattle.wire_ipv6.proofs.ipv6.packet_mut.check.Symbol as check

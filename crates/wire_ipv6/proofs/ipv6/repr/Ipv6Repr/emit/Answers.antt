@@ -1,5 +1,5 @@
 use Rattle.std.proofs.Common.{◌≡◌, ◌<◌, ◌∙◌, length, arith, rules}
-use Rattle.wire_field.proofs.Written.{length-written}
+use Rattle.net_base.proofs.Written.{length-written}
 use Rattle.wire_ipv6.proofs.Ipv6Emitted.{IsInRange, written-bytes_of}
 use Rattle.wire_addr.specs.Protocol.{number_of}
 use Rattle.wire_ipv6.proofs.ipv6.repr.Ipv6Repr.emit.Goals as goal

@@ -1,7 +1,7 @@
 -- `new_checked` accepts bytes that are long enough for a header. Assumes `Logic`.
 use Prim.Native.Nat.{◌≤◌}
 use lib.ListN.{length}
-use Rattle.wire_field.proofs.Checks.{error, makes_checked}
+use Rattle.net_base.proofs.Checks.{error, makes_checked}
 use Rattle.wire_ipv6.proofs.Ipv6FragmentViewed.{view}
 use Rattle.wire_ipv6.proofs.ipv6fragment.header_mut.check.Symbol as check
 use Rattle.wire_ipv6.proofs.ipv6fragment.header_mut.check.Met.{met}

@@ -1,5 +1,5 @@
 use Rattle.std.proofs.Common.{rules}
-use Rattle.wire_field.proofs.Readings.{answer_computed}
+use Rattle.net_base.proofs.Readings.{answer_computed}
 use Rattle.wire_ipv6.proofs.Ipv6FragmentComputed.{ipv6_fragment_of_Reads}
 use Rattle.wire_ipv6.specs.Ipv6Fragment.{Reads, ipv6_fragment_of}
 use Rattle.wire_ipv6.proofs.ipv6fragment.repr.Ipv6FragmentRepr.parse.Goals as goal

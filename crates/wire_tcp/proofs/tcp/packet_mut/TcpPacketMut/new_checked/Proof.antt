@@ -1,7 +1,7 @@
 -- `new_checked` accepts bytes with a whole header. Assumes `Logic`.
-use Rattle.wire_field.proofs.Checks.{makes_checked}
+use Rattle.net_base.proofs.Checks.{makes_checked}
 use Rattle.wire_tcp.specs.Tcp.{HasLengths}
-use Rattle.wire_field.proofs.Checks.{error}
+use Rattle.net_base.proofs.Checks.{error}
 use Rattle.wire_tcp.proofs.TcpViewed.{view}
 use Rattle.wire_tcp.proofs.tcp.packet_mut.check.Symbol as check
 use Rattle.wire_tcp.proofs.tcp.packet_mut.check.Met.{met}

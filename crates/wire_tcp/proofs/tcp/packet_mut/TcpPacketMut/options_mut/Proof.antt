@@ -2,7 +2,7 @@
 use mathlib.Core.List.{[], ◌∷◌}
 use Prim.Native.Nat.{◌≤◌}
 use lib.ListN.{length}
-use Rattle.wire_field.proofs.Views.{Place, between, borrows_located}
+use Rattle.net_base.proofs.Views.{Place, between, borrows_located}
 use Rattle.wire_tcp.specs.Tcp.{header_len}
 use Rattle.wire_tcp.proofs.TcpViewed.{view}
 use Rattle.wire_tcp.proofs.tcp.packet_mut.locate_options.Symbol as locate
@@ -17,4 +17,4 @@ options = between (λ bytes. (20 ≤ header_len bytes) ∷ (header_len bytes ≤
 pub options_mut_spec : {M : Type 1} → statement M
 options_mut_spec 𝓤 𝓛 𝓜 𝓡 wired =
     borrows_located view options 𝓛 𝓜 𝓡 locate.name (met 𝓤 𝓛 𝓜 𝓡 (code.calls-wire_tcp::tcp::packet_mut::locate_options 𝓡.env wired))
-    (code.calls-wire_field::located::Located::into_slice 𝓡.env wired) key.name (code.unfolded 𝓤 𝓛.H 𝓜 𝓡 wired)
+    (code.calls-net_base::located::Located::into_slice 𝓡.env wired) key.name (code.unfolded 𝓤 𝓛.H 𝓜 𝓡 wired)

@@ -6,7 +6,7 @@ use native.Mathlib.Omega.{arith}
 use lib.ListN.{length, take, drop, length-drop}
 use Rattle.std.proofs.Math.Seq.{drop-length, take-length}
 use Rattle.std.proofs.lemmas.List.{append-nil}
-use Rattle.wire_field.proofs.Views.{Place, borrows_located}
+use Rattle.net_base.proofs.Views.{Place, borrows_located}
 use Rattle.wire_tcp.specs.Tcp.{header_len}
 use Rattle.wire_tcp.proofs.TcpViewed.{view}
 use Rattle.wire_tcp.proofs.tcp.packet_mut.locate_payload.Symbol as locate
@@ -31,4 +31,4 @@ payload = record {
 pub payload_mut_spec : {M : Type 1} → statement M
 payload_mut_spec 𝓤 𝓛 𝓜 𝓡 wired =
     borrows_located view payload 𝓛 𝓜 𝓡 locate.name (met 𝓤 𝓛 𝓜 𝓡 (code.calls-wire_tcp::tcp::packet_mut::locate_payload 𝓡.env wired))
-    (code.calls-wire_field::located::Located::into_slice 𝓡.env wired) key.name (code.unfolded 𝓤 𝓛.H 𝓜 𝓡 wired)
+    (code.calls-net_base::located::Located::into_slice 𝓡.env wired) key.name (code.unfolded 𝓤 𝓛.H 𝓜 𝓡 wired)

@@ -1,6 +1,6 @@
 use Rattle.std.proofs.Common.{◌∙◌, sym, ap, subst, ◌+◌, arith, List, ℕ}
-use Rattle.wire_field.specs.Field.{with_range}
-use Rattle.wire_field.specs.Borrow.{Holds}
+use Rattle.net_base.specs.Field.{with_range}
+use Rattle.net_base.specs.Borrow.{Holds}
 use Rattle.wire_tcp.specs.TcpRepr.{header_of}
 use Rattle.wire_tcp.proofs.TcpEmitted.{length-ranges, texts-ranges}
 use Rattle.wire_tcp.proofs.tcp.repr.TcpRepr.emit_sack.Goals as goal

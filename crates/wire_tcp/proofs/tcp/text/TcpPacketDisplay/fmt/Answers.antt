@@ -1,7 +1,7 @@
 use Rattle.std.proofs.Common.{◌≡◌, ℕ, ◌++◌, List, ap, ap₂, sym, ◌∙◌, rules, arith}
 use Rattle.std.proofs.lemmas.Grind.{put_four}
 use Rattle.std.specs.Result.{IsOk}
-use Rattle.wire_field.specs.Field.{field}
+use Rattle.net_base.specs.Field.{field}
 use Rattle.wire_tcp.proofs.TcpTexts.{packet_text-none, packet_text-some}
 use Rattle.wire_tcp.specs.Tcp.{HasLengths, options_of}
 use Rattle.wire_tcp.specs.TcpText.{fields_text, flags_text, options_text, packet_text, ports_text}

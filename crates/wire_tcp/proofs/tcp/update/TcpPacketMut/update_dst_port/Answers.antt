@@ -1,6 +1,6 @@
 use Rattle.std.proofs.Common.{◌≡◌, false, subst, sym, arith, rules}
-use Rattle.wire_field.proofs.Spelled.{AreBytes}
-use Rattle.wire_field.specs.Field.{field, with_field}
+use Rattle.net_base.proofs.Spelled.{AreBytes}
+use Rattle.net_base.specs.Field.{field, with_field}
 use Rattle.wire_tcp.specs.Tcp.{Verifies, packet_bytes_mut, with_updated_checksum}
 use Rattle.wire_tcp.proofs.Sums.{valid_word}
 use Rattle.wire_tcp.proofs.TcpChanged.{reads-dst_port, reads-summed}

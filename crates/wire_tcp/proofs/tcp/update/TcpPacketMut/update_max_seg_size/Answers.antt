@@ -1,6 +1,6 @@
 use Rattle.std.proofs.Common.{ℕ, List, Some, refl, sym, subst, ap, ◌∙◌, rules}
 use Rattle.std.specs.Option.{option_map}
-use Rattle.wire_field.proofs.Spelled.{AreBytes}
+use Rattle.net_base.proofs.Spelled.{AreBytes}
 use Rattle.wire_tcp.specs.Tcp.{Becomes, Verifies, packet_bytes_mut}
 use Rattle.wire_tcp.specs.TcpRepr.{Reads}
 use Rattle.wire_tcp.proofs.TcpResized.{none_found, reads-resized, size_found, valid-resized, written_found}

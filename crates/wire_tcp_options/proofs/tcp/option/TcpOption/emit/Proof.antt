@@ -35,12 +35,12 @@ use denote.Triple.Walked.{says, Stays, stay_dropped, walk_of, ends_at, Goes-drop
 use Rattle.std.specs.Prelude.{slice_range}
 use Rattle.std.proofs.raw_atomic.Walks.{proved}
 use Rattle.std.proofs.lemmas.List.{append-nil, drop_all, drop_at, take_all, take_at}
-use Rattle.wire_field.specs.Field.{with_range}
-use Rattle.wire_field.specs.declared.located.Located.{Located}
-use Rattle.wire_field.specs.contracts.located.Located as L
-use Rattle.wire_field.proofs.located.Located.TheLaws as L'
-use Rattle.wire_field.specs.contracts.located.Located.into_slice as into_slice
-use Rattle.wire_field.proofs.located.Located.into_slice.Met as into_slice_met
+use Rattle.net_base.specs.Field.{with_range}
+use Rattle.net_base.specs.declared.located.Located.{Located}
+use Rattle.net_base.specs.contracts.located.Located as L
+use Rattle.net_base.proofs.located.Located.TheLaws as L'
+use Rattle.net_base.specs.contracts.located.Located.into_slice as into_slice
+use Rattle.net_base.proofs.located.Located.into_slice.Met as into_slice_met
 use Rattle.wire_tcp_options.specs.TcpOptionBorrow.{LocatesRest}
 use Rattle.wire_tcp_options.specs.TcpOption.{IsEmittable, option_len, option_text, rest_after}
 use Rattle.wire_tcp_options.specs.contracts.tcp.option.TcpOption as O
@@ -118,7 +118,7 @@ emit_spec 𝓤 𝓛 𝓜 𝓡 wired =
     nothing ! $ move ! (1 ∷ 0 ∷ []) $ join ! $ move ! (4 ∷ 2 ∷ 0 ∷ []) $ join ! $ join ! $
     use0 𝓛 (raw (fact 𝓤 (t.end ≤ length t.bytes.now))) (fact_i 𝓤 (t.end ≤ length t.bytes.now) (emp 𝓤) hi) $
     use0 𝓛 (raw (fact 𝓤 (t.start ≤ t.end))) (fact_i 𝓤 (t.start ≤ t.end) (emp 𝓤) lo) $ join ! $ move ! (1 ∷ 0 ∷ []) $ use2 𝓛 (raw (G'.pre z')) (id⊢ 𝓤 _) $
-    calls_at ! (framed 𝓤 𝓛.H 𝓜 𝓣) G' (into_slice_met.met 𝓤 𝓛 𝓜 𝓡 (code.calls-wire_field::located::Located::into_slice 𝓡.env wired)) z' (and_then ! (get ! refl) (no_more !)) (λ v'.
+    calls_at ! (framed 𝓤 𝓛.H 𝓜 𝓣) G' (into_slice_met.met 𝓤 𝓛 𝓜 𝓡 (code.calls-net_base::located::Located::into_slice 𝓡.env wired)) z' (and_then ! (get ! refl) (no_more !)) (λ v'.
     use1 𝓛 (later (some (λ (r : MutBor (List ℕ)). ((‵ (flft κ₂ q₂) ⊛ ‵ ftrue) ⊛ ‵ ((MutSlice (named 0) κ₂ u8).own_val r (v' ∷ []))) ⊛
     some (λ (ws' : Lasts into_slice.ended (κ₂, tt) z'.0.3). ‵ (lasts into_slice.ended (κ₂, tt) z'.0.3 ws') ⊛
     (‵ (follows (Array u8 0) (Array u8 0) t.bytes.ghost_name r.ghost_name (with_range t.bytes.now t.start t.end)) ⊛ raw (fact 𝓤 (r.now ≡ slice_range t.bytes.now t.start t.end))))))) (id⊢ 𝓤 _) $

@@ -1,5 +1,5 @@
 -- `new_checked` accepts bytes with a whole header and the length that it names. Assumes `Logic`.
-use Rattle.wire_field.proofs.Checks.{error, makes_checked}
+use Rattle.net_base.proofs.Checks.{error, makes_checked}
 use Rattle.wire_udp.specs.Udp.{HasLengths}
 use Rattle.wire_udp.proofs.UdpViewed.{view}
 use Rattle.wire_udp.proofs.udp.packet_mut.check.Symbol as check

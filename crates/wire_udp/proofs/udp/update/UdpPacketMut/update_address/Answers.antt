@@ -1,7 +1,7 @@
 use Rattle.std.proofs.Common.{◌≡◌, subst, sym, refl, arith, rules}
 use Rattle.wire_checksum.specs.WordSum.{sum_of_bytes}
 use Rattle.wire_addr.specs.IpAddress.{address_bytes}
-use Rattle.wire_field.proofs.Spelled.{AreBytes}
+use Rattle.net_base.proofs.Spelled.{AreBytes}
 use Rattle.wire_udp.specs.Udp.{HasChecksum, packet_bytes_mut, with_updated_checksum}
 use Rattle.wire_udp.proofs.UdpUpdated.{reads-updated, valid-addresses}
 use Rattle.wire_udp.proofs.udp.update.UdpPacketMut.update_address.Goals as goal

@@ -1,6 +1,6 @@
 use Rattle.std.proofs.Common.{◌≡◌, false, subst, sym, arith, rules}
-use Rattle.wire_field.proofs.Spelled.{AreBytes}
-use Rattle.wire_field.specs.Field.{field, with_field}
+use Rattle.net_base.proofs.Spelled.{AreBytes}
+use Rattle.net_base.specs.Field.{field, with_field}
 use Rattle.wire_udp.specs.Udp.{HasChecksum, packet_bytes_mut, with_updated_checksum}
 use Rattle.wire_udp.proofs.UdpChanged.{reads-dst_port}
 use Rattle.wire_udp.proofs.UdpUpdated.{reads-updated, valid-port}

@@ -35,13 +35,13 @@ use denote.Triple.Walked.{says, Stays, stay_dropped, walk_of, ends_at}
 use borrow.Table.Elements.{at, at_byte, length-take-le}
 use Rattle.std.proofs.raw_atomic.Walks.{proved}
 use Rattle.std.proofs.lemmas.List.{drop-drop}
-use Rattle.wire_field.proofs.Borrowed.{part_borrowed, borrows_part}
-use Rattle.wire_field.specs.declared.located.Located.{Located}
-use Rattle.wire_field.specs.contracts.located.Located as T
-use Rattle.wire_field.proofs.located.Located.TheLaws as T'
-use Rattle.wire_field.specs.contracts.located.Located.into_slice as f
-use Rattle.wire_field.proofs.located.Located.into_slice.Statement.{statement}
-use Rattle.wire_field.proofs.located.Located.into_slice.Code as code
+use Rattle.net_base.proofs.Borrowed.{part_borrowed, borrows_part}
+use Rattle.net_base.specs.declared.located.Located.{Located}
+use Rattle.net_base.specs.contracts.located.Located as T
+use Rattle.net_base.proofs.located.Located.TheLaws as T'
+use Rattle.net_base.specs.contracts.located.Located.into_slice as f
+use Rattle.net_base.proofs.located.Located.into_slice.Statement.{statement}
+use Rattle.net_base.proofs.located.Located.into_slice.Code as code
 
 abbrev life : Lft → NamedLft
 life κ = record { mir = named 0; lft = κ }

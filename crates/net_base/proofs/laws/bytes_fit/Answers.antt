@@ -1,4 +1,4 @@
-use Rattle.wire_field.proofs.laws.bytes_fit.Goals as goal
+use Rattle.net_base.proofs.laws.bytes_fit.Goals as goal
 
 pub returns : goal.returns
 returns c i = (c.type_inv.bytes i).fits

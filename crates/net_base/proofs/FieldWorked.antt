@@ -1,7 +1,7 @@
 -- Which bits a field has: the definitions at worked values, and what they leave out.
 use Rattle.std.proofs.Common.{ℕ, ◌≤◌, ◌<◌, ◌+◌, ◌⊎◌, inl, inr, List, [], ◌∷◌, arith}
 use Rattle.std.proofs.lemmas.Bool.{cases_lt}
-use Rattle.wire_field.specs.Field.{IsApart, IsField, IsOutside}
+use Rattle.net_base.specs.Field.{IsApart, IsField, IsOutside}
 
 -- ---- fields of two bytes
 

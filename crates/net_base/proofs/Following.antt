@@ -4,7 +4,7 @@ use Rattle.std.proofs.lemmas.List.{length-take-le}
 use Rattle.std.proofs.lemmas.Slice.{drop-append-drop}
 use Rattle.byteorder.specs.Endian.{big_bytes}
 use Rattle.byteorder.specs.Numbers.{length-bytes_high_first}
-use Rattle.wire_field.specs.Field.{bits_after, span, with_field, with_part, word_at}
+use Rattle.net_base.specs.Field.{bits_after, span, with_field, with_part, word_at}
 
 -- the length of the bytes up to the end of the field
 front : (bytes : List ℕ) (first width word : ℕ) → first / 8 ≤ length bytes → length (take (first / 8) bytes ++ big_bytes (span first width) word) ≡ first / 8 + span first width

@@ -53,15 +53,15 @@ use Rattle.std.specs.Prelude.{slice_range}
 use Rattle.std.proofs.raw_atomic.Walks.{proved}
 use Rattle.std.proofs.Math.Seq.{drop-length, take-length}
 use Rattle.std.proofs.lemmas.List.{append-nil}
-use Rattle.wire_field.proofs.Held.{held_borrowed, borrows_held}
-use Rattle.wire_field.specs.Field.{with_range}
-use Rattle.wire_field.specs.Borrow.{Locates}
-use Rattle.wire_field.specs.declared.located.Located.{Located}
-use Rattle.wire_field.specs.contracts.located.Located as L
-use Rattle.wire_field.proofs.located.Located.TheLaws as L'
-use Rattle.wire_field.specs.contracts.located.Located.into_slice as into_slice
-use Rattle.wire_field.proofs.located.Located.into_slice.Symbol as into_slice_symbol
-use Rattle.wire_field.proofs.located.Located.into_slice.Met.{met}
+use Rattle.net_base.proofs.Held.{held_borrowed, borrows_held}
+use Rattle.net_base.specs.Field.{with_range}
+use Rattle.net_base.specs.Borrow.{Locates}
+use Rattle.net_base.specs.declared.located.Located.{Located}
+use Rattle.net_base.specs.contracts.located.Located as L
+use Rattle.net_base.proofs.located.Located.TheLaws as L'
+use Rattle.net_base.specs.contracts.located.Located.into_slice as into_slice
+use Rattle.net_base.proofs.located.Located.into_slice.Symbol as into_slice_symbol
+use Rattle.net_base.proofs.located.Located.into_slice.Met.{met}
 
 -- conditions, each a `requires` of its own
 abbrev pub All : List (Type 0) → Type 0

@@ -1,7 +1,7 @@
 -- A header as the list of its fields, by their widths in the RFC's diagram, in order.
 -- Pinned by: `calls/set`, `calls/get`
 use Rattle.std.specs.Prelude.{ℕ, ◌+◌, ◌/◌, Bool, if◌then◌else◌, List, slice_index, sum, take}
-use Rattle.wire_field.specs.Field.{field, with_field}
+use Rattle.net_base.specs.Field.{field, with_field}
 
 -- the number in field k of a diagram with these widths
 abbrev pub nth_field : List ℕ → ℕ → List ℕ → ℕ

@@ -1,8 +1,8 @@
 //! Fields of whole bytes.
 
 ghost use Rattle.std.specs.Prelude.{◌≡◌, ◌+◌, ◌≤◌, ◌++◌, drop, length, slice_range};
-ghost use Rattle.wire_field.specs.Field.{with_range};
-ghost use Rattle.wire_field.specs.Filled.{Fills};
+ghost use Rattle.net_base.specs.Field.{with_range};
+ghost use Rattle.net_base.specs.Filled.{Fills};
 
 use byteorder::{ByteOrder, NetworkEndian};
 

@@ -54,11 +54,11 @@ use Rattle.std.specs.contracts.result.Result as RS
 use Rattle.std.proofs.raw_atomic.Walks.{proved}
 use Rattle.net_base.specs.declared.error.Error.{Error}
 use Rattle.net_base.specs.contracts.error.Error as E
-use Rattle.wire_field.proofs.Views.{View, row, type, laws, seen}
-use Rattle.wire_field.specs.Borrow.{Checks, Holds, StaysIfErr}
-use Rattle.wire_field.specs.declared.checked.Checked.{Checked}
-use Rattle.wire_field.specs.contracts.checked.Checked as C
-use Rattle.wire_field.proofs.checked.Checked.TheLaws as C'
+use Rattle.net_base.proofs.Views.{View, row, type, laws, seen}
+use Rattle.net_base.specs.Borrow.{Checks, Holds, StaysIfErr}
+use Rattle.net_base.specs.declared.checked.Checked.{Checked}
+use Rattle.net_base.specs.contracts.checked.Checked as C
+use Rattle.net_base.proofs.checked.Checked.TheLaws as C'
 
 -- an error that says no more than that
 pub record Rejection : Type 2 where

@@ -2,9 +2,9 @@
 -- Pinned by: `wire/nested`, `wire/arp`, `wire/ipv6fragment`
 use Rattle.std.specs.Prelude.{ℕ, ◌≡◌, ◌↔◌, IsTrue, List, Result, length}
 use Rattle.std.specs.Borrow.{MutBor, Fml, Lends, RestsIfErr, Array, u8}
-use Rattle.wire_field.specs.Field.{with_range}
-use Rattle.wire_field.specs.declared.checked.Checked.{Checked}
-use Rattle.wire_field.specs.declared.located.Located.{Located}
+use Rattle.net_base.specs.Field.{with_range}
+use Rattle.net_base.specs.declared.checked.Checked.{Checked}
+use Rattle.net_base.specs.declared.located.Located.{Located}
 
 -- The new slice is the same borrow as the old one, so its owner sees what is written to it. It has the same length
 -- and now holds these bytes.

@@ -1,7 +1,7 @@
 use Rattle.std.proofs.Common.{◌++◌, ◌∙◌, List, ℕ, drop, slice_range, ap}
-use Rattle.wire_field.proofs.ByteLists.{AreBytes-slice_range}
-use Rattle.wire_field.proofs.Cells.{four_bytes, six_written, two_bytes}
-use Rattle.wire_field.proofs.bytes.write_six.Goals as goal
+use Rattle.net_base.proofs.ByteLists.{AreBytes-slice_range}
+use Rattle.net_base.proofs.Cells.{four_bytes, six_written, two_bytes}
+use Rattle.net_base.proofs.bytes.write_six.Goals as goal
 
 pub returns : goal.returns
 returns c =

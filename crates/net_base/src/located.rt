@@ -2,7 +2,7 @@
 
 ghost use Rattle.std.specs.Borrow.{sem};
 ghost use Rattle.std.specs.Prelude.{◌≡◌, ◌≤◌, length, slice_range};
-ghost use Rattle.wire_field.specs.Borrow.{BorrowsPart};
+ghost use Rattle.net_base.specs.Borrow.{BorrowsPart};
 
 use std::slice::from_raw_parts_mut;
 

@@ -1,14 +1,14 @@
 -- A field that is written twice: the first write does not count.
-use Rattle.std.proofs.Common.{ℕ, ◌≡◌, ◌≤◌, ◌<◌, ◌+◌, ◌*◌, ◌-◌, ◌/◌, ◌%◌, ◌^◌, List, ◌++◌, length, take, drop, refl, ap, ◌∙◌, arith, length-append}
+use Rattle.std.proofs.Common.{ℕ, ◌≡◌, ◌≤◌, ◌<◌, ◌+◌, ◌*◌, ◌/◌, ◌%◌, ◌^◌, List, ◌++◌, length, take, drop, refl, ap, ◌∙◌, arith, length-append}
 use Rattle.std.proofs.lemmas.List.{length-take-le, take-append-le, take_all}
 use Rattle.std.proofs.lemmas.Nat.{mod_low, pow_pos, pow-add, shr_high}
 use Rattle.std.proofs.Math.Nat.{add_assoc, mod-lt}
 use Rattle.byteorder.specs.Endian.{big_bytes}
 use Rattle.byteorder.specs.Numbers.{length-bytes_high_first}
-use Rattle.wire_field.specs.Field.{bits_after, span, with_field, with_part, word_at}
-use Rattle.wire_field.proofs.Part.{part_below, regrouped}
-use Rattle.wire_field.proofs.Spelled.{AreBytes}
-use Rattle.wire_field.proofs.Written.{word-with_field}
+use Rattle.net_base.specs.Field.{bits_after, span, with_field, with_part, word_at}
+use Rattle.net_base.proofs.Part.{part_below, regrouped}
+use Rattle.net_base.proofs.Spelled.{AreBytes}
+use Rattle.net_base.proofs.Written.{word-with_field}
 use Rattle.std.proofs.lemmas.Grind.{common_steps}
 use Rattle.std.proofs.lemmas.Bool.Decides.{nat_tests}
 

@@ -4,7 +4,7 @@ use Rattle.std.proofs.lemmas.Bool.{ltb-true}
 use Rattle.std.proofs.lemmas.List.{get_or-drop}
 use Rattle.std.proofs.Math.Pow.{are_bytes}
 use Rattle.std.specs.Int.{byte_at, bytes_high_first}
-use Rattle.wire_field.proofs.Spelled.{AreBytes}
+use Rattle.net_base.proofs.Spelled.{AreBytes}
 
 -- a byte of a number is below 256
 byte_at-lt : (k x : ℕ) → byte_at k x < 256

@@ -7,9 +7,9 @@ use Rattle.std.proofs.Math.Nat.{div-one, mod-eq_of_lt, pow-suc}
 use Rattle.std.specs.Int.{byte_at, bytes_high_first}
 use Rattle.byteorder.specs.Endian.{big_bytes, big_from, big_number}
 use Rattle.byteorder.specs.Numbers.{big_from-cons, big_from-lt, big_from-take}
-use Rattle.wire_field.specs.Field.{bits_after, field, span, with_field, with_part, with_range}
-use Rattle.wire_field.proofs.ByteLists.{AreBytes-slice_range}
-use Rattle.wire_field.proofs.Spelled.{AreBytes, pow256}
+use Rattle.net_base.specs.Field.{bits_after, field, span, with_field, with_part, with_range}
+use Rattle.net_base.proofs.ByteLists.{AreBytes-slice_range}
+use Rattle.net_base.proofs.Spelled.{AreBytes, pow256}
 
 -- byte k of a number
 byte-shifted : (k x : ℕ) → byte_at k x ≡ x / 256 ^ k % 256
