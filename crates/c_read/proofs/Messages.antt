@@ -1,5 +1,5 @@
 -- Which frames and packets have the struct of an ICMP message, and what it stores.
-use Rattle.std.proofs.Common.{ℕ, ◌≡◌, ◌≢◌, ◌∙◌, ◌≤◌, ◌<◌, ◌+◌, ◌-◌, ◌++◌, ◌==◌, inl, inr, nat_lt, if◌then◌else◌, Bool, true, false, List, Option, None, Some, Result, Ok, Err, drop, length, length-append, replicate, refl, sym, ap, subst, arith}
+use Rattle.std.proofs.Common.{ℕ, ◌≡◌, ◌≢◌, ◌∙◌, ◌≤◌, ◌<◌, ◌-◌, ◌++◌, ◌==◌, inl, inr, nat_lt, if◌then◌else◌, Bool, true, false, List, Option, None, Some, Result, Ok, Err, drop, length, length-append, replicate, refl, sym, ap, subst, arith}
 use Rattle.std.specs.Bool.{⊤}
 use Rattle.std.proofs.lemmas.Bool.Decides.{nat_tests}
 use Rattle.std.proofs.lemmas.List.{length-replicate}
@@ -36,7 +36,6 @@ use Rattle.c_structs.specs.Nothing.{no_icmp, nothing_of}
 use Rattle.c_structs.specs.Verdicts.{icmp_verdict}
 use Rattle.c_structs.specs.declared.codes.Reason.TheVariants as reason
 use Rattle.c_structs.specs.declared.types.FrameFields.{FrameFields}
-use Rattle.c_structs.specs.declared.types.Icmp.{Icmp}
 use Rattle.c_read.proofs.CutBytes.{le-true}
 use Rattle.c_read.proofs.CutFrame.{captured-cut, captured-packet-cut, cut-carried}
 use Rattle.c_read.proofs.FieldsOf.{packet_fields_of-some}

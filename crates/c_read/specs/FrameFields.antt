@@ -35,8 +35,6 @@ use Rattle.c_structs.specs.declared.codes.Reason.TheVariants as reason
 use Rattle.c_structs.specs.declared.codes.TransportKind.TheVariants as transport
 use Rattle.c_structs.specs.declared.codes.Verdict.{Verdict}
 use Rattle.c_structs.specs.declared.codes.Verdict.TheVariants as verdict
-use Rattle.c_structs.specs.declared.types.Arp.{Arp}
-use Rattle.c_structs.specs.declared.types.Ethernet.{Ethernet}
 use Rattle.c_structs.specs.declared.types.FrameFields.{FrameFields}
 use Rattle.c_structs.specs.declared.types.Icmp.{Icmp}
 use Rattle.c_structs.specs.declared.types.Ip.{Ip}

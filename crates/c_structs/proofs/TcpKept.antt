@@ -1,11 +1,11 @@
 -- The options of a TCP header that has none, or a timestamp.
-use Rattle.std.proofs.Common.{ℕ, ◌≡◌, ◌∙◌, ◌≤◌, ◌+◌, ◌++◌, List, [], ◌∷◌, ap, arith, length, refl, slice_index, slice_range}
+use Rattle.std.proofs.Common.{ℕ, ◌≡◌, ◌∙◌, ◌+◌, ◌++◌, List, [], ◌∷◌, ap, arith, length, refl, slice_index, slice_range}
 use Rattle.std.proofs.lemmas.Bool.Decides.{nat_tests}
 use Rattle.std.proofs.lemmas.Grind.{common_steps}
 use Rattle.net_base.proofs.Cells.{cells-drop}
 use Rattle.net_base.proofs.Spelled.{AreBytes}
 use Rattle.wire_tcp.specs.Tcp.{header_len, options_of}
-use Rattle.wire_tcp_options.specs.TcpItems.{IsItem, IsOptionList, Item, item}
+use Rattle.wire_tcp_options.specs.TcpItems.{IsItem, IsOptionList, item}
 use Rattle.c_structs.specs.TcpKept.{HasStamp}
 
 pub bare-list : (bytes : List ℕ) → header_len bytes ≡ 20 → IsOptionList (options_of bytes) [] []

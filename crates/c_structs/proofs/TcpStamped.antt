@@ -1,5 +1,5 @@
 -- The options of a TCP header with two bytes of no operation before a timestamp.
-use Rattle.std.proofs.Common.{ℕ, ◌≡◌, ◌∙◌, ◌≤◌, ◌++◌, List, [], ◌∷◌, ap, arith, length, refl, slice_index, slice_range}
+use Rattle.std.proofs.Common.{ℕ, ◌≡◌, ◌∙◌, ◌++◌, List, [], ◌∷◌, ap, arith, refl, slice_index, slice_range}
 use Rattle.net_base.proofs.Cells.{cells-drop}
 use Rattle.net_base.proofs.Spelled.{AreBytes}
 use Rattle.wire_tcp.specs.Tcp.{options_of}

@@ -1,6 +1,6 @@
 -- Why a call with an address or a CIDR block returns nothing.
 -- Pinned by: `judge`
-use Rattle.std.specs.Prelude.{ℕ, ◌||◌, ◌==◌, is_none, if◌then◌else◌, Bool, Option, None, Some}
+use Rattle.std.specs.Prelude.{◌||◌, ◌==◌, is_none, if◌then◌else◌, Bool, Option, None, Some}
 use Rattle.c_structs.specs.Addresses.{block_of, ip_of}
 use Rattle.c_structs.specs.declared.failures.Failure.{Failure}
 use Rattle.c_structs.specs.declared.failures.Failure.TheVariants as failure

@@ -1,6 +1,6 @@
 -- TCP headers with no option, or only a timestamp.
 -- Pinned by: `judge`
-use Rattle.std.specs.Prelude.{ℕ, ◌≡◌, ◌≢◌, ◌≤◌, ◌⊎◌, List, length}
+use Rattle.std.specs.Prelude.{ℕ, ◌≡◌, ◌≤◌, List, length}
 use Rattle.ip_wire.specs.Field.{field}
 use Rattle.ip_wire.specs.Tcp.{header_len}
 
