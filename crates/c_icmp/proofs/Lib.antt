@@ -1,4 +1,4 @@
-mod AnsweredOnce
+pub mod AnsweredOnce
 mod ErrorReplies
 mod FrameReplies
 mod HostAnswers

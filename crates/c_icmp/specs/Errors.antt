@@ -7,6 +7,7 @@ use Rattle.app_router.specs.declared.problem.Problem.TheVariants as router
 use Rattle.app_host.specs.IcmpError.{IsError}
 use Rattle.app_host.specs.declared.interface.Interface.{Interface}
 use Rattle.ip_wire.specs.Frame.{Carried}
+use Rattle.ip_wire.specs.Reply.{unmarked}
 use Rattle.ip_wire.specs.Types.{EthernetRepr}
 use Rattle.wire_icmp.specs.declared.icmp.reason.Unreachable.TheVariants as unreachable
 use Rattle.wire_icmp.specs.declared.icmp.repr.IcmpRepr.TheVariants.{DstUnreachable}
@@ -45,4 +46,4 @@ own_interface own = interface_of own.ipv4 own.ipv6 own.hardware false
 -- The error of an interface about a frame is written. Without an interface nothing is written.
 abbrev pub WritesError : Option Interface → List ℕ → Problem → ℕ → List ℕ → List ℕ → ℤ → Type 0
 WritesError None frame p mtu old new answer = (answer ≡ failure_code failure.NoVersion) × (new ≡ old)
-WritesError (Some ours) frame p mtu old new answer = WritesReplyTo frame (TellsOf ours frame p mtu) old new answer
+WritesError (Some ours) frame p mtu old new answer = WritesReplyTo frame unmarked (TellsOf ours frame p mtu) old new answer

@@ -3,6 +3,7 @@
 use Rattle.std.specs.Prelude.{ℤ, ◌≡◌, List, ℕ, Option, None, Some}
 use Rattle.std.specs.Option.{option_map}
 use Rattle.app_host.specs.Host.{RepliesBytes}
+use Rattle.app_host.specs.IcmpEcho.{reply_dscp}
 use Rattle.app_host.specs.declared.host.Host.{Host}
 use Rattle.app_host.specs.declared.interface.Interface.{Interface}
 use Rattle.app_host.specs.declared.tcp_reply.Offer.{Offer}
@@ -40,4 +41,4 @@ host_of h = option_map (host_at h) (interface_of h.ipv4 h.ipv6 h.hardware (is_ye
 -- The reply of a host to a frame is written. Without a host nothing is written.
 abbrev pub WritesAnswer : Option Host → List ℕ → List ℕ → List ℕ → ℤ → Type 0
 WritesAnswer None frame old new answer = (answer ≡ failure_code failure.NoVersion) × (new ≡ old)
-WritesAnswer (Some host) frame old new answer = WritesReplyTo frame (RepliesBytes host frame) old new answer
+WritesAnswer (Some host) frame old new answer = WritesReplyTo frame (reply_dscp frame) (RepliesBytes host frame) old new answer

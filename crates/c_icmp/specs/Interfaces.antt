@@ -30,18 +30,18 @@ abbrev pub interface_of : Addr → Addr → List ℕ → Bool → Option Interfa
 interface_of first second hardware is_router =
     option_and_then (λ ipv4. option_and_then (λ ipv6. interface_with hardware is_router ipv4 ipv6) (ip_of second)) (ip_of first)
 
--- the reply is written to the front of the slice and its length is returned; or a failure if it does not fit, or 0 if
--- there is none
-abbrev pub WritesReply : (EthernetRepr → Carried → Type 0) → List ℕ → List ℕ → ℤ → Type 0
-WritesReply IsReply old new answer =
-    ((len : ℕ) × (answer ≡ pos len) × (length old ≤ max_len) × IsWritten IsReply old new len)
+-- the reply is written to the front of the slice, with the DSCP of replies with its values, and its length is returned;
+-- or a failure if it does not fit, or 0 if there is none
+abbrev pub WritesReply : (Carried → ℕ) → (EthernetRepr → Carried → Type 0) → List ℕ → List ℕ → ℤ → Type 0
+WritesReply dscp IsReply old new answer =
+    ((len : ℕ) × (answer ≡ pos len) × (length old ≤ max_len) × IsWritten dscp IsReply old new len)
     ⊎ (((answer ≡ failure_code failure.NoRoom) × (new ≡ old)
     × ((header : EthernetRepr) × (carried : Carried) × IsReply header carried × ((length old < reply_len carried) ⊎ (max_len < length old))))
     ⊎ ((answer ≡ pos 0) × (new ≡ old) × ((header : EthernetRepr) (carried : Carried) → ¬ IsReply header carried)))
 
 -- The reply to a frame is written. If the frame is longer than `max_len`, a failure is returned instead.
-pub record WritesReplyTo (frame : List ℕ) (IsReply : EthernetRepr → Carried → Type 0) (old new : List ℕ) (answer : ℤ) : Type 0 where
-  pub usable : length frame ≤ max_len → WritesReply IsReply old new answer
+pub record WritesReplyTo (frame : List ℕ) (dscp : Carried → ℕ) (IsReply : EthernetRepr → Carried → Type 0) (old new : List ℕ) (answer : ℤ) : Type 0 where
+  pub usable : length frame ≤ max_len → WritesReply dscp IsReply old new answer
   pub too_long : max_len < length frame → (answer ≡ failure_code failure.NoHeader) × (new ≡ old)
 
 -- the frame has this Ethernet header, and carries these values

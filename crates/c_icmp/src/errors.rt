@@ -1,8 +1,9 @@
 //! ICMP errors about frames.
 
-ghost use Rattle.std.specs.Prelude.{◌≡◌};
+ghost use Rattle.std.specs.Prelude.{◌≡◌, IfSome};
 ghost use Rattle.app_host.specs.IcmpError.{IsError};
 ghost use Rattle.app_host.specs.Message.{Gives};
+ghost use Rattle.ip_wire.specs.Reply.{unmarked};
 ghost use Rattle.wire_icmp.specs.declared.icmp.reason.Unreachable.TheVariants.{Port};
 ghost use Rattle.wire_icmp.specs.declared.icmp.repr.IcmpRepr.TheVariants.{DstUnreachable};
 ghost use Rattle.c_icmp.specs.Errors.{TellsOf, WritesError, own_interface, problem_by};
@@ -70,7 +71,7 @@ impl InterfaceFields {
 
 // Writes the error of an interface.
 fn write_error(ours: &Interface, problem: Problem, mtu: u32, frame: &[u8], out: &mut [u8]) -> isize
-    ensures { WritesReply (TellsOf ours.now frame.now problem mtu) out.old out.new result }
+    ensures { WritesReply unmarked (TellsOf ours.now frame.now problem mtu) out.old out.new result }
 {
     match error(ours, problem, mtu, frame) {
         Some(error) => write_message(&error, out),
@@ -85,7 +86,8 @@ fn error<'a>(
     mtu: u32,
     frame: &'a [u8],
 ) -> Option<MessageFrame<'a>>
-    ensures { Gives (TellsOf ours.now frame.now problem mtu) result }
+    ensures error { Gives (TellsOf ours.now frame.now problem mtu) result }
+    ensures unmarked { IfSome result (λ error. error.dscp ≡ 0) }
 {
     match problem {
         Problem::None => None,
@@ -108,7 +110,8 @@ fn error<'a>(
 
 // The error about a packet to a closed port.
 fn port_error<'a>(ours: &Interface, frame: &'a [u8]) -> Option<MessageFrame<'a>>
-    ensures { Gives (IsError ours.now frame.now (DstUnreachable Port)) result }
+    ensures error { Gives (IsError ours.now frame.now (DstUnreachable Port)) result }
+    ensures unmarked { IfSome result (λ error. error.dscp ≡ 0) }
 {
     let reason = Unreachable::Port;
     icmp_error::error(frame, ours, IcmpRepr::DstUnreachable { reason })

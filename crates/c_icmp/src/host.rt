@@ -2,6 +2,7 @@
 
 ghost use Rattle.std.specs.Prelude.{◌≡◌, ◌≤◌, IsSome, length, pos};
 ghost use Rattle.app_host.specs.Host.{IsUnread, RepliesBytes};
+ghost use Rattle.app_host.specs.IcmpEcho.{reply_dscp};
 ghost use Rattle.c_icmp.specs.HostFields.{WritesAnswer, host_of, offer_of};
 ghost use Rattle.c_icmp.specs.Interfaces.{WritesReply};
 ghost use Rattle.c_structs.specs.Written.{max_len};
@@ -64,7 +65,7 @@ impl<'a> HostFields<'a> {
 
 // Writes the answer of a host to a frame, and returns its length; 0 if there is none. Fails with `NoRoom`.
 fn answer(host: &Host<'_>, frame: &[u8], out: &mut [u8]) -> isize
-    ensures answers { WritesReply (RepliesBytes host.now frame.now) out.old out.new result }
+    ensures answers { WritesReply (reply_dscp frame.now) (RepliesBytes host.now frame.now) out.old out.new result }
     ensures unread { IsUnread frame.now → result ≡ pos 0 }
 {
     match reply(host, frame) {

@@ -2,7 +2,7 @@
 
 ghost use Rattle.std.specs.Prelude.{◌≡◌, ◌<◌, ◌≤◌, ◌^◌, IfSome, None, length, pos};
 ghost use Rattle.std.specs.Option.{option_map_or};
-ghost use Rattle.app_host.specs.Message.{HasValues, IsSendable, IsSendableReply, IsSent};
+ghost use Rattle.app_host.specs.Message.{HasValues, IsSendable, IsSendableReply, IsSent, dscp_in};
 ghost use Rattle.ip_wire.specs.Frame.{Carried};
 ghost use Rattle.ip_wire.specs.Reply as whole;
 ghost use Rattle.ip_wire.specs.Types.{EthernetRepr};
@@ -39,7 +39,7 @@ pub(crate) fn interface(
 /// Writes a frame with a message, and returns its length. Fails with `NoRoom`.
 pub(crate) fn write_message(frame: &MessageFrame<'_>, out: &mut [u8]) -> isize
     requires { IsSendable frame.now }
-    ensures { WritesReply (HasMessage frame.now) out.old out.new result }
+    ensures { WritesReply (λ carried. frame.now.dscp) (HasMessage frame.now) out.old out.new result }
 {
     sent(send_message(frame, out))
 }
@@ -61,7 +61,7 @@ fn send_message(frame: &MessageFrame<'_>, out: &mut [u8]) -> Option<usize>
 pub(crate) fn write_reply(reply: &Reply<'_>, out: &mut [u8]) -> isize
     requires sendable { IsSendableReply reply.now }
     requires values { (header : EthernetRepr) × (carried : Carried) × HasValues reply.now header carried }
-    ensures { WritesReply (HasValues reply.now) out.old out.new result }
+    ensures { WritesReply (λ carried. dscp_in reply.now) (HasValues reply.now) out.old out.new result }
 {
     match reply {
         Reply::Frame(frame) => write_frame(frame, out),
@@ -73,7 +73,7 @@ pub(crate) fn write_reply(reply: &Reply<'_>, out: &mut [u8]) -> isize
 fn write_frame(frame: &Frame<'_>, out: &mut [u8]) -> isize
     requires sendable { whole.IsSendable frame.now }
     requires values { (header : EthernetRepr) × (carried : Carried) × whole.HasValues frame.now header carried }
-    ensures { WritesReply (whole.HasValues frame.now) out.old out.new result }
+    ensures { WritesReply (λ carried. 0) (whole.HasValues frame.now) out.old out.new result }
 {
     sent(send_frame(frame, out))
 }

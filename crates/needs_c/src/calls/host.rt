@@ -1,21 +1,17 @@
 //! Needs the contract of the call for a host.
 
-ghost use Rattle.std.specs.Prelude.{◌≡◌, ◌≤◌, ◌<◌, ◌⊎◌, IsSome, drop, length, negsuc, pos, ℕ};
+ghost use Rattle.std.specs.Prelude.{◌≡◌, ◌≤◌, ◌<◌, IsSome, length, negsuc, pos};
 ghost use Rattle.app_host.specs.Host.{IsUnread};
 ghost use Rattle.c_icmp.specs.HostFields.{host_of};
-ghost use Rattle.ip_wire.specs.Frame.{Carried, IsReadWhole};
-ghost use Rattle.ip_wire.specs.Types.{EthernetRepr};
 
 use c_exports::host::lk_answer;
 use c_icmp::HostFields;
 
-// A frame gets one answer: one length, one value, and the same bytes after it.
+// A frame gets one answer, to the byte.
 fn answer(host: &HostFields<'_>, frame: &[u8], out: &mut [u8], other: &mut [u8]) -> (isize, isize)
     requires { out.old ≡ other.old }
     ensures returned { result.0 ≡ result.1 }
-    ensures rest { (len : ℕ) → result.0 ≡ pos len → drop len out.new ≡ drop len other.new }
-    ensures values { (out.new ≡ other.new)
-        ⊎ ((header : EthernetRepr) × (carried : Carried) × IsReadWhole out.new header carried × IsReadWhole other.new header carried) }
+    ensures written { out.new ≡ other.new }
 {
     (lk_answer(host, frame, out), lk_answer(host, frame, other))
 }

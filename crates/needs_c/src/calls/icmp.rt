@@ -1,9 +1,7 @@
 //! Needs the contracts of calls with ICMP messages.
 
-ghost use Rattle.std.specs.Prelude.{◌≡◌, ◌<◌, ◌⊎◌, IsSome, drop, length, negsuc, pos, ℕ};
+ghost use Rattle.std.specs.Prelude.{◌≡◌, ◌<◌, IsSome, length, negsuc};
 ghost use Rattle.c_icmp.specs.Errors.{own_interface};
-ghost use Rattle.ip_wire.specs.Frame.{Carried, IsReadWhole};
-ghost use Rattle.ip_wire.specs.Types.{EthernetRepr};
 
 use c_exports::icmp::{lk_emit_icmp_error, lk_read_ndisc};
 use c_icmp::{InterfaceFields, Ndisc};
@@ -17,7 +15,7 @@ fn read_ndisc(frame: &[u8], ndisc: &mut Ndisc, other: &mut Ndisc) -> (i32, i32)
     (lk_read_ndisc(frame, ndisc), lk_read_ndisc(frame, other))
 }
 
-// A frame gets one error: one length, one value, and the same bytes after it.
+// A frame gets one error, to the byte.
 fn emit_icmp_error(
     own: &InterfaceFields,
     problem: i32,
@@ -28,9 +26,7 @@ fn emit_icmp_error(
 ) -> (isize, isize)
     requires { out.old ≡ other.old }
     ensures returned { result.0 ≡ result.1 }
-    ensures rest { (len : ℕ) → result.0 ≡ pos len → drop len out.new ≡ drop len other.new }
-    ensures values { (out.new ≡ other.new)
-        ⊎ ((header : EthernetRepr) × (carried : Carried) × IsReadWhole out.new header carried × IsReadWhole other.new header carried) }
+    ensures written { out.new ≡ other.new }
 {
     (
         lk_emit_icmp_error(own, problem, mtu, frame, out),

@@ -1,19 +1,12 @@
-use Rattle.std.proofs.Common.{SFits, ◌∙◌, ap, of_z, rules, subst, sym, to_z, w64}
-use Rattle.std.proofs.lemmas.Int.{to_z-of_z}
+use Rattle.std.proofs.Common.{ap, of_z, subst, sym, to_z, w64}
 use Rattle.c_icmp.specs.HostFields.{WritesAnswer, host_of}
 use Rattle.needs_c.proofs.RepliesOnce.{answers_once}
 use Rattle.needs_c.proofs.calls.host.answer.Goals as goal
 
 pub returns-clause-returned : goal.returns-clause-returned
 returns-clause-returned c = ap (λ r. to_z w64 (of_z w64 r)) (answers_once (host_of c.args.host.now) c.args.frame.now c.args.out.now _ _ _ _ c.lk_answer.ensures.answers
-    (subst (λ o. WritesAnswer (host_of c.args.host.now) c.args.frame.now o c.lk_answer-2.new.out c.lk_answer-2.result) (sym c.requires) c.lk_answer-2.ensures.answers)).returned
+    (subst (λ o. WritesAnswer (host_of c.args.host.now) c.args.frame.now o c.lk_answer-2.new.out c.lk_answer-2.result) (sym c.requires) c.lk_answer-2.ensures.answers)).0
 
-pub returns-clause-rest : goal.returns-clause-rest
-returns-clause-rest c len is =
-    let fits : SFits w64 c.lk_answer.result = search rules in
-    (answers_once (host_of c.args.host.now) c.args.frame.now c.args.out.now _ _ _ _ c.lk_answer.ensures.answers
-    (subst (λ o. WritesAnswer (host_of c.args.host.now) c.args.frame.now o c.lk_answer-2.new.out c.lk_answer-2.result) (sym c.requires) c.lk_answer-2.ensures.answers)).rest len (sym (to_z-of_z w64 c.lk_answer.result fits) ∙ is)
-
-pub returns-clause-values : goal.returns-clause-values
-returns-clause-values c = (answers_once (host_of c.args.host.now) c.args.frame.now c.args.out.now _ _ _ _ c.lk_answer.ensures.answers
-    (subst (λ o. WritesAnswer (host_of c.args.host.now) c.args.frame.now o c.lk_answer-2.new.out c.lk_answer-2.result) (sym c.requires) c.lk_answer-2.ensures.answers)).values
+pub returns-clause-written : goal.returns-clause-written
+returns-clause-written c = (answers_once (host_of c.args.host.now) c.args.frame.now c.args.out.now _ _ _ _ c.lk_answer.ensures.answers
+    (subst (λ o. WritesAnswer (host_of c.args.host.now) c.args.frame.now o c.lk_answer-2.new.out c.lk_answer-2.result) (sym c.requires) c.lk_answer-2.ensures.answers)).1
