@@ -88,6 +88,7 @@ static const struct rejected not_let_in[] = {
     {&nat_error_in, 70, {{37, 0xcf}, {49, 0x01}}, LK_NO_MAPPING}, /* a later fragment */
     {&nat_error_in, 70, {{36, 0xfc}, {62, 0x00}}, LK_NO_MAPPING}, /* an echo reply */
     {&nat_error_in, 70, {{25, 0x7a}, {33, 0x0a}}, LK_NO_MAPPING}, /* for another address */
+    {&nat_error_in, 70, {{37, 0xcf}, {57, 0x0a}}, LK_NO_MAPPING}, /* about a packet from another address */
 };
 
 /* ICMP errors of an inside host. The UDP packet that the unchanged one quotes has a mapping. */
