@@ -1,5 +1,5 @@
-//! What needs each law and each call of the C library, and those of the edits of frames: a call of each. If one says less,
-//! one of these functions is no longer proved.
+//! What needs each law of the C library and of the edits of frames, and each call whose contract is a relation. If one
+//! says less, one of these functions is no longer proved.
 #![tactic(auto)]
 
 mod calls;
