@@ -8,9 +8,9 @@
 # make quick          runs the tests of the libraries and both programs, without proofs
 # make sketch         compiles the C library with rustc, without proofs, in out/sketch
 # make check          proves one crate, CRATE=name, over the libraries that make test proved
-# make affected       proves what the change since a commit, SINCE=HEAD, reaches, with needs and tests
+# make affected       proves what the change since SINCE=HEAD reaches, with tests and wrong bodies
 # make test           runs the gate and all other tests; with ANEW=yes it proves again what it kept
-# make mutants        tries the new wrong bodies and weaker statements, or all with ANEW=yes
+# make mutants        tries the new wrong bodies, or all with ANEW=yes
 # make new            makes a crate of your own, CRATE=name, with one proved call
 # make reference      writes the reference as HTML pages to out/reference
 # make statements     prints the contracts and definitions that differ since a commit, SINCE=HEAD

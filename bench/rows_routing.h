@@ -126,6 +126,8 @@ NAT_CALLS(call_nat_expired, translate_out, OUTSIDE_PORTS, ((next_frame - 1) / FL
 
 REPEAT(call_answer, answer, &host, bytes, frame_len, OUT)
 REPEAT(call_emit_icmp_error, emit_icmp_error, &host_interface, LK_PORT_CLOSED, 0, bytes, frame_len, OUT)
+/* The first fragment, or the whole packet. */
+REPEAT(call_fragment, fragment, bytes, frame_len, 576, 1, 0, OUT)
 REPEAT(call_read_ndisc, read_ndisc, bytes, frame_len, &out.ndisc)
 REPEAT(call_emit_ndisc_frame, emit_ndisc_frame, &solicitation_headers, &solicitation, OUT)
 
@@ -221,6 +223,7 @@ static const struct call message_rows[] = {
     {"emit ICMP error/IPv6", prepare_closed_ipv6, call_emit_icmp_error},
 };
 static const size_t message_sizes[] = {64, MOST_PAYLOAD};
+static const struct call fragment_rows[] = {{"fragment UDP/IPv4", prepare_udp_ipv4, call_fragment}};
 static const struct call ndisc_rows[] = {
     {"read solicitation", prepare_solicitation, call_read_ndisc},
     {"emit frame solicitation", prepare_solicitation, call_emit_ndisc_frame},
@@ -239,5 +242,5 @@ static const struct block routing_blocks[] = {
     BLOCK(dual_by_table_rows, dual_counts, IN_OURS, 128),
     BLOCK(nat_rows, nat_sizes, IN_OURS, 64),         BLOCK(host_rows, host_sizes, IN_OURS, 1),
     BLOCK(message_rows, message_sizes, IN_OURS, 1),  BLOCK(ndisc_rows, host_sizes, IN_FLOOR, 1),
-    BLOCK(edit_rows, nat_sizes, IN_OURS, 1),
+    BLOCK(edit_rows, nat_sizes, IN_OURS, 1),         BLOCK(fragment_rows, message_sizes, IN_OURS, 1),
 };

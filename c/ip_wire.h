@@ -70,12 +70,15 @@ int lk_cpu_supported(void);
 #define LK_BAD_PREFIX LK_FAILURE(3)       /* a prefix length above 32 for IPv4, above 128 for IPv6 */
 #define LK_NO_PORT LK_FAILURE(4)          /* a port is 0 where receivers reject it (all but the source port of UDP) */
 #define LK_NO_HOP_LIMIT LK_FAILURE(5)     /* the hop limit is 0 */
-#define LK_BAD_FIELD LK_FAILURE(6)        /* a field of `struct lk_ip` that this header has no place for */
+#define LK_BAD_FIELD LK_FAILURE(6)        /* a field of `struct lk_ip` that this header has no place for; an
+                                           * identification or MTU of lk_fragment */
 #define LK_TWO_CONTROLS LK_FAILURE(7)     /* more than one of SYN, FIN and RST */
 #define LK_OPTIONS_TOO_LONG LK_FAILURE(8) /* TCP options of more than 40 bytes, or more than 4 SACK ranges */
 #define LK_PAYLOAD_TOO_LONG LK_FAILURE(9) /* the payload is longer than the length field can say */
-#define LK_NO_HEADER LK_FAILURE(10)       /* no frame: a length above LK_MAX_LEN, or for lk_rebuild below 14 */
+#define LK_NO_HEADER LK_FAILURE(10)       /* no frame: a length above LK_MAX_LEN, for lk_rebuild below 14, or for
+                                           * lk_fragment without a valid IPv4 header */
 #define LK_NO_ROOM LK_FAILURE(11)         /* the result is longer than `cap` */
+#define LK_DONT_FRAGMENT LK_FAILURE(12)   /* lk_fragment: the packet is longer than the MTU, and has DF */
 
 /* Returns the name of a failure, as "LK_NO_ROOM", or "no failure", also for the sum of a failure and a length. The text
  * is constant. */
@@ -906,6 +909,35 @@ enum lk_offload {
  * Returns 1 if the size was larger, else 0; then the frame is unchanged. */
 int lk_clamp_mss(uint8_t *frame, size_t len, uint16_t max_seg_size);
 int lk_clamp_mss_as(uint8_t *frame, size_t len, uint16_t max_seg_size, int offload);
+
+/* ---- fragments ---- */
+
+/* For lk_fragment: the packet keeps its identification. */
+#define LK_FORWARDED (-1)
+
+/* Writes one of the fragments into which an IPv4 packet is cut for a link with this MTU, in bytes (RFC 791, section
+ * 3.2). `frame` is an Ethernet frame, and so is each fragment, with the same Ethernet header. `number` counts the
+ * fragments from 0. Returns 0 if there are no more, and otherwise the length of the frame:
+ *
+ *     ptrdiff_t n;
+ *     for (size_t i = 0; (n = lk_fragment(frame, len, mtu, LK_FORWARDED, i, out, sizeof out)) > 0; i++)
+ *         send(out, (size_t)n);
+ *
+ * A packet that fits is its only fragment. Padding is left out. A fragment is cut into fragments of its packet.
+ *
+ * - A router passes LK_FORWARDED as `ident`: the identification stays, and the packet may be cut only if DF is clear.
+ * - A sender passes an identification up to 65535. Its DF is cleared, as lk_emit_.. sets it. No other packet of this
+ *   protocol between these addresses may have the same identification for two minutes (RFC 6864).
+ *
+ * Options that only the first fragment may have are no-operations in the others (RFC 791, section 3.1), so that all
+ * headers have one length. Complete a checksum that is left to the device before the call (lk_fill_checksum).
+ *
+ * Fails with LK_BAD_FIELD if `ident` is above 65535 or below -1, or if the packet does not fit and the MTU is less than
+ * its header and 8 bytes; with LK_PAYLOAD_TOO_LONG for a fragment that ends after byte 65535 of its packet; with
+ * LK_NO_HEADER if the frame has no IPv4 packet with a valid header, or if the packet is a fragment and `ident` is not
+ * LK_FORWARDED; with LK_DONT_FRAGMENT, and with LK_NO_ROOM. */
+ptrdiff_t lk_fragment(const uint8_t *frame, size_t len, size_t mtu, int32_t ident, size_t number, uint8_t *out,
+                      size_t cap);
 
 /* ---- edits in place ---- */
 

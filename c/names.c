@@ -16,6 +16,7 @@ const char *lk_failure_name(ptrdiff_t failure)
     static const char *const names[] = {
         "LK_NO_VERSION", "LK_TWO_VERSIONS", "LK_BAD_PREFIX",       "LK_NO_PORT",          "LK_NO_HOP_LIMIT", "LK_BAD_FIELD",
         "LK_TWO_CONTROLS", "LK_OPTIONS_TOO_LONG", "LK_PAYLOAD_TOO_LONG", "LK_NO_HEADER", "LK_NO_ROOM",
+        "LK_DONT_FRAGMENT",
     };
     const int count = sizeof names / sizeof names[0];
     for (int i = 0; i < count; i++)

@@ -62,3 +62,25 @@ func TestEdits(t *testing.T) {
 		}
 	}
 }
+
+// Scapy packed the fragments.
+func TestFragment(t *testing.T) {
+	const ping = ethernet + "450000202160400040119569c0000201c0000202" + "a1670007000cfb92" + "70696e67"
+	for _, it := range []struct {
+		mtu, ident, number int
+		fragment           string
+		failure            error
+	}{
+		{28, 0x1234, 0, ethernet + "4500001c123420004011c499c0000201c0000202" + ping[68:84], nil},
+		{28, 0x1234, 1, ethernet + "45000018123400014011e49cc0000201c0000202" + ping[84:], nil},
+		{28, 0x1234, 2, "", nil},
+		{32, Forwarded, 0, ping, nil},
+		{31, Forwarded, 0, "", DontFragment},
+		{27, 0x1234, 0, "", BadField},
+	} {
+		fragment, err := Fragment(unhex(t, ping), it.mtu, it.ident, it.number, make([]byte, 64))
+		if hex.EncodeToString(fragment) != it.fragment || err != it.failure {
+			t.Errorf("Fragment(%d, %d, %d): %x, %v", it.mtu, it.ident, it.number, fragment, err)
+		}
+	}
+}

@@ -96,11 +96,24 @@ static size_t longest_len(const struct packet *packet)
     return start - ETHERNET_LEN + header_len + offload->gso_size;
 }
 
-/* Whether a router may fragment the packet: DF is not set (RFC 791). Over IPv6 none may. */
+/* Whether the router may fragment the packet: DF is not set (RFC 791). Over IPv6 none may. A frame that becomes many is
+ * not cut here. */
 static int may_fragment(const struct packet *packet)
 {
     const uint8_t *header = packet->frame + ETHERNET_LEN;
-    return header[0] >> 4 == 4 && (header[6] & 0x40) == 0;
+    return header[0] >> 4 == 4 && (header[6] & 0x40) == 0 && packet->offload.gso_type == VIRTIO_NET_HDR_GSO_NONE;
+}
+
+/* Sends the fragments of a packet, after the packets that wait in the queues. */
+static void send_fragments(struct router *router, struct interface *interface, struct packet *packet)
+{
+    static uint8_t out[LONGEST_FRAME];
+    const size_t mtu = interface->mtu;
+    ptrdiff_t len;
+    complete_checksum(packet);
+    flush_all(router);
+    for (size_t i = 0; (len = lk_fragment(packet->frame, packet->len, mtu, LK_FORWARDED, i, out, sizeof out)) > 0; i++)
+        send_now(interface, &packet->offload, out, interface->is_tap ? (size_t)len : pad(out, (size_t)len));
 }
 
 static int hop_limit(const struct packet *packet)
@@ -115,8 +128,9 @@ static void send_by(struct router *router, uint16_t from, const struct lk_route 
 {
     struct interface *interface = &router->interfaces[route->interface];
     const struct lk_addr *hop = route->next_hop.version != 0 ? &route->next_hop : dst;
-    if (longest_len(packet) > interface->mtu) {
-        drop(router, may_fragment(packet) ? UNFRAGMENTED : TOO_LONG);
+    int is_too_long = longest_len(packet) > interface->mtu;
+    if (is_too_long && !may_fragment(packet)) {
+        drop(router, TOO_LONG);
         send_error(router, from, LK_PACKET_TOO_BIG, packet, interface->mtu);
         return;
     }
@@ -139,7 +153,10 @@ static void send_by(struct router *router, uint16_t from, const struct lk_route 
     if (!interface->is_tap)
         packet->len = pad(packet->frame, packet->len);
     router->forwarded++;
-    send_later(interface, packet);
+    if (is_too_long)
+        send_fragments(router, interface, packet);
+    else
+        send_later(interface, packet);
 }
 
 void send_on(struct router *router, uint16_t from, struct packet *packet, const struct lk_addr *dst)
@@ -198,7 +215,7 @@ static const char *name_of(int why)
 {
     static const char *const names[] = {
         "other link address", "VLAN tag", "group or broadcast", "link-local",   "reserved address", "for the router",
-        "no route",           "too long", "unfragmented",       "no neighbour", "above the limit of mappings",
+        "no route",           "too long", "no neighbour",      "above the limit of mappings",
     };
     return why < OTHER_LINK ? lk_rejection_name(why) : names[why - OTHER_LINK];
 }

@@ -84,8 +84,7 @@ enum drop {
     RESERVED,                            /* for an address of `is_reserved` */
     FOR_ROUTER,                          /* for an address of the router, which does not answer */
     NO_WAY,                              /* no route */
-    TOO_LONG,                            /* longer than the MTU of the next link */
-    UNFRAGMENTED,                        /* the same, but it may be fragmented, so that its sender is not told */
+    TOO_LONG,                            /* longer than the MTU of the next link, and must not be fragmented */
     NO_NEIGHBOUR,                        /* the next hop does not reply to ARP or neighbour solicitations */
     ABOVE_LIMIT,                         /* it needs a mapping, and its sender has as many as it may have */
     DROPS

@@ -53,7 +53,7 @@ class Statements:
                 for item in module.items:
                     self.add(crate.name, module, item)
             self.definitions |= {f"{path[-1]}.{d.name}" for path, module in crate.specs.items() for d in module.items}
-        crates = "ip_wire", "wire_icmp", "app_nat", "app_host", "app_edit", "c_read", "c_write"
+        crates = "ip_wire", "wire_icmp", "app_nat", "app_host", "app_edit", "app_fragment", "c_read", "c_write", "c_icmp"
         self.laws = {name[-1] for crate in crates
                      for name, target in sources.exports(crate).items() if name[0] == "laws" and name[-1][0].islower()}
 

@@ -9,9 +9,10 @@ comments, bodies or proofs, and no private item that nothing of this names. A la
 with its body, because it promises something of what the body does. So is each function of promises, private ones too.
 An imported name is the same as long as what it means is the same.
 
-With a commit it prints all that differs. Without one it compares with the commit that the part "Unreleased" of CHANGELOG.md
-names. What is gone since, or asks for more, must be named there as `NAME` or `TYPE::NAME`. The rest is printed, and the status
-is 1 then. It is 77 if there is no such commit here, as in a copy without its history.
+With a commit it prints all that differs. Without one it compares with the commit that a paragraph in the part "Unreleased" of
+CHANGELOG.md names by `make statements SINCE=COMMIT`. What is gone since, or asks for more, must be named in this paragraph as
+`NAME` or `TYPE::NAME`. The rest is printed, and the status is 1 then. It is 77 if there is no such commit here, as in a copy
+without its history.
 """
 import collections
 import io
@@ -28,7 +29,8 @@ from contracts import ReadError  # noqa: E402
 from sources import Sources, words_of  # noqa: E402
 
 UNRELEASED = re.compile(r"^## Unreleased\n(.*?)(?=^## |\Z)", re.M | re.S)
-SINCE = re.compile(r"`make statements SINCE=(\S+)`")
+# The paragraph of the comparison, and the commit that it names.
+SINCE = re.compile(r"^(?:.+\n)*?.*`make statements SINCE=(\S+)`.*\n(?:.+\n)*", re.M)
 # The crates whose functions promise something of what their bodies do, beside the laws.
 PROMISES = {"promises"}
 # Attributes that change no statement.
@@ -215,7 +217,7 @@ def told_since():
     since = part and SINCE.search(part[1])
     if not since:
         sys.exit('CHANGELOG.md: its part "Unreleased" does not say with which commit the statements are compared')
-    return since[1], set(re.findall(r"`([\w:]+)`", part[1]))
+    return since[1], set(re.findall(r"`([\w:]+)`", since[0]))
 
 
 def main(words):
@@ -237,7 +239,7 @@ def main(words):
     found = [f"{how}: {shown(fact)}" for how, fact in narrowed(old, new) if not is_told(fact, told)]
     print("".join(line + "\n" for line in found), end="")
     if found:
-        print(f'CHANGELOG.md does not tell of these in its part "Unreleased": they were stated otherwise at {since}')
+        print(f'CHANGELOG.md does not name these beside SINCE={since}: they were stated otherwise then')
     return 1 if found else 0
 
 

@@ -2,9 +2,8 @@
 """Proves what a change reaches, and nothing else: tests/gate/affected.py COMMIT
 
 The change is what differs from the commit. It reaches the crates whose sources differ, the crates with their tests, and, where
-statements, definitions or lemmas differ, all crates above and the needs. rt ci proves these in a copy without the other crates.
-Then all wrong bodies of the changed crates are tried, and all weaker statements of those that state something else. What rt ci
-prints is in out/affected/test.log.
+statements, definitions or lemmas differ, all crates above. rt ci proves these in a copy without the other crates. Then all wrong
+bodies of the changed crates are tried. What rt ci prints is in out/affected/test.log.
 """
 import os
 import pathlib
@@ -17,6 +16,10 @@ import tempfile
 import proved
 import untried
 
+# Modules of tools/ and tests/docs/, whose folders `untried` adds to the path.
+from sources import Sources
+from statements import Statements
+
 TOP = proved.TOP
 OUT = TOP / "out/affected"
 
@@ -27,7 +30,7 @@ def unpacked(commit, folder):
     if packed.returncode:
         sys.exit(f"tests/gate/affected.py: {commit} is no commit of this repository")
     subprocess.run(["tar", "-x", "-C", folder], input=packed.stdout, check=True)
-    return untried.Sources(folder)
+    return Sources(folder)
 
 
 def line_of(top, crate):
@@ -46,7 +49,7 @@ def files(top, crate):
 def read_above(top, sources, crate):
     """What the crates above read of a crate: its statements, and the lemmas that stand in no folder of a function."""
     lemmas = {str(path.name): path.read_bytes() for path in (top / "crates" / crate / "proofs").glob("*.antt")}
-    return list(untried.Statements(sources, sources.crates[crate]).facts()), lemmas
+    return list(Statements(sources, sources.crates[crate]).facts()), lemmas
 
 
 def differing(old, sources):
@@ -95,8 +98,7 @@ def main():
         proved.leave_out(copy, [name for name in proved.crates() if name not in {*names, *below}])
         status = subprocess.run([copy / "tests/gate/progress.py", OUT / "test.log", "rt", "ci"], cwd=copy, check=False).returncode
     kept = {**os.environ, "PROVED": str(OUT / "proved")}
-    trials = [[TOP / "tests/gate/wrong.py", *changed]] + ([[TOP / "tests/gate/loosen.py", *restated]] if restated else [])
-    return status or max(subprocess.run(trial, env=kept, check=False).returncode for trial in trials)
+    return status or subprocess.run([TOP / "tests/gate/wrong.py", *changed], env=kept, check=False).returncode
 
 
 if __name__ == "__main__":

@@ -1,6 +1,6 @@
-"""The record of what `make mutants` tried: which crates' wrong bodies and weaker statements were tried as they are now.
+"""The record of what `make mutants` tried: which crates' wrong bodies were tried as they are now.
 
-tests/data/tried.txt has a line for the trials of a crate: their kind, the crate, and a sum of all that they depend on.
+tests/data/tried.txt has a line for each crate with wrong bodies: its name, and a sum of all that their trials depend on.
 Where the sum differs now, or there is none, make test tries all of the crate. It also tries one other crate, by the commit.
 """
 import collections
@@ -17,7 +17,6 @@ LIST = TOP / "tests/data/tried.txt"
 COMMENT = re.compile(rb"^[ \t]*(?://|--).*\n", re.M)
 sys.path[:0] = [str(TOP / "tests/docs"), str(TOP / "tools")]
 from sources import Sources, words_of  # noqa: E402
-from statements import Statements  # noqa: E402
 
 
 def sum_of(parts):
@@ -73,37 +72,31 @@ def used_below(crate, text):
     return sorted(used)
 
 
-def statements_of(crate):
-    return list(Statements(sources(), sources().crates[crate]).facts())
-
-
 def recorded():
-    """The sums of what was tried, by kind and crate."""
-    lines = LIST.read_text(encoding="utf-8").splitlines() if LIST.exists() else []
-    return {(kind, crate): found for kind, crate, found in (line.split() for line in lines)}
+    """The sums of what was tried, by crate."""
+    return dict(line.split() for line in LIST.read_text(encoding="utf-8").splitlines()) if LIST.exists() else {}
 
 
-def changed(kind, sums):
+def changed(sums):
     """The crates that are not as they were when all of their trials were made, or of which not all were made yet."""
-    return [crate for crate, found in sums.items() if recorded().get((kind, crate)) != found]
+    return [crate for crate, found in sums.items() if recorded().get(crate) != found]
 
 
-def another(kind, sums):
+def another(sums):
     """One crate of which all trials were made, by the commit; none if there is none."""
-    done = [crate for crate in sums if crate not in changed(kind, sums)]
+    done = [crate for crate in sums if crate not in changed(sums)]
     return done[proved.by_commit(len(done)) :][:1] if done else []
 
 
-def due(kind, sums, asked):
+def due(sums, asked):
     """The crates whose trials are made, as the command line asks."""
-    return changed(kind, sums) if asked in (["--beside-gate"], ["--untried"]) else asked or list(sums)
+    return changed(sums) if asked in (["--beside-gate"], ["--untried"]) else asked or list(sums)
 
 
-def record(kind, sums, crates):
-    """Records that these crates were tried as they are now. A crate that is not in `sums` any more loses its line."""
+def record(sums, crate):
+    """Records that this crate was tried as it is now. A crate that is not in `sums` any more loses its line."""
     with open(LIST, "a+", encoding="utf-8") as file:
         fcntl.flock(file, fcntl.LOCK_EX)
-        known = {key: found for key, found in recorded().items() if key[0] != kind or key[1] in sums}
-        known.update({(kind, crate): sums[crate] for crate in crates})
+        known = {**{name: found for name, found in recorded().items() if name in sums}, crate: sums[crate]}
         file.truncate(0)
-        file.write("".join(f"{kind} {crate} {found}\n" for (kind, crate), found in sorted(known.items())))
+        file.write("".join(f"{name} {found}\n" for name, found in sorted(known.items())))

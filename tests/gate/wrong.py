@@ -183,7 +183,7 @@ def sums():
 def main():
     known, asked = sums(), sys.argv[1:]
     beside_gate = asked == ["--beside-gate"]
-    crates = untried.due("wrong", known, asked) + (untried.another("wrong", known) if beside_gate else [])
+    crates = untried.due(known, asked) + (untried.another(known) if beside_gate else [])
     unknown = [crate for crate in crates if not (TOP / "crates" / crate / "src").is_dir()]
     if unknown:
         sys.exit(f"tests/gate/wrong.py: there is no crate {', '.join(unknown)}")
@@ -194,7 +194,7 @@ def main():
     def run(trial):
         trial.run()
         if not beside_gate and not trial.faults:
-            untried.record("wrong", known, [trial.crate])
+            untried.record(known, trial.crate)
 
     with ThreadPoolExecutor(PROCESSORS) as pool:
         runs = [pool.submit(run, trial) for trial in ready(trials, beside_gate)]

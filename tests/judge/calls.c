@@ -52,6 +52,7 @@ static void end_out(const char *name, void *out, size_t cap)
     }
 
 #define PAYLOAD given("payload", ptr, placed_len(len)), NUMBER(len)
+#define INPUT given("octets", ptr, used_len(len)), NUMBER(len)
 #define OUT begin_out(out, cap), NUMBER(cap)
 
 WRITER(emit_udp_frame, (const struct lk_frame *headers, const uint8_t *ptr, size_t len, uint8_t *out, size_t cap),
@@ -97,8 +98,9 @@ WRITER(emit_icmp_error, (const struct lk_interface *own, int problem, uint32_t m
                          uint8_t *out, size_t cap),
        (own, problem, mtu, frame, len, wanted, cap),
        (GIVE(own), NUMBER(problem), NUMBER(mtu), given("frame", frame, used_len(len)), NUMBER(len), OUT))
-WRITER(rebuild, (const uint8_t *ptr, size_t len, uint8_t *out, size_t cap), (ptr, len, wanted, cap),
-       (given("frame", ptr, used_len(len)), NUMBER(len), OUT))
+WRITER(rebuild, (const uint8_t *ptr, size_t len, uint8_t *out, size_t cap), (ptr, len, wanted, cap), (INPUT, OUT))
+WRITER(fragment, (const uint8_t *ptr, size_t len, size_t mtu, int32_t ident, size_t number, uint8_t *out, size_t cap),
+       (ptr, len, mtu, ident, number, wanted, cap), (INPUT, NUMBER(mtu), NUMBER(ident), NUMBER(number), OUT))
 
 /* The ports of the host are arguments too. */
 static const struct lk_host *give_host(const struct lk_host *host)
@@ -111,7 +113,7 @@ static const struct lk_host *give_host(const struct lk_host *host)
 }
 
 WRITER(answer, (const struct lk_host *host, const uint8_t *ptr, size_t len, uint8_t *out, size_t cap),
-       (host, ptr, len, wanted, cap), (give_host(host), given("frame", ptr, used_len(len)), NUMBER(len), OUT))
+       (host, ptr, len, wanted, cap), (give_host(host), INPUT, OUT))
 
 WRITER(print_addr, (const struct lk_addr *addr, char *out, size_t cap), (addr, (char *)wanted, cap), (GIVE(addr), OUT))
 WRITER(print_block, (const struct lk_block *block, char *out, size_t cap), (block, (char *)wanted, cap),
@@ -142,7 +144,6 @@ WRITER(print_frame, (const struct lk_frame *frame, char *out, size_t cap), (fram
         return came;                                                \
     }
 
-#define INPUT given("octets", ptr, used_len(len)), NUMBER(len)
 #define CAPTURED given("captured octets", ptr, used_len(captured)), NUMBER(captured), NUMBER(len)
 #define TEXT given("text", text, used_len(len)), NUMBER(len)
 

@@ -180,7 +180,7 @@ static int has_known_option(const struct lk_frame *frame)
 
 /* Whether tshark dissects just the headers that lk_read_frame reads. It dissects the transport of a first fragment
  * too, and what other protocols carry. It calls a TCP or ICMP checksum bad that is 0xffff instead of 0, but by RFC 1071
- * the sum is right. */
+ * the sum is right. In ARP operation 7 (DRARP error, RFC 1931) it finds an error instead of the last address. */
 static int is_comparable(const struct lk_frame *frame)
 {
     if (frame->reason != LK_READ)
@@ -189,7 +189,9 @@ static int is_comparable(const struct lk_frame *frame)
         return get_word(made.octets + frame->transport_offset + 16) != 0xffff;
     if (frame->transport == LK_ICMP)
         return get_word(made.octets + frame->transport_offset + 2) != 0xffff;
-    return frame->network == LK_ARP || frame->transport == LK_UDP || frame->ip.fragment_offset != 0;
+    if (frame->network == LK_ARP)
+        return frame->arp.operation != 7;
+    return frame->transport == LK_UDP || frame->ip.fragment_offset != 0;
 }
 
 /* Opens both files, and begins the capture. */

@@ -57,6 +57,7 @@ __attribute__((constructor)) static void choose(void)
         "LK_OFFLOADED with an address as LK_GUESS", "LK_COMPLETE with a port as LK_GUESS",
         "an unknown lk_offload as LK_COMPLETE", "LK_OFFLOADED of a clamped SYN as LK_GUESS",
         "the checksum in a first fragment of IPv6 not updated",
+        "the last part of a fragment as the last fragment", "all options in each fragment", "a packet with DF cut",
     };
     const char *number = getenv("FAULT");
     fault = number ? (enum fault)atoi(number) : NO_FAULT;

@@ -79,7 +79,7 @@ BOTH(rejection_name); BOTH(forward); BOTH(translate); BOTH(clamp_mss); BOTH(inde
 BOTH(check_source); BOTH(make_route_table); BOTH(choose_route_by_table); BOTH(check_source_by_table);
 BOTH(translate_out); BOTH(translate_in); BOTH(set_hop_limit); BOTH(set_dscp); BOTH(set_addr);
 BOTH(set_port); BOTH(set_bytes); BOTH(fill_checksum); BOTH(protocol_name); BOTH(ethertype_name);
-BOTH(tcp_flag_name); BOTH(clamp_mss_as); BOTH(set_addr_as); BOTH(set_port_as); BOTH(set_bytes_as);
+BOTH(tcp_flag_name); BOTH(clamp_mss_as); BOTH(set_addr_as); BOTH(set_port_as); BOTH(set_bytes_as); BOTH(fragment);
 
 /* The model of NAT has a table of its own: it is empty then. */
 void forget_mappings(void);
@@ -117,7 +117,7 @@ void make_valid(void);
 void make_frame(void);
 
 /* ---- cases_read.c, cases_link.c, cases_write.c, cases_text.c, cases_sums.c, cases_route.c,
- * cases_nat.c, cases_icmp.c, cases_edit.c ---- */
+ * cases_nat.c, cases_icmp.c, cases_edit.c, cases_fragment.c ---- */
 
 void read_whole(void);
 void read_cut(void);
@@ -143,6 +143,7 @@ void emit_icmp(void);
 void read_ndisc(void);
 void emit_error(void);
 void edit_frame(void);
+void fragment_frame(void);
 
 /* ---- worked.c ---- */
 

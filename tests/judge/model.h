@@ -206,6 +206,11 @@ int model_set_port_as(uint8_t *octets, size_t len, int side, uint16_t port, int 
 int model_set_bytes_as(uint8_t *octets, size_t len, size_t offset, const uint8_t *ptr, size_t count, int offload);
 int model_fill_checksum(uint8_t *octets, size_t len);
 
+/* ---- model_fragment.c ---- */
+
+ptrdiff_t model_fragment(const uint8_t *octets, size_t len, size_t mtu, int32_t ident, size_t number, uint8_t *out,
+                         size_t cap);
+
 /* ---- model_nat.c ---- */
 
 enum model_phase { MODEL_OPENING, MODEL_ESTABLISHED, MODEL_CLOSING };

@@ -47,8 +47,9 @@ const char *model_failure_name(ptrdiff_t failure)
     static const char *const names[] = {
         "LK_NO_VERSION", "LK_TWO_VERSIONS", "LK_BAD_PREFIX", "LK_NO_PORT", "LK_NO_HOP_LIMIT", "LK_BAD_FIELD",
         "LK_TWO_CONTROLS", "LK_OPTIONS_TOO_LONG", "LK_PAYLOAD_TOO_LONG", "LK_NO_HEADER", "LK_NO_ROOM",
+        "LK_DONT_FRAGMENT",
     };
-    for (int number = 1; number <= 11; number++)
+    for (int number = 1; number <= 12; number++)
         if (failure == LK_FAILURE(number))
             return names[number - 1];
     return "no failure"; /* Open: a sum of a failure and lengths. */

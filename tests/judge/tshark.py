@@ -67,7 +67,8 @@ def zip_equal(*lists):
 
 def parsed(capture):
     """The rows that tshark prints. A field that is there more often, as in a payload, counts once, but the second
-    addresses are those of a quoted packet."""
+    addresses are those of a quoted packet. tshark prints the source also if the quoted header ends before its destination;
+    then there is none."""
     command = ["tshark", "-n", "-r", capture, "-T", "fields", "-E", "occurrence=a"]
     command += [word for preference in PREFERENCES for word in ("-o", preference)]
     command += [word for field in FIELDS for word in ("-e", field)]
@@ -76,7 +77,7 @@ def parsed(capture):
         fields = line.split("\t")
         found = dict(zip_equal(FIELDS, fields))
         quoted = [second(found["ip." + side]) or second(found["ipv6." + side]) for side in ("src", "dst")]
-        yield [*(normal(field.partition(",")[0]) for field in fields), *quoted]
+        yield [*(normal(field.partition(",")[0]) for field in fields), *(quoted if all(quoted) else ["", ""])]
 
 
 def is_compared(name, our, their, is_icmp):

@@ -89,6 +89,7 @@ void make_worked_calls(void)
     worked_mappings();
     worked_icmp();
     worked_edit();
+    worked_fragment();
     worked_hosts();
     worked_summary();
 }

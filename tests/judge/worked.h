@@ -76,6 +76,7 @@ void worked_nat(void);
 void worked_mappings(void);
 void worked_icmp(void);
 void worked_edit(void);
+void worked_fragment(void);
 void worked_hosts(void);
 void worked_summary(void);
 

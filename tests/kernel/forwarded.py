@@ -70,7 +70,7 @@ class Router:
     # The MTU of each interface that clamps.
     clamps = {}
     # The errors about packets that are dropped.
-    errors = {"LK_EXPIRED": icmp.EXPIRED, "too long": icmp.TOO_BIG, "unfragmented": icmp.TOO_BIG, "no route": icmp.NO_ROUTE, "no neighbour": icmp.NO_NEIGHBOUR}
+    errors = {"LK_EXPIRED": icmp.EXPIRED, "too long": icmp.TOO_BIG, "no route": icmp.NO_ROUTE, "no neighbour": icmp.NO_NEIGHBOUR}
 
     def __init__(self, hardware, addresses, routes, neighbours):
         self.hardware, self.neighbours = hardware, neighbours
@@ -165,7 +165,7 @@ class Router:
         if route is None:
             return "no route", None
         if packet.total_len > self.longest:
-            return "unfragmented" if packet.version == 4 and not packet.header[6] & 0x40 else "too long", None
+            return "too long", None
         if packet.hop_limit <= 1:
             return "LK_EXPIRED", None
         _, next_hop, name = route

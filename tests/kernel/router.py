@@ -410,9 +410,22 @@ def longest_handed(side):
     return max(map(len, side.handed), default=0)
 
 
+def without_dont_fragment(room, there):
+    """A packet without DF that is longer than the next MTU comes in fragments. So does its echo, which the kernel cuts."""
+    for end in (room, there):
+        end.run("ip link set right mtu 1300")
+    time.sleep(READS_MTU)
+    with socket.socket(socket.AF_INET, socket.SOCK_DGRAM) as sock:
+        sock.setsockopt(socket.IPPROTO_IP, MTU_DISCOVER, PMTUDISC_INTERFACE)
+        sock.settimeout(10)
+        for data in map(random.randbytes, (1273, 1372, 1472)):
+            sock.sendto(data, ("10.2.0.2", 7))
+            check("UDP without DF", sock.recv(65535) == data, len(data))
+    there.run("ip link set right mtu 1500")
+
+
 def smaller_mtu(router, room):
-    """A packet that is longer than the next MTU is dropped, and so is a large frame if its segments are. The kernel has to
-    learn the MTU for each. The sender of one without DF is not told."""
+    """Packets and segments that are longer than the next MTU are dropped. The kernel has to learn the MTU for each."""
     room.run("ip link set right mtu 1000")
     time.sleep(READS_MTU)
     before = router.counters()
@@ -420,10 +433,7 @@ def smaller_mtu(router, room):
         sock.setsockopt(socket.IPPROTO_IP, MTU_DISCOVER, PMTUDISC_PROBE)
         for length in (973, 1400):
             sock.sendto(bytes(length), ("10.2.0.2", 7))
-        sock.setsockopt(socket.IPPROTO_IP, MTU_DISCOVER, PMTUDISC_INTERFACE)
-        sock.sendto(bytes(1400), ("10.2.0.2", 7))
-        time.sleep(0.1)
-    compare_counters(router, before, ["too long"] * 2 + ["unfragmented", "dropped without an ICMP error"])
+        compare_counters(router, before, ["too long"] * 2)  # the kernel counts an ICMP error that finds no socket
     Here().run("ip route flush cache")
     check("UDP of the MTU", udp_echo(socket.AF_INET, ("10.2.0.2", 7), bytes(972)) == bytes(972))
     Here().run("ip route flush cache")
@@ -470,6 +480,7 @@ def on_sockets(program):
     sides = {"left": WideSide(SELF, "left"), "right": WideSide(there.process, "right")}
     padded = MODEL.but(least=60)
     offloads(router, sides)
+    without_dont_fragment(room, there)
     smaller_mtu(router, room)
     tagged_frames(router, sides)
     short_frames(sides)

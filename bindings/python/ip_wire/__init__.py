@@ -33,7 +33,7 @@ from .hosts import Host, Interface, Ndisc, Problem, emit_ndisc, parse_ndisc
 from .routing import Nat, Offload, Route, Routes, Side, clamp_mss, forward, translate
 from .writing import (
     emit_arp, emit_arp_packet, emit_ethernet_header, emit_icmp, emit_icmp_message, emit_ip_header, emit_tcp,
-    emit_tcp_segment, emit_udp, emit_udp_packet, rebuild, wrap_tcp, wrap_udp,
+    emit_tcp_segment, emit_udp, emit_udp_packet, fragments, rebuild, wrap_tcp, wrap_udp,
 )  # fmt: skip
 
 __all__ = [
@@ -43,7 +43,7 @@ __all__ = [
     "Verdict", "WireError", "add_seq", "checksum", "clamp_mss", "compare_seq", "contains", "emit_arp",
     "emit_arp_packet", "emit_ethernet_header", "emit_icmp", "emit_icmp_message", "emit_ip_header", "emit_ndisc",
     "emit_tcp", "emit_tcp_segment", "emit_udp", "emit_udp_packet", "ethertype_name", "fill_checksum", "forward",
-    "ipv6_headers", "is_multicast", "is_unicast", "parse_addr", "parse_block", "parse_captured", "parse_endpoint",
+    "fragments", "ipv6_headers", "is_multicast", "is_unicast", "parse_addr", "parse_block", "parse_captured", "parse_endpoint",
     "parse_ethernet", "parse_frame", "parse_frame_options", "parse_link", "parse_linktype", "parse_ndisc",
     "parse_packet", "parse_tcp_options", "print_addr", "print_block", "print_ethernet", "protocol_name",
     "raw_tcp_options", "rebuild", "set_addr", "set_bytes", "set_dscp", "set_hop_limit", "set_port", "subtract_seq",

@@ -12,7 +12,7 @@ from __future__ import annotations
 
 import ctypes
 import operator
-from ctypes import c_int, c_size_t, c_uint8, c_uint16, c_uint32, c_uint64
+from ctypes import c_int, c_int32, c_size_t, c_uint8, c_uint16, c_uint32, c_uint64
 from functools import lru_cache
 from ipaddress import IPv4Address, IPv4Interface, IPv4Network, IPv6Address, IPv6Interface, IPv6Network
 from typing import Any, Callable, Dict, List, Tuple, Type, TypeVar, Union, get_type_hints
@@ -25,7 +25,7 @@ AnyBlock = Union[Block, IPv4Network, IPv6Network]
 Data = Union[bytes, bytearray, memoryview]
 T = TypeVar("T")
 
-_NUMBERS = {c_int, c_size_t, c_uint8, c_uint16, c_uint32, c_uint64}
+_NUMBERS = {c_int, c_int32, c_size_t, c_uint8, c_uint16, c_uint32, c_uint64}
 _classes: Dict[Any, type] = {}  # of a struct, the class that represents it
 
 

@@ -133,6 +133,7 @@ CALLS: Dict[str, Tuple[Any, ...]] = {
     "lk_forward": (c_int, OUT, Hardware, Hardware),
     "lk_translate": (c_int, OUT, c_int, Endpoint),
     "lk_clamp_mss_as": (c_int, OUT, c_uint16, c_int),
+    "lk_fragment": (c_ssize_t, DATA, c_size_t, c_int32, c_size_t, OUT),
     "lk_set_hop_limit": (c_int, OUT, c_uint8),
     "lk_set_dscp": (c_int, OUT, c_uint8),
     "lk_set_addr_as": (c_int, OUT, c_int, Addr, c_int),

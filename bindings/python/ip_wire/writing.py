@@ -2,10 +2,11 @@
 from __future__ import annotations
 
 import ctypes
-from typing import Any, Union
+import itertools
+from typing import Any, Iterator, Union
 
 from . import _c as c
-from ._convert import Address, Data, call, data_of, succeeded, to_c, written
+from ._convert import Address, Data, call, data_of, number_of, succeeded, to_c, written
 from .addresses import Endpoint
 from .headers import Arp, Ethernet, Headers, Icmp, Ip, Tcp, TcpOptions, options_to_c
 
@@ -45,6 +46,22 @@ def rebuild(frame: Data) -> bytes:
     """Parses an Ethernet frame, and emits each header again from its values, without padding."""
     data = data_of(frame)
     return written(len(data), "lk_rebuild", data)
+
+
+def fragments(frame: Data, mtu: int, ident: Union[int, None] = None) -> Iterator[bytes]:
+    """Cuts the IPv4 packet of an Ethernet frame into fragments for a link with this MTU (RFC 791, section 3.2), each in
+    an Ethernet frame with the same header. A packet that fits is its only fragment.
+
+    Without `ident` the packet keeps its identification, and is cut only if DF is clear. With it the fragments have this
+    identification, and DF is clear: no other packet of this protocol between these addresses may have it for two minutes
+    (RFC 6864)."""
+    data = data_of(frame)
+    own = -1 if ident is None else number_of(ctypes.c_uint16, ident, "ident")
+    for number in itertools.count():
+        fragment = written(len(data), "lk_fragment", data, mtu, own, number)
+        if not fragment:
+            return
+        yield fragment
 
 
 # ---- headers before a payload that is in a buffer already

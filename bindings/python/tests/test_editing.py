@@ -78,5 +78,23 @@ class Editing(unittest.TestCase):
                 edit()
 
 
+PING = bytes.fromhex("0200000000020200000000010800" "450000202160400040119569c0000201c0000202" "a1670007000cfb92" "70696e67")
+
+
+class Fragments(unittest.TestCase):
+    """Scapy packed the fragments."""
+
+    def test_own(self):
+        headers = ("4500001c123420004011c499c0000201c0000202", "45000018123400014011e49cc0000201c0000202")
+        expected = [PING[:14] + bytes.fromhex(header) + part for header, part in zip(headers, (PING[34:42], PING[42:]))]
+        self.assertEqual(list(ip_wire.fragments(PING + bytes(14), 28, 0x1234)), expected)
+
+    def test_forwarded(self):
+        self.assertEqual(list(ip_wire.fragments(PING, 32)), [PING])
+        self.assertRaisesRegex(ip_wire.WireError, "LK_DONT_FRAGMENT", list, ip_wire.fragments(PING, 31))
+        self.assertRaisesRegex(ip_wire.WireError, "LK_NO_HEADER", list, ip_wire.fragments(b"", 1500))
+        self.assertRaises(ValueError, list, ip_wire.fragments(PING, 1500, -1))
+
+
 if __name__ == "__main__":
     unittest.main()

@@ -284,6 +284,9 @@ calls! {
     fn lk_translate(frame: *mut u8, len: usize, side: c_int, end: &Endpoint) -> c_int;
     fn lk_clamp_mss(frame: *mut u8, len: usize, max_seg_size: u16) -> c_int;
     fn lk_clamp_mss_as(frame: *mut u8, len: usize, max_seg_size: u16, offload: c_int) -> c_int;
+    fn lk_fragment(
+        frame: *const u8, len: usize, mtu: usize, ident: i32, number: usize, out: *mut u8, cap: usize
+    ) -> isize;
     fn lk_set_hop_limit(frame: *mut u8, len: usize, hop_limit: u8) -> c_int;
     fn lk_set_dscp(frame: *mut u8, len: usize, dscp: u8) -> c_int;
     fn lk_set_addr(frame: *mut u8, len: usize, side: c_int, addr: &Addr) -> c_int;

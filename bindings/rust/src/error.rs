@@ -44,8 +44,9 @@ numbered! {
         TwoControls: "more than one of SYN, FIN and RST is set",
         OptionsTooLong: "the TCP options have more than 40 bytes, or more than 4 SACK ranges",
         PayloadTooLong: "the payload is longer than the length field can say",
-        NoHeader: "the frame to be rebuilt is shorter than an Ethernet header",
+        NoHeader: "the frame to be rebuilt is shorter than an Ethernet header, or the one to be cut has no IPv4 packet",
         NoRoom: "the result is longer than the buffer",
+        DontFragment: "the packet is longer than the MTU, and has DF",
     }
 }
 

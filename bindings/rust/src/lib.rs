@@ -10,7 +10,7 @@
 //! | write a frame | [`Headers`], [`Arp`], [`Ndisc`], [`rebuild`], [`layer`] |
 //! | answer as a host | [`Host`], [`Interface::emit_error`] |
 //! | route and translate | [`RouteTable`], [`forward`], [`clamp_mss`], [`Nat`], [`translate`] |
-//! | edit a frame in place | [`edit`] |
+//! | edit a frame in place, cut it into fragments | [`edit`], [`Fragments`] |
 //! | parse and print addresses | [`parse_addr`], [`parse_endpoint`], [`Block`], [`EthernetAddr`] |
 //! | compute checksums | [`checksum`] |
 //!
@@ -61,6 +61,7 @@ pub mod checksum;
 pub mod edit;
 mod emit;
 mod error;
+mod fragments;
 mod frame;
 mod headers;
 mod hop;
@@ -77,6 +78,7 @@ mod tcp;
 pub use addr::{is_unicast, parse_addr, parse_endpoint, Block, EthernetAddr, ParseError};
 pub use emit::rebuild;
 pub use error::{Defect, Error, Network, Reason, Rejection, Transport, Verdict};
+pub use fragments::Fragments;
 pub use frame::Frame;
 pub use headers::{ethertype_name, protocol_name, Arp, Ethernet, Headers, Icmp, Ip};
 pub use hop::{clamp_mss, clamp_mss_as, forward, translate, Offload, Side};

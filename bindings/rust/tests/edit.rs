@@ -1,10 +1,11 @@
-//! Fields are written in place, and the checksums that cover them updated. Scapy packed the frames after each edit.
+//! Fields are written in place, and the checksums that cover them updated. A packet is cut. Scapy packed the frames after
+//! each edit, and the fragments.
 
 mod worked;
 
-use ip_wire::{clamp_mss_as, edit, Offload, Side};
+use ip_wire::{clamp_mss_as, edit, Error, Fragments, Offload, Side};
 use std::net::IpAddr;
-use worked::{changed, frame};
+use worked::{bytes, changed, frame};
 
 /// Makes an edit of the frame: these bytes change, or none, and then it returns `false`.
 fn edits(name: &str, edit: impl Fn(&mut [u8]) -> bool, changes: &[(usize, u8)]) {
@@ -77,4 +78,22 @@ fn checksums_are_filled_in() {
     edits("tcp4_left_to_device", edit::fill_checksum, &[(50, 0x96), (51, 0x9e)]);
     edits("udp6_left_to_device", edit::fill_checksum, &[(60, 0xb5), (61, 0x6d)]);
     edits("fragment4_first", edit::fill_checksum, &[]);
+}
+
+#[test]
+fn a_packet_is_cut() {
+    let (ping, mut out) = (frame("ping"), [0; 64]);
+    let mut fragments = Fragments::with_ident(&ping, 28, 0x1234);
+    for digits in [
+        "4500001c123420004011c499c0000201c0000202a1670007000cfb92",
+        "45000018123400014011e49cc0000201c000020270696e67",
+    ] {
+        let fragment = fragments.emit_next(&mut out).unwrap().unwrap();
+        assert_eq!((&fragment[..14], &fragment[14..]), (&ping[..14], &bytes(digits)[..]));
+    }
+    assert_eq!(fragments.emit_next(&mut out), Ok(None));
+    let forwarded =
+        |mtu| Fragments::forwarded(&ping, mtu).emit_next(&mut [0; 64]).map(|it| it.unwrap().to_vec());
+    assert_eq!(forwarded(31), Err(Error::DontFragment));
+    assert_eq!(forwarded(32), Ok(ping.clone()));
 }

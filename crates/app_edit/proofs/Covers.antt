@@ -73,7 +73,7 @@ sum_over xs first last = sum (words (slice_range xs first last))
 below : (a b : ℕ) → a < b → nat_lt a b ≡ true
 below a b h = grind (arith, nat_tests)
 
-above : (a b : ℕ) → b ≤ a → nat_lt a b ≡ false
+pub above : (a b : ℕ) → b ≤ a → nat_lt a b ≡ false
 above a b h = grind (arith, nat_tests)
 
 -- a place that is covered and not replaced, if there is no overlap

@@ -21,17 +21,7 @@ use Rattle.app_edit.specs.declared.replace.Offload.{Offload}
 pub offset-even : (q : IpProtocol) → checksum_offset q % 2 ≡ 0
 offset-even protocol.Tcp = omega arith
 offset-even protocol.Udp = omega arith
-offset-even protocol.Icmp = omega arith
-offset-even protocol.Icmpv6 = omega arith
-offset-even protocol.HopByHop = omega arith
-offset-even protocol.Igmp = omega arith
-offset-even protocol.Ipv6Route = omega arith
-offset-even protocol.Ipv6Frag = omega arith
-offset-even protocol.IpSecEsp = omega arith
-offset-even protocol.IpSecAh = omega arith
-offset-even protocol.Ipv6NoNxt = omega arith
-offset-even protocol.Ipv6Opts = omega arith
-offset-even (protocol.Unknown k) = omega arith
+offset-even q = omega arith
 
 -- what is known of places that were found
 pub found : (o : Option Places) (xs : List ℕ) (p : Places) → o ≡ places_of xs → IfSome o (λ q. Holds q xs) → places_of xs ≡ Some p → Holds p xs
@@ -57,7 +47,7 @@ is-edit p s xs bytes at h is are room apart =
     }
 
 -- the edited frame, for a packet whose checksum is not left to the device
-edited-is : (o : Offload) (p : Places) (s : Segment) (xs bytes : List ℕ) (at : ℕ) → p.carried ≡ carried.Segment s → is_left o p.version s xs ≡ false
+pub edited-is : (o : Offload) (p : Places) (s : Segment) (xs bytes : List ℕ) (at : ℕ) → p.carried ≡ carried.Segment s → is_left o p.version s xs ≡ false
     → edited o p xs at bytes ≡ made p.version (checksum_place s) xs bytes at (header_checksum p.version p.start xs at bytes) (field_by s.protocol p.version s (checksum_place s) xs bytes at)
 edited-is o p s xs bytes at is here =
     let h = with_header_checksum p.version (written xs at bytes) (header_checksum p.version p.start xs at bytes) in
@@ -80,9 +70,7 @@ transport-apart : (k : Carried) (v : IpVersion) (ys xs : List ℕ) (start f : �
     → sum_over (with_transport_checksum k ys f) 14 start ≡ sum_over ys 14 start
 transport-apart (carried.Segment s) v ys xs start f long h least room =
     sum-apart ys (big_bytes 2 f) (checksum_place s) 14 start (omega arith) least (omega (arith, long, room)) (omega (arith, long, h.0.least, h.0.inside)) (inr (omega (arith, h.1)))
-transport-apart carried.Other v ys xs start f long h least room = refl
-transport-apart carried.Fragment v ys xs start f long h least room = refl
-transport-apart carried.Hidden v ys xs start f long h least room = refl
+transport-apart k v ys xs start f long h least room = refl
 
 -- the sum of an IPv4 header after an edit beside its checksum field
 pub header-stays : (o : Offload) (p : Places) (xs bytes : List ℕ) (at : ℕ) → Holds p xs → p.version ≡ version.Ipv4 → AreBytes xs → at + length bytes ≤ length xs

@@ -1,19 +1,17 @@
 -- A checksum that is left to the device stays the sum of the pseudo-header.
-use Rattle.std.proofs.Common.{ℕ, ◌≡◌, ◌∙◌, ◌+◌, ◌-◌, ◌*◌, ◌%◌, ◌<◌, ◌≤◌, ◌==◌, ◌++◌, ◌∷◌, Bool, List, ap, ap₂, arith, false, if◌then◌else◌, not, ◌&&◌, length, length-append, refl, slice_range, sum, sym, true}
-use Rattle.byteorder.specs.Endian.{big_bytes}
+use Rattle.std.proofs.Common.{ℕ, ◌≡◌, ◌∙◌, ◌+◌, ◌-◌, ◌*◌, ◌%◌, ◌<◌, ◌≤◌, ◌==◌, Bool, List, ap, arith, false, if◌then◌else◌, not, ◌&&◌, length, refl, slice_range, sym, true}
 use Rattle.ip_wire.specs.IpAddress.{address_bytes}
-use Rattle.ip_wire.specs.PseudoHeader.{pseudo_header_bytes}
 use Rattle.ip_wire.specs.Protocol.{number_of}
 use Rattle.ip_wire.specs.Types.{IpProtocol, IpVersion}
-use Rattle.ip_wire.specs.WordSum.{residue, updated, words}
+use Rattle.ip_wire.specs.WordSum.{residue, updated}
 use Rattle.ip_wire.proofs.Residues.{residue-bound, residue-quotient}
 use Rattle.ip_wire.proofs.Spelled.{AreBytes}
 use Rattle.std.proofs.lemmas.Bool.Decides.{nat_tests}
 use Rattle.app_edit.proofs.Covers.{covered, sum_over, updated-keeps}
 use Rattle.app_edit.proofs.Kept.{is-edit}
-use Rattle.app_edit.proofs.Stays.{IsEdit, addresses-even, addresses-order, dst-even, field_by, first_field, header-length, least-end, made, made-addresses, made-length, src-even, sum-addresses}
+use Rattle.app_edit.proofs.Stays.{IsEdit, addresses-even, addresses-order, dst-even, field_by, first_field, header-length, least-end, made, made-addresses, made-length, pseudo-header-words, src-even, sum-addresses}
 use Rattle.app_edit.proofs.Sums.{IsApart, residue-least, updated-below, word-fits, word-written}
-use Rattle.app_edit.proofs.Totals.{sum-joined, sum-of_number, written-length}
+use Rattle.app_edit.proofs.Totals.{written-length}
 use Rattle.app_edit.specs.Edited.{can_be_left, dst_of, edited, header_checksum, is_left, looks_left, pseudo_header_sum, segment_sum, src_of, transport_checksum, with_header_checksum, with_transport_checksum, with_word, word_at, written}
 use Rattle.app_edit.specs.Places.{Holds, addresses_end, addresses_start, checksum_place}
 use Rattle.app_edit.specs.declared.places.Carried.TheVariants as carried
@@ -22,29 +20,22 @@ use Rattle.app_edit.specs.declared.places.Segment.{Segment}
 use Rattle.app_edit.specs.declared.replace.Offload.{Offload}
 use Rattle.app_edit.specs.declared.replace.Offload.TheVariants as offload
 
--- the words of a pseudo-header
-pseudo-header-words : (src dst : List ℕ) (q : IpProtocol) (len : ℕ) → length src % 2 ≡ 0 → length dst % 2 ≡ 0
-    → sum (words (pseudo_header_bytes src dst q len)) ≡ sum (words src) + sum (words dst) + (number_of q + len % 65536)
-pseudo-header-words src dst q len s d =
-    let both : length (src ++ dst) % 2 ≡ 0 = ap (λ n. n % 2) (length-append src dst) ∙ omega (arith, s, d) in
-    sum-joined (src ++ dst) (0 ∷ number_of q ∷ big_bytes 2 len) both ∙ ap₂ (λ m n. m + n) (sum-joined src dst s) (sum-of_number (number_of q) len)
-
-pseudo-is : (v : IpVersion) (s : Segment) (xs : List ℕ) → addresses_end v ≤ length xs
+pub pseudo-is : (v : IpVersion) (s : Segment) (xs : List ℕ) → addresses_end v ≤ length xs
     → pseudo_header_sum v s xs ≡ residue (sum_over xs (addresses_start v) (addresses_end v) + (number_of s.protocol + (s.end - s.start) % 65536))
 pseudo-is v s xs room =
     ap residue (pseudo-header-words (address_bytes (src_of v xs)) (address_bytes (dst_of v xs)) s.protocol (s.end - s.start) (src-even v xs room) (dst-even v xs room)
     ∙ ap (λ n. n + (number_of s.protocol + (s.end - s.start) % 65536)) (sum-addresses v xs room))
 
-number-some : (q : IpProtocol) → can_be_left q ≡ true → 0 < number_of q
+pub number-some : (q : IpProtocol) → can_be_left q ≡ true → 0 < number_of q
 number-some q h = grind arith
 
-looks-partial : (v : IpVersion) (s : Segment) (xs : List ℕ) → looks_left v s xs ≡ true → word_at xs (checksum_place s) ≡ pseudo_header_sum v s xs
+pub looks-partial : (v : IpVersion) (s : Segment) (xs : List ℕ) → looks_left v s xs ≡ true → word_at xs (checksum_place s) ≡ pseudo_header_sum v s xs
 looks-partial v s xs h = parts s.is_whole (can_be_left s.protocol) (word_at xs (checksum_place s)) (pseudo_header_sum v s xs) (segment_sum v s xs) h
   where
     parts : (a b : Bool) (m n k : ℕ) → (a && b && m == n && not (k == 65535)) ≡ true → m ≡ n
     parts a b m n k h = grind (arith, nat_tests)
 
-looks-protocol : (v : IpVersion) (s : Segment) (xs : List ℕ) → looks_left v s xs ≡ true → can_be_left s.protocol ≡ true
+pub looks-protocol : (v : IpVersion) (s : Segment) (xs : List ℕ) → looks_left v s xs ≡ true → can_be_left s.protocol ≡ true
 looks-protocol v s xs h = parts s.is_whole (can_be_left s.protocol) (word_at xs (checksum_place s) == pseudo_header_sum v s xs) (not (segment_sum v s xs == 65535)) h
   where
     parts : (a b d e : Bool) → (a && b && d && e) ≡ true → b ≡ true
@@ -58,12 +49,12 @@ looks-protocol v s xs h = parts s.is_whole (can_be_left s.protocol) (word_at xs 
 abbrev IsPartial : Offload → IpVersion → Segment → List ℕ → Type 0
 IsPartial o v s xs = o ≡ offload.Offloaded → word_at xs (checksum_place s) ≡ pseudo_header_sum v s xs
 
-left-is : (o : Offload) (v : IpVersion) (s : Segment) (xs : List ℕ) → is_left o v s xs ≡ true → IsPartial o v s xs → word_at xs (checksum_place s) ≡ pseudo_header_sum v s xs
+pub left-is : (o : Offload) (v : IpVersion) (s : Segment) (xs : List ℕ) → is_left o v s xs ≡ true → IsPartial o v s xs → word_at xs (checksum_place s) ≡ pseudo_header_sum v s xs
 left-is offload.Guess v s xs h said = looks-partial v s xs h
 left-is offload.Offloaded v s xs h said = said refl
 left-is offload.Complete v s xs h said = absurd (cc)
 
-left-protocol : (o : Offload) (v : IpVersion) (s : Segment) (xs : List ℕ) → is_left o v s xs ≡ true → can_be_left s.protocol ≡ true
+pub left-protocol : (o : Offload) (v : IpVersion) (s : Segment) (xs : List ℕ) → is_left o v s xs ≡ true → can_be_left s.protocol ≡ true
 left-protocol offload.Guess v s xs h = looks-protocol v s xs h
 left-protocol offload.Offloaded v s xs h = h
 left-protocol offload.Complete v s xs h = absurd (cc)

@@ -1,13 +1,18 @@
 mod Covers
+mod Found
 mod Kept
 pub mod Layouts
 mod Left
 mod Located
+mod Made
+mod OtherBytes
 pub mod OtherPayloads
 pub mod Payloads
 mod PlacedSums
 mod PlacesStay
+mod ReadBack
 mod Sent
 mod Stays
+mod StaysValid
 mod Sums
 mod Totals

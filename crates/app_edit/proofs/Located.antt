@@ -56,18 +56,7 @@ datagram-same false xs ys start end whole short same =
 carried-same : (q : IpProtocol) (xs ys : List ℕ) (over_ipv4 : Bool) (start end : ℕ) (whole : Bool) → SameLength xs ys start end (carried_by xs over_ipv4 q start end whole)
     → carried_by ys over_ipv4 q start end whole ≡ carried_by xs over_ipv4 q start end whole
 carried-same protocol.Udp xs ys over_ipv4 start end whole same = datagram-same (nat_lt end (start + 8)) xs ys start end whole refl same
-carried-same protocol.Tcp xs ys over_ipv4 start end whole same = refl
-carried-same protocol.Icmp xs ys over_ipv4 start end whole same = refl
-carried-same protocol.Icmpv6 xs ys over_ipv4 start end whole same = refl
-carried-same protocol.HopByHop xs ys over_ipv4 start end whole same = refl
-carried-same protocol.Igmp xs ys over_ipv4 start end whole same = refl
-carried-same protocol.Ipv6Route xs ys over_ipv4 start end whole same = refl
-carried-same protocol.Ipv6Frag xs ys over_ipv4 start end whole same = refl
-carried-same protocol.IpSecEsp xs ys over_ipv4 start end whole same = refl
-carried-same protocol.IpSecAh xs ys over_ipv4 start end whole same = refl
-carried-same protocol.Ipv6NoNxt xs ys over_ipv4 start end whole same = refl
-carried-same protocol.Ipv6Opts xs ys over_ipv4 start end whole same = refl
-carried-same (protocol.Unknown n) xs ys over_ipv4 start end whole same = refl
+carried-same q xs ys over_ipv4 start end whole same = refl
 
 -- also in a fragment
 first-same : (first : Bool) (q : IpProtocol) (xs ys : List ℕ) (over_ipv4 : Bool) (start end : ℕ) (whole : Bool)
@@ -138,17 +127,7 @@ after-same : (q : IpProtocol) (xs ys : List ℕ) (len : ℕ) → Same (places_af
 after-same protocol.Udp xs ys len s =
     let inner = carried-same protocol.Udp xs ys false 54 (14 + len) true s.datagram in λ i. record { version = version.Ipv6; start = 54; end = 14 + len; carried = inner i }
 after-same protocol.Ipv6Frag xs ys len s = fragment-same (nat_le 48 len) xs ys len s
-after-same protocol.Tcp xs ys len s = refl
-after-same protocol.Icmp xs ys len s = refl
-after-same protocol.Icmpv6 xs ys len s = refl
-after-same protocol.HopByHop xs ys len s = refl
-after-same protocol.Igmp xs ys len s = refl
-after-same protocol.Ipv6Route xs ys len s = refl
-after-same protocol.IpSecEsp xs ys len s = refl
-after-same protocol.IpSecAh xs ys len s = refl
-after-same protocol.Ipv6NoNxt xs ys len s = refl
-after-same protocol.Ipv6Opts xs ys len s = refl
-after-same (protocol.Unknown n) xs ys len s = refl
+after-same q xs ys len s = refl
 
 -- the version of the places of an IPv6 packet
 after-version : (q : IpProtocol) (xs : List ℕ) (len : ℕ) → (places_after xs q len).version ≡ version.Ipv6
@@ -157,18 +136,7 @@ after-version protocol.Ipv6Frag xs len = by-test (nat_le 48 len)
     by-test : (b : Bool) → (before_fragment b xs len).version ≡ version.Ipv6
     by-test true = refl
     by-test false = refl
-after-version protocol.Udp xs len = refl
-after-version protocol.Tcp xs len = refl
-after-version protocol.Icmp xs len = refl
-after-version protocol.Icmpv6 xs len = refl
-after-version protocol.HopByHop xs len = refl
-after-version protocol.Igmp xs len = refl
-after-version protocol.Ipv6Route xs len = refl
-after-version protocol.IpSecEsp xs len = refl
-after-version protocol.IpSecAh xs len = refl
-after-version protocol.Ipv6NoNxt xs len = refl
-after-version protocol.Ipv6Opts xs len = refl
-after-version (protocol.Unknown n) xs len = refl
+after-version q xs len = refl
 
 ipv6-same : (xs ys : List ℕ) → Same (places_after xs (protocol_of (field (drop 14 xs) 48 8)) (ipv6.total_len (drop 14 xs))) xs ys → ipv6_places ys ≡ ipv6_places xs
 ipv6-same xs ys s =

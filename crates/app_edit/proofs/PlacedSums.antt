@@ -3,7 +3,7 @@ use Rattle.std.proofs.Common.{ℕ, zero, suc, ◌≡◌, ◌∙◌, ◌⊎◌, �
 use Rattle.ip_wire.proofs.Residues.{residue-add, residue-bound, residue-of_zero, residue-quotient, residue-same, residue-small, residue-swap, residue-zero}
 use Rattle.ip_wire.specs.Udp.{checksum_for}
 use Rattle.ip_wire.specs.WordSum.{residue, sum_of_bytes, words}
-use Rattle.app_edit.proofs.Totals.{sum-words-cons}
+use Rattle.ip_wire.proofs.WordLists.{sum-words-cons}
 use Rattle.app_edit.specs.Checksums.{sum_at, updated_udp}
 
 -- ---- weights: what the sum of bytes counts after so many bytes of a message

@@ -1,19 +1,24 @@
 -- An edit keeps the places in a frame, and each byte but those that it writes and the checksums.
-use Rattle.std.proofs.Common.{ℕ, ◌≡◌, ◌∙◌, ◌+◌, ◌/◌, ◌≤◌, ◌<◌, ◌&&◌, Bool, List, [], ◌∷◌, Some, ap, arith, false, if◌then◌else◌, get_or, inl, inr, length, refl, slice_index, subst, sym, true}
+use Rattle.std.proofs.Common.{ℕ, ◌≡◌, ◌∙◌, ◌+◌, ◌/◌, ◌≤◌, ◌<◌, ◌&&◌, Bool, List, [], ◌∷◌, Some, ap, ap₂, arith, false, if◌then◌else◌, get_or, inl, inr, length, refl, slice_index, slice_range, subst, sym, true}
 use Rattle.std.proofs.lemmas.Bool.Decides.{nat_tests}
+use Rattle.std.proofs.lemmas.List.{get_or-drop}
 use Rattle.byteorder.specs.Endian.{big_bytes}
+use Rattle.ip_wire.proofs.Cells.{cells-all}
 use Rattle.ip_wire.proofs.Readings.{if-Some}
-use Rattle.ip_wire.specs.Types.{IpProtocol, IpVersion}
+use Rattle.ip_wire.proofs.Spelled.{AreBytes}
+use Rattle.ip_wire.specs.IpAddress.{IsAddress, address_bytes}
+use Rattle.ip_wire.specs.Types.{IpAddress, IpProtocol, IpVersion}
+use Rattle.ip_wire.specs.declared.IpAddress.TheVariants as address
 use Rattle.ip_wire.specs.declared.IpProtocol.TheVariants as protocol
 use Rattle.ip_wire.specs.declared.IpVersion.TheVariants as version
 use Rattle.app_edit.proofs.Located.{Locates, Same, SameFirst, places-same}
 use Rattle.app_edit.proofs.Stays.{header-length, least-end}
 use Rattle.app_edit.proofs.Sums.{word-is}
-use Rattle.app_edit.proofs.Totals.{index-inside, index-outside, written-length}
-use Rattle.app_edit.specs.Edited.{allows, can_be_left, edited, header_checksum, hop_limit_place, is_apart, keeps_carried, keeps_header, port_place, transport_checksum, with_header_checksum, with_transport_checksum, written}
+use Rattle.app_edit.proofs.Totals.{index-inside, index-outside, range-index, range-length, written-length}
+use Rattle.app_edit.specs.Edited.{address_place, allows, can_be_left, edited, has_version, header_checksum, hop_limit_place, is_apart, keeps_carried, keeps_header, port_place, takes_address, takes_by, transport_checksum, with_dscp, with_header_checksum, with_transport_checksum, written}
 use Rattle.app_edit.specs.Offsets.{ipv4_protocol, ipv6_src}
 use Rattle.app_edit.specs.Outside.{IsOutside, OutsideHeaderChecksum, OutsideTransportChecksum}
-use Rattle.app_edit.specs.Places.{Holds, HoldsCarried, addresses_end, checksum_offset, checksum_place, datagram_at, is_ipv4, places_of}
+use Rattle.app_edit.specs.Places.{Holds, HoldsCarried, addresses_end, addresses_start, checksum_offset, checksum_place, datagram_at, is_ipv4, places_of}
 use Rattle.app_edit.specs.declared.places.Carried.{Carried}
 use Rattle.app_edit.specs.declared.places.Carried.TheVariants as carried
 use Rattle.app_edit.specs.declared.places.Places.{Places}
@@ -30,16 +35,12 @@ header-byte version.Ipv6 xs n i room out = refl
 carried-byte : (c : Carried) (v : IpVersion) (xs ys : List ℕ) (start n i : ℕ) → length ys ≡ length xs → HoldsCarried c v start xs → OutsideTransportChecksum c i
     → slice_index (with_transport_checksum c ys n) i ≡ slice_index ys i
 carried-byte (carried.Segment s) v xs ys start n i long h out = index-outside ys (big_bytes 2 n) (checksum_place s) i (omega (arith, long, h.0.least, h.0.inside)) out
-carried-byte carried.Other v xs ys start n i long h out = refl
-carried-byte carried.Fragment v xs ys start n i long h out = refl
-carried-byte carried.Hidden v xs ys start n i long h out = refl
+carried-byte c v xs ys start n i long h out = refl
 
 carried-length : (c : Carried) (v : IpVersion) (xs ys : List ℕ) (start n : ℕ) → length ys ≡ length xs → HoldsCarried c v start xs
     → length (with_transport_checksum c ys n) ≡ length ys
 carried-length (carried.Segment s) v xs ys start n long h = written-length ys (big_bytes 2 n) (checksum_place s) (omega (arith, long, h.0.least, h.0.inside))
-carried-length carried.Other v xs ys start n long h = refl
-carried-length carried.Fragment v xs ys start n long h = refl
-carried-length carried.Hidden v xs ys start n long h = refl
+carried-length c v xs ys start n long h = refl
 
 -- the bytes of an edited frame outside of the checksums are those of the frame with the bytes alone
 written-byte : (o : Offload) (p : Places) (xs bytes : List ℕ) (at i : ℕ) → Holds p xs → at + length bytes ≤ length xs → OutsideHeaderChecksum p.version i
@@ -74,24 +75,22 @@ edited-length o p xs bytes at h room =
 
 pub header-before : (v : IpVersion) (i : ℕ) → i < 24 → OutsideHeaderChecksum v i
 header-before version.Ipv4 i low = inl low
-header-before version.Ipv6 i low = refl
+header-before version.Ipv6 i low = tt
 
 pub header-after : (v : IpVersion) (i : ℕ) → 26 ≤ i → OutsideHeaderChecksum v i
 header-after version.Ipv4 i high = inr high
-header-after version.Ipv6 i high = refl
+header-after version.Ipv6 i high = tt
 
 pub carried-before : (c : Carried) (v : IpVersion) (xs : List ℕ) (start i : ℕ) → HoldsCarried c v start xs → i < start → OutsideTransportChecksum c i
 carried-before (carried.Segment s) v xs start i h low = inl (omega (arith, low, h.1))
-carried-before carried.Other v xs start i h low = refl
-carried-before carried.Fragment v xs start i h low = refl
-carried-before carried.Hidden v xs start i h low = refl
+carried-before c v xs start i h low = tt
 
 -- ---- bytes that locate the parts of the packet
 
 located-header : (v : IpVersion) (start i : ℕ) → Locates v start i → OutsideHeaderChecksum v i
 located-header version.Ipv4 start i (inl (a, b)) = inl (omega (arith, b))
 located-header version.Ipv4 start i (inr is) = inl (omega (arith, is))
-located-header version.Ipv6 start i located = refl
+located-header version.Ipv6 start i located = tt
 
 located-start : (v : IpVersion) (start i : ℕ) → addresses_end v ≤ start → Locates v start i → i < start
 located-start version.Ipv4 start i after (inl (a, b)) = omega (arith, after, b)
@@ -106,7 +105,7 @@ same-first version.Ipv6 old new is = ap (λ n. n / 16) is
 -- the length field of UDP is before its checksum
 datagram-outside : (b : Bool) (start end i : ℕ) (whole : Bool) → i < start + 6
     → OutsideTransportChecksum (if b then carried.Hidden else carried.Segment (record { protocol = protocol.Udp; start = start; end = end; is_whole = whole })) i
-datagram-outside true start end i whole low = refl
+datagram-outside true start end i whole low = tt
 datagram-outside false start end i whole low = inl low
 
 -- An edit beside the bytes that locate the parts. That of the first byte of the IP header keeps what it says.
@@ -165,7 +164,7 @@ datagram-apart : (b : Bool) (p : Places) (end : ℕ) (whole : Bool) (at n k : �
 datagram-apart true p end whole at n k allowed least fits a b = hidden-apart (is_ipv4 p.version) at n p.start p.end k allowed least fits a b
 datagram-apart false p end whole at n k allowed least fits a b = length-apart at n p.start k allowed a b
 
-both-true : (a b : Bool) → a && b ≡ true → (a ≡ true) × (b ≡ true)
+pub both-true : (a b : Bool) → a && b ≡ true → (a ≡ true) × (b ≡ true)
 both-true true b both = (refl, both)
 both-true false b both = absurd (cc)
 
@@ -218,7 +217,7 @@ hop_limit-apart version.Ipv4 start k (inr is) = inr (omega (arith, is))
 hop_limit-apart version.Ipv6 start k (inl (a, b)) = inl b
 hop_limit-apart version.Ipv6 start k (inr (a, b)) = inr (omega (arith, a))
 
-hop_limit-in : (v : IpVersion) → (15 ≤ hop_limit_place v) × (hop_limit_place v + 1 ≤ addresses_end v)
+pub hop_limit-in : (v : IpVersion) → (15 ≤ hop_limit_place v) × (hop_limit_place v + 1 ≤ addresses_end v)
 hop_limit-in version.Ipv4 = (omega arith, omega arith)
 hop_limit-in version.Ipv6 = (omega arith, omega arith)
 
@@ -234,36 +233,18 @@ port-in Source (carried.Segment s) v xs start at h is =
     let e = ((if-Some (can_be_left s.protocol) s.start at).0 is).1 in (omega (arith, e, h.1), omega (arith, e, h.1))
 port-in Destination (carried.Segment s) v xs start at h is =
     let e = ((if-Some (can_be_left s.protocol) (s.start + 2) at).0 is).1 in (omega (arith, e, h.1), omega (arith, e, h.1))
-port-in Source carried.Other v xs start at h is = absurd (cc)
-port-in Source carried.Fragment v xs start at h is = absurd (cc)
-port-in Source carried.Hidden v xs start at h is = absurd (cc)
-port-in Destination carried.Other v xs start at h is = absurd (cc)
-port-in Destination carried.Fragment v xs start at h is = absurd (cc)
-port-in Destination carried.Hidden v xs start at h is = absurd (cc)
+port-in Source c v xs start at h is = absurd (cc)
+port-in Destination c v xs start at h is = absurd (cc)
 
 offset-least : (q : IpProtocol) → 2 ≤ checksum_offset q
 offset-least protocol.Tcp = omega arith
 offset-least protocol.Udp = omega arith
-offset-least protocol.Icmp = omega arith
-offset-least protocol.Icmpv6 = omega arith
-offset-least protocol.HopByHop = omega arith
-offset-least protocol.Igmp = omega arith
-offset-least protocol.Ipv6Route = omega arith
-offset-least protocol.Ipv6Frag = omega arith
-offset-least protocol.IpSecEsp = omega arith
-offset-least protocol.IpSecAh = omega arith
-offset-least protocol.Ipv6NoNxt = omega arith
-offset-least protocol.Ipv6Opts = omega arith
-offset-least (protocol.Unknown k) = omega arith
+offset-least q = omega arith
 
-port-room : (side : Side) (c : Carried) (v : IpVersion) (xs : List ℕ) (start at : ℕ) → HoldsCarried c v start xs → port_place side c ≡ Some at → start + 4 ≤ length xs
+pub port-room : (side : Side) (c : Carried) (v : IpVersion) (xs : List ℕ) (start at : ℕ) → HoldsCarried c v start xs → port_place side c ≡ Some at → start + 4 ≤ length xs
 port-room side (carried.Segment s) v xs start at h is = omega (arith, h.0.least, h.0.inside, h.1, offset-least s.protocol)
-port-room Source carried.Other v xs start at h is = absurd (cc)
-port-room Source carried.Fragment v xs start at h is = absurd (cc)
-port-room Source carried.Hidden v xs start at h is = absurd (cc)
-port-room Destination carried.Other v xs start at h is = absurd (cc)
-port-room Destination carried.Fragment v xs start at h is = absurd (cc)
-port-room Destination carried.Hidden v xs start at h is = absurd (cc)
+port-room Source c v xs start at h is = absurd (cc)
+port-room Destination c v xs start at h is = absurd (cc)
 
 pub port-places : (o : Offload) (p : Places) (xs : List ℕ) (side : Side) (at n : ℕ) → Holds p xs → places_of xs ≡ Some p → port_place side p.carried ≡ Some at
     → places_of (edited o p xs at (big_bytes 2 n)) ≡ Some p
@@ -271,3 +252,79 @@ port-places o p xs side at n h is here =
     let within = port-in side p.carried p.version xs p.start at h.carried here in
     let room = port-room side p.carried p.version xs p.start at h.carried here in
     ports-places o p xs (big_bytes 2 n) at h is (omega (arith, within.1, room)) within.0 (omega (arith, within.1))
+
+-- the DSCP
+first-same : (v : IpVersion) (x y n : ℕ) → x < 256 → y < 256 → SameFirst v x (get_or (with_dscp v (x ∷ y ∷ []) n) 0 0)
+first-same version.Ipv4 x y n a b = refl
+first-same version.Ipv6 x y n a b = omega (arith, a, b)
+
+pub dscp-length : (v : IpVersion) (x y n : ℕ) → length (with_dscp v (x ∷ y ∷ []) n) ≡ 2
+dscp-length version.Ipv4 x y n = refl
+dscp-length version.Ipv6 x y n = refl
+
+dscp-apart : (v : IpVersion) (start k : ℕ) → Locates v start k → 16 ≤ k
+dscp-apart version.Ipv4 start k (inl (a, b)) = a
+dscp-apart version.Ipv4 start k (inr is) = omega (arith, is)
+dscp-apart version.Ipv6 start k (inl (a, b)) = omega (arith, a)
+dscp-apart version.Ipv6 start k (inr (a, b)) = omega (arith, a)
+
+-- the first two bytes of an IP header
+pub two-bytes : (xs : List ℕ) → 16 ≤ length xs → slice_range xs 14 16 ≡ slice_index xs 14 ∷ slice_index xs 15 ∷ []
+two-bytes xs room =
+    cells-all 2 (slice_range xs 14 16) (range-length xs 14 16 (omega arith) room)
+    ∙ ap₂ (λ (a b : ℕ). a ∷ b ∷ []) (range-index xs 14 16 0 (omega arith)) (get_or-drop 1 (slice_range xs 14 16) 0 0 ∙ range-index xs 14 16 1 (omega arith))
+
+pub dscp-places : (o : Offload) (p : Places) (xs : List ℕ) (n : ℕ) → Holds p xs → places_of xs ≡ Some p → AreBytes xs
+    → places_of (edited o p xs 14 (with_dscp p.version (slice_range xs 14 16) n)) ≡ Some p
+dscp-places o p xs n h is are =
+    let v = p.version in
+    let x = slice_index xs 14 in
+    let y = slice_index xs 15 in
+    let least = least-end v in
+    let whole : 16 ≤ length xs = omega (arith, least, h.header, h.inside, h.whole) in
+    subst (λ (l : List ℕ). places_of (edited o p xs 14 (with_dscp v l n)) ≡ Some p) (sym (two-bytes xs whole))
+    (let bytes = with_dscp v (x ∷ y ∷ []) n in
+    let long = dscp-length v x y n in
+    let room : 14 + length bytes ≤ length xs = omega (arith, long, whole) in
+    let first : slice_index (edited o p xs 14 bytes) 14 ≡ get_or bytes 0 0 =
+    edited-inside o p xs bytes 14 0 h room (omega (arith, long)) (header-before v 14 (omega arith)) (carried-before p.carried v xs p.start 14 h.carried (omega (arith, h.header, least)))
+    in
+    places-same xs (edited o p xs 14 bytes) p is
+    (same-of o p xs bytes 14 h room (subst (SameFirst v x) (sym first) (first-same v x y n (are 14) (are 15))) (λ k low. inl low)
+    (λ k located. inr (omega (arith, long, dscp-apart v p.start k located)))
+    (λ whole k carries fits a b. inr (omega (arith, long, a, h.header, least)))))
+
+-- an address
+pub address-least : (side : Side) (v : IpVersion) → (15 ≤ address_place side v) × (addresses_start v ≤ address_place side v)
+address-least Source version.Ipv4 = (omega arith, omega arith)
+address-least Source version.Ipv6 = (omega arith, omega arith)
+address-least Destination version.Ipv4 = (omega arith, omega arith)
+address-least Destination version.Ipv6 = (omega arith, omega arith)
+
+address-apart : (v : IpVersion) (start at n k : ℕ) → addresses_start v ≤ at → at + n ≤ addresses_end v → Locates v start k → IsOutside at (at + n) k
+address-apart version.Ipv4 start at n k low high (inl (a, b)) = inl (omega (arith, low, b))
+address-apart version.Ipv4 start at n k low high (inr is) = inl (omega (arith, low, is))
+address-apart version.Ipv6 start at n k low high (inl (a, b)) = inl (omega (arith, low, b))
+address-apart version.Ipv6 start at n k low high (inr (a, b)) = inr (omega (arith, high, a))
+
+-- an address of the version of the packet ends where the addresses end, or before
+pub address-end : (side : Side) (v : IpVersion) (a : IpAddress) → has_version v a ≡ true → IsAddress a → address_place side v + length (address_bytes a) ≤ addresses_end v
+address-end Source version.Ipv4 (address.Ipv4 b) has is = omega (arith, is.0)
+address-end Source version.Ipv6 (address.Ipv6 b) has is = omega (arith, is.0)
+address-end Destination version.Ipv4 (address.Ipv4 b) has is = omega (arith, is.0)
+address-end Destination version.Ipv6 (address.Ipv6 b) has is = omega (arith, is.0)
+address-end side version.Ipv4 (address.Ipv6 b) has is = absurd (cc)
+address-end side version.Ipv6 (address.Ipv4 b) has is = absurd (cc)
+
+pub takes-version : (c : Carried) (v : IpVersion) (a : IpAddress) → takes_by c v a ≡ true → has_version v a ≡ true
+takes-version carried.Hidden v a takes = absurd (cc)
+takes-version c v a takes = takes
+
+pub address-places : (o : Offload) (p : Places) (xs : List ℕ) (side : Side) (a : IpAddress) → Holds p xs → places_of xs ≡ Some p → takes_address p a ≡ true → IsAddress a
+    → places_of (edited o p xs (address_place side p.version) (address_bytes a)) ≡ Some p
+address-places o p xs side a h is takes are =
+    let v = p.version in
+    let least = address-least side v in
+    let last = address-end side v a (takes-version p.carried v a takes) are in
+    header-places o p xs (address_bytes a) (address_place side v) h is least.0 (omega (arith, last, h.header))
+    (λ k located. address-apart v p.start (address_place side v) (length (address_bytes a)) k least.1 last located)

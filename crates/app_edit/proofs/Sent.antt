@@ -104,17 +104,7 @@ verifies protocol.Icmp v s c xs f is =
 verifies protocol.Udp v s c xs f is =
     verifies-with protocol.Udp checksum_for v s.start s.end c xs f.starts f.even (omega (arith, is, f.even, offset-even s.protocol)) (omega (arith, is)) (omega (arith, is, f.least)) f.inside
     udp-complement for-fits
-verifies protocol.Tcp v s c xs f is = plainly protocol.Tcp v s c xs f is
-verifies protocol.Icmpv6 v s c xs f is = plainly protocol.Icmpv6 v s c xs f is
-verifies protocol.HopByHop v s c xs f is = plainly protocol.HopByHop v s c xs f is
-verifies protocol.Igmp v s c xs f is = plainly protocol.Igmp v s c xs f is
-verifies protocol.Ipv6Route v s c xs f is = plainly protocol.Ipv6Route v s c xs f is
-verifies protocol.Ipv6Frag v s c xs f is = plainly protocol.Ipv6Frag v s c xs f is
-verifies protocol.IpSecEsp v s c xs f is = plainly protocol.IpSecEsp v s c xs f is
-verifies protocol.IpSecAh v s c xs f is = plainly protocol.IpSecAh v s c xs f is
-verifies protocol.Ipv6NoNxt v s c xs f is = plainly protocol.Ipv6NoNxt v s c xs f is
-verifies protocol.Ipv6Opts v s c xs f is = plainly protocol.Ipv6Opts v s c xs f is
-verifies (protocol.Unknown k) v s c xs f is = plainly (protocol.Unknown k) v s c xs f is
+verifies q v s c xs f is = plainly q v s c xs f is
 
 pub filled-verifies : (v : IpVersion) (s : Segment) (xs : List ℕ) → InFrame v s xs → segment_sum_by s.protocol v s (filled v s xs) ≡ 65535
 filled-verifies v s xs f = verifies s.protocol v s (checksum_place s) xs f refl

@@ -10,10 +10,11 @@ use Rattle.ip_wire.specs.declared.IpVersion.TheVariants as version
 use Rattle.ip_wire.proofs.Residues.{residue-quotient}
 use Rattle.ip_wire.specs.WordSum.{residue, sum_of_bytes, updated, words}
 use Rattle.ip_wire.proofs.Spelled.{AreBytes}
+use Rattle.ip_wire.proofs.WordLists.{sum-words-append}
 use Rattle.app_edit.specs.Checksums.{updated_udp}
 use Rattle.app_edit.proofs.Covers.{Keeps, covered, sum_over, udp-keeps, updated-keeps}
 use Rattle.app_edit.proofs.Sums.{IsApart, plain-fits, sum-apart, sum-word, udp-fits, udp-stays, updated-fits, word-apart, word-fits}
-use Rattle.app_edit.proofs.Totals.{range-length, total, total-range, total-split, written-length, sum-joined, sum-of_number}
+use Rattle.app_edit.proofs.Totals.{range-length, total, total-range, total-split, written-length, sum-of_number}
 use Rattle.app_edit.specs.Edited.{dst_of, over_addresses, segment_sum_by, src_of, updated_by, updated_over, with_header_checksum, with_word, word_at, written}
 use Rattle.app_edit.specs.Places.{addresses_end, addresses_start}
 use Rattle.app_edit.specs.declared.places.Segment.{Segment}
@@ -54,14 +55,19 @@ pub dst-even : (v : IpVersion) (xs : List ℕ) → addresses_end v ≤ length xs
 dst-even version.Ipv4 xs room = ap (λ n. n % 2) (range-length xs 30 34 (omega arith) (omega (arith, room)))
 dst-even version.Ipv6 xs room = ap (λ n. n % 2) (range-length xs 38 54 (omega arith) (omega (arith, room)))
 
+-- the words of a pseudo-header
+pub pseudo-header-words : (src dst : List ℕ) (q : IpProtocol) (len : ℕ) → length src % 2 ≡ 0 → length dst % 2 ≡ 0
+    → sum (words (pseudo_header_bytes src dst q len)) ≡ sum (words src) + sum (words dst) + (number_of q + len % 65536)
+pseudo-header-words src dst q len s d =
+    let both : length (src ++ dst) % 2 ≡ 0 = ap (λ n. n % 2) (length-append src dst) ∙ omega (arith, s, d) in
+    sum-words-append (src ++ dst) (0 ∷ number_of q ∷ big_bytes 2 len) both ∙ ap₂ (λ m n. m + n) (sum-words-append src dst s) (sum-of_number (number_of q) len)
+
 pseudo-words : (src dst : List ℕ) (q : IpProtocol) (packet : List ℕ) → length src % 2 ≡ 0 → length dst % 2 ≡ 0
     → sum (words (pseudo_header_bytes src dst q (length packet) ++ packet)) ≡ sum (words src) + sum (words dst) + (number_of q + length packet % 65536) + sum (words packet)
 pseudo-words src dst q packet s d =
-    let last = 0 ∷ number_of q ∷ big_bytes 2 (length packet) in
-    let both : length (src ++ dst) % 2 ≡ 0 = ap (λ n. n % 2) (length-append src dst) ∙ omega (arith, s, d) in
-    let whole : length (src ++ dst ++ last) % 2 ≡ 0 = ap (λ n. n % 2) (length-append (src ++ dst) last) ∙ omega (arith, both) in
-    sum-joined (src ++ dst ++ last) packet whole
-    ∙ ap (λ k. k + sum (words packet)) (sum-joined (src ++ dst) last both ∙ ap₂ (λ m n. m + n) (sum-joined src dst s) (sum-of_number (number_of q) (length packet)))
+    let whole : length (pseudo_header_bytes src dst q (length packet)) % 2 ≡ 0 =
+    ap (λ n. n % 2) (length-append (src ++ dst) (0 ∷ number_of q ∷ big_bytes 2 (length packet)) ∙ ap (λ n. n + 4) (length-append src dst)) ∙ omega (arith, s, d) in
+    sum-words-append (pseudo_header_bytes src dst q (length packet)) packet whole ∙ ap (λ k. k + sum (words packet)) (pseudo-header-words src dst q (length packet) s d)
 
 -- the words of a transport packet with its pseudo-header, by its parts
 pub pseudo-total : (q : IpProtocol) (v : IpVersion) (start end : ℕ) (xs : List ℕ) → addresses_end v ≤ start → start ≤ end → end ≤ length xs
@@ -254,14 +260,4 @@ pub stays : (q : IpProtocol) (v : IpVersion) (s : Segment) (c : ℕ) (xs bytes :
 stays protocol.Icmp v s c xs bytes at n e some = without-addresses v s.start s.end c xs bytes at n e
 stays protocol.Udp v s c xs bytes at n e some =
     with-addresses protocol.Udp updated_udp v s.start s.end c xs bytes at n e (udp-updates v (word_at xs c) xs bytes at (word-fits xs c e.are) (some refl))
-stays protocol.Tcp v s c xs bytes at n e some = plainly protocol.Tcp v s c xs bytes at n e
-stays protocol.Icmpv6 v s c xs bytes at n e some = plainly protocol.Icmpv6 v s c xs bytes at n e
-stays protocol.HopByHop v s c xs bytes at n e some = plainly protocol.HopByHop v s c xs bytes at n e
-stays protocol.Igmp v s c xs bytes at n e some = plainly protocol.Igmp v s c xs bytes at n e
-stays protocol.Ipv6Route v s c xs bytes at n e some = plainly protocol.Ipv6Route v s c xs bytes at n e
-stays protocol.Ipv6Frag v s c xs bytes at n e some = plainly protocol.Ipv6Frag v s c xs bytes at n e
-stays protocol.IpSecEsp v s c xs bytes at n e some = plainly protocol.IpSecEsp v s c xs bytes at n e
-stays protocol.IpSecAh v s c xs bytes at n e some = plainly protocol.IpSecAh v s c xs bytes at n e
-stays protocol.Ipv6NoNxt v s c xs bytes at n e some = plainly protocol.Ipv6NoNxt v s c xs bytes at n e
-stays protocol.Ipv6Opts v s c xs bytes at n e some = plainly protocol.Ipv6Opts v s c xs bytes at n e
-stays (protocol.Unknown k) v s c xs bytes at n e some = plainly (protocol.Unknown k) v s c xs bytes at n e
+stays q v s c xs bytes at n e some = plainly q v s c xs bytes at n e

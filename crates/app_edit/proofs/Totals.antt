@@ -1,15 +1,10 @@
 -- Sums of the words of a frame, byte by byte, before and after bytes of it are replaced.
 use Rattle.std.proofs.Common.{ℕ, zero, suc, ◌≡◌, ◌∙◌, ◌⊎◌, ◌+◌, ◌-◌, ◌*◌, ◌%◌, ◌<◌, ◌≤◌, ◌==◌, ◌++◌, List, [], ◌∷◌, add-zero, ap, append_assoc, arith, drop, get_or, if◌then◌else◌, inl, inr, length, length-append, refl, slice_index, slice_range, subst, sum, sym, take, zero-add}
 use Rattle.std.proofs.lemmas.List.{get_or-append_right, get_or_append_left, get_or-drop, get_or-take, length-drop, length-take-le}
+use Rattle.ip_wire.proofs.WordLists.{sum-words-cons}
 use Rattle.ip_wire.specs.WordSum.{words}
-use Rattle.std.proofs.lemmas.List.Sums.{sum_by-cons}
 use Rattle.byteorder.specs.Endian.{big_bytes}
 use Rattle.app_edit.specs.Edited.{written}
-
--- one more word
-pub sum-words-cons : (x y : ℕ) (xs : List ℕ) → sum (words (x ∷ y ∷ xs)) ≡ 256 * x + y + sum (words xs)
-unfolding words
-sum-words-cons x y xs = sum_by-cons (λ n. n) (256 * x + y) (words xs)
 
 -- ---- totals by the places of bytes
 
@@ -50,6 +45,12 @@ even-worth i x even = grind arith
 pub odd-worth : (i x : ℕ) → i % 2 ≡ 1 → worth i x ≡ x
 unfolding worth
 odd-worth i x odd = grind arith
+
+-- it is not 0, if the first byte is not
+pub some-total : (f : ℕ → ℕ) (i n : ℕ) → i % 2 ≡ 0 → 0 < f i → 0 < n → 0 < total f i n
+unfolding total
+some-total f i zero even some more = absurd (omega (arith, more))
+some-total f i (suc n) even some more = omega (arith, even-worth i (f i) even, some)
 
 high-byte : (x : ℕ) (xs : List ℕ) → 256 * x + sum (words (0 ∷ xs)) ≡ sum (words (x ∷ xs))
 unfolding words
@@ -132,15 +133,7 @@ written-length xs bytes at room =
     let front = front-length xs bytes at room in
     simp (length-append, front, length-drop) (omega (arith, room))
 
--- ---- joined bytes
-
--- the words of joined bytes, if the first part has an even length
-pub sum-joined : (xs ys : List ℕ) → length xs % 2 ≡ 0 → sum (words (xs ++ ys)) ≡ sum (words xs) + sum (words ys)
-sum-joined [] ys even = omega (arith, no-words)
-sum-joined (x ∷ []) ys even = absurd (omega arith)
-sum-joined (x ∷ y ∷ xs) ys even =
-    sum-words-cons x y (xs ++ ys) ∙ ap (λ k. 256 * x + y + k) (sum-joined xs ys (omega (arith, even))) ∙ omega (arith, sum-words-cons x y xs)
-
+-- the words of a protocol number and a length
 pub sum-of_number : (number len : ℕ) → sum (words (0 ∷ number ∷ big_bytes 2 len)) ≡ number + len % 65536
 unfolding words
 sum-of_number number len = omega arith

@@ -1,8 +1,11 @@
 pub mod Checksums
 pub mod Edited
+pub mod Edits
+pub mod Fields
 pub mod Filled
 pub mod Layout
 pub mod Offsets
 pub mod Outside
 pub mod Places
 pub mod Sides
+pub mod Valid

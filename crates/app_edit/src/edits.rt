@@ -4,7 +4,7 @@ ghost use Rattle.std.specs.Prelude.{◌≡◌, ◌≤◌, ◌<◌, ◌^◌, is_s
 ghost use Rattle.std.specs.Option.{unwrap_or};
 ghost use Rattle.app_edit.specs.Edited.{addr_set, address_place, allows, bytes_set, dscp_set, edited, hop_limit_place, hop_limit_set, is_apart, keeps_carried, keeps_header, keeps_segment, port_place, port_set, takes_address, with_dscp};
 ghost use Rattle.app_edit.specs.Places.{Holds, carried_start, places_of};
-ghost use Rattle.ip_wire.specs.IpAddress.{address_bytes};
+ghost use Rattle.ip_wire.specs.IpAddress.{IsAddress, address_bytes};
 
 use crate::offsets::{
     DSCP_END, ICMP_CHECKSUM, IP_HEADER, IPV4_DST, IPV4_HOP_LIMIT, IPV4_PROTOCOL, IPV4_SRC,
@@ -14,6 +14,7 @@ use crate::offsets::{
 use crate::places::{Carried, Places};
 use crate::replace::{Offload, can_be_left};
 use crate::side::Side;
+use ip_wire::laws::field::bytes_fit;
 use ip_wire::{IpAddress, IpProtocol, IpVersion, Ipv4PacketMut, Ipv6PacketMut};
 
 /// Writes the TTL of IPv4 (RFC 791, section 3.1) or the hop limit of IPv6.
@@ -46,7 +47,9 @@ fn hop_limit_place(version: IpVersion) -> usize
 pub fn set_dscp(frame: &mut [u8], dscp: u8) -> bool
     ensures done { result ≡ is_some (dscp_set frame.old dscp) }
     ensures bytes { frame.new ≡ unwrap_or (dscp_set frame.old dscp) frame.old }
+    ensures places { places_of frame.new ≡ places_of frame.old }
 {
+    bytes_fit(frame);
     if dscp > 63 {
         return false;
     }
@@ -82,6 +85,7 @@ fn write_dscp(version: IpVersion, bytes: &mut [u8], dscp: u8)
 pub fn set_addr(frame: &mut [u8], side: Side, addr: &IpAddress, offload: Offload) -> bool
     ensures done { result ≡ is_some (addr_set offload frame.old side addr.now) }
     ensures bytes { frame.new ≡ unwrap_or (addr_set offload frame.old side addr.now) frame.old }
+    ensures places { places_of frame.new ≡ places_of frame.old }
 {
     let Some(places) = Places::of(frame) else {
         return false;
@@ -122,7 +126,8 @@ fn address_place(side: Side, version: IpVersion) -> usize
 fn write_address(places: &Places, frame: &mut [u8], side: Side, addr: &IpAddress, offload: Offload)
     requires places { Holds places.now frame.old }
     requires takes { takes_address places.now addr.now ≡ true }
-    ensures { frame.new ≡ edited offload places.now frame.old (address_place side places.now.version) (address_bytes addr.now) }
+    ensures bytes { frame.new ≡ edited offload places.now frame.old (address_place side places.now.version) (address_bytes addr.now) }
+    ensures octets { IsAddress addr.now }
 {
     let at = address_place(side, places.version);
     match addr {

@@ -72,7 +72,7 @@ number_below (x ∷ octets) fits =
 pub number_of-lt : (m : ℕ) (octets : List ℕ) → IsByteArray m octets → number_of octets < 2 ^ (8 * m)
 number_of-lt m octets are = subst (λ m. number_of octets < 2 ^ (8 * m)) are.0 (number_below octets are.1)
 
-first_bits-lt : (addr : IpAddress) → IsAddress addr → first_bits addr < 2 ^ 128
+pub first_bits-lt : (addr : IpAddress) → IsAddress addr → first_bits addr < 2 ^ 128
 first_bits-lt (ip.Ipv4 octets) is = shl_below (number_of octets) 32 96 (number_of-lt 4 octets is)
 first_bits-lt (ip.Ipv6 octets) is = number_of-lt 16 octets is
 

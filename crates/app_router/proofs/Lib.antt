@@ -4,6 +4,9 @@ pub mod Elements
 pub mod Finds
 pub mod ForwardOnce
 pub mod Forwards
+pub mod HintOrder
+pub mod HintPlaces
+pub mod HintSplits
 pub mod Links
 pub mod Places
 pub mod Problems

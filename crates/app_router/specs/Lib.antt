@@ -1,4 +1,5 @@
 pub mod Forward
+pub mod Hints
 pub mod IcmpProblem
 pub mod Index
 pub mod Route

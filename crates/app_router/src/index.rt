@@ -1,8 +1,9 @@
 //! An index of routes: a sorted array in which each node links to the next larger block around it.
 
-ghost use Rattle.std.specs.Prelude.{◌≡◌, ◌≢◌, ◌↔◌, ◌+◌, ◌-◌, ◌*◌, ◌/◌, ◌%◌, ◌^◌, ◌≤◌, ◌<◌, All, IsTrue, List, MatchOption, ℕ, length, map};
+ghost use Rattle.std.specs.Prelude.{◌≡◌, ◌≢◌, ◌↔◌, ◌+◌, ◌-◌, ◌*◌, ◌/◌, ◌%◌, ◌^◌, ◌≤◌, ◌<◌, All, IsTrue, List, MatchOption, ℕ, drop, length, map, take};
 ghost use Rattle.std.specs.Ordering.{nat_cmp};
 ghost use Rattle.std.specs.List.Sorted.{IsNonDecreasingBy};
+ghost use Rattle.app_router.specs.Hints.{IsHinted, IsPlain, hint_at, offset_by, part_for, places_of};
 ghost use Rattle.app_router.specs.Index.{AreLinked, Encloses, IsBlock, IsChosenAt, IsFilled, IsIndex, IsNearest, IsSplit, block_of, first_bits, node_at, node_of, node_with, place, rank, target_of, unlinked, unmarked, version_number};
 ghost use Rattle.app_router.specs.Route.{IsChosen, Leads};
 ghost use Rattle.ip_wire.specs.IpAddress.{IsAddress};
@@ -207,7 +208,8 @@ fn version_number(addr: &IpAddress) -> u8
 /// Makes an index of the nodes of a list of blocks: node `i` is that of block `i`.
 pub fn arrange(nodes: &mut [Node])
     requires { length nodes.old < 2 ^ 32 }
-    ensures { (blocks : List IpCidr) → IsFilled blocks nodes.old → IsIndex blocks nodes.new }
+    ensures index { (blocks : List IpCidr) → IsFilled blocks nodes.old → IsIndex blocks nodes.new }
+    ensures hinted { (blocks : List IpCidr) → IsFilled blocks nodes.old → 12 < length nodes.new → IsHinted nodes.new }
 {
     nodes.sort_unstable_by(|a, b| a.by_rank(b));
     link(nodes);
@@ -219,6 +221,7 @@ fn link(nodes: &mut [Node])
     requires { length nodes.old < 2 ^ 32 }
     ensures same { map unlinked nodes.new ≡ map unlinked nodes.old }
     ensures linked { IsNonDecreasingBy place nodes.old → AreLinked nodes.new (length nodes.new) }
+    ensures none { (k : ℕ) → k < length nodes.new → hint_at nodes.new k ≡ 0 }
 {
     for i in 0..nodes.len() {
         let node = nodes[i];
@@ -261,6 +264,12 @@ fn bounds(nodes: &[Node], target: &Node) -> (usize, usize)
     ensures order { result.0 ≤ result.1 }
     ensures within { result.1 ≤ length nodes.now }
     ensures split { IsNonDecreasingBy place nodes.now → IsSplit nodes.now result.0 result.1 target.now }
+    ensures ipv4 { (blocks : List IpCidr) (addr : IpAddress) → IsIndex blocks nodes.now → IsHinted nodes.now → IsAddress addr → target.now ≡ target_of addr
+        → version_number addr ≡ 4 → let part = take (hint_at nodes.now 0) nodes.now in
+        12 < length part → IsPlain part (part_for part target.now) → result ≡ places_of part (part_for part target.now) }
+    ensures ipv6 { (blocks : List IpCidr) (addr : IpAddress) → IsIndex blocks nodes.now → IsHinted nodes.now → IsAddress addr → target.now ≡ target_of addr
+        → version_number addr ≡ 6 → let part = drop (hint_at nodes.now 0) nodes.now in
+        12 < length part → IsPlain part (part_for part target.now) → result ≡ offset_by (hint_at nodes.now 0) (places_of part (part_for part target.now)) }
 {
     if nodes.len() <= SMALL {
         return (0, nodes.len());
@@ -278,6 +287,7 @@ fn splits(nodes: &[Node], low: usize, high: usize, target: &Node) -> bool
     ensures order { IsTrue result → low ≤ high }
     ensures within { IsTrue result → high ≤ length nodes.now }
     ensures split { IsTrue result → IsNonDecreasingBy place nodes.now → IsSplit nodes.now low high target.now }
+    ensures complete { low ≤ high → high ≤ length nodes.now → IsSplit nodes.now low high target.now → IsTrue result }
 {
     if low > high || high > nodes.len() {
         return false;
@@ -362,7 +372,8 @@ fn found(nodes: &[Node], start: usize, target: &Node) -> Option<u32>
 pub fn index(routes: &[Route], nodes: &mut [Node])
     requires len { length nodes.old ≡ length routes.now }
     requires within { length routes.now < 2 ^ 32 }
-    ensures { IsIndex (map block_of routes.now) nodes.new }
+    ensures index { IsIndex (map block_of routes.now) nodes.new }
+    ensures hinted { 12 < length nodes.new → IsHinted nodes.new }
 {
     for (i, route) in routes.iter().enumerate() {
         nodes[i] = Node::new(&route.block, i as u32);

@@ -4,6 +4,7 @@
 pub mod addresses;
 pub mod edits;
 pub mod emit;
+pub mod fragments;
 pub mod frames;
 pub mod host;
 pub mod icmp;

@@ -61,7 +61,7 @@ pub extern "C" fn lk_read_captured(captured: &[u8], len: usize, frame: &mut Fram
     ensures fields { let bytes = within captured.now in frame.new ≡ captured_of (take (usable len) bytes) (usable len - length bytes) }
     ensures whole { let bytes = within captured.now in usable len ≤ length bytes → frame.new ≡ fields_of (take (usable len) bytes) }
     ensures cut { let bytes = within captured.now in
-        (rest : List ℕ) → length bytes + length rest ≡ usable len → IsCutOf frame.new (fields_of (bytes ++ rest)) }
+        (rest : List ℕ) → length bytes + length rest ≡ usable len → IsCutOf (length bytes) frame.new (fields_of (bytes ++ rest)) }
     ensures within { frame.new.payload_offset + frame.new.payload_len ≤ len }
     ensures reason { result ≡ pos frame.new.reason }
 {
@@ -78,7 +78,7 @@ pub extern "C" fn lk_read_captured_packet(
     ensures fields { let bytes = within captured.now in frame.new ≡ captured_packet_of (take (usable len) bytes) (usable len - length bytes) }
     ensures whole { let bytes = within captured.now in usable len ≤ length bytes → frame.new ≡ packet_fields_of (take (usable len) bytes) }
     ensures cut { let bytes = within captured.now in
-        (rest : List ℕ) → length bytes + length rest ≡ usable len → IsCutOf frame.new (packet_fields_of (bytes ++ rest)) }
+        (rest : List ℕ) → length bytes + length rest ≡ usable len → IsCutOf (length bytes) frame.new (packet_fields_of (bytes ++ rest)) }
     ensures within { frame.new.payload_offset + frame.new.payload_len ≤ len }
     ensures reason { result ≡ pos frame.new.reason }
 {
@@ -91,7 +91,7 @@ fn read_captured(captured: &[u8], len: usize, frame: &mut FrameFields) -> i32
     requires { length captured.now ≤ max_len }
     ensures fields { frame.new ≡ captured_of (take len captured.now) (len - length captured.now) }
     ensures whole { len ≤ length captured.now → frame.new ≡ fields_of (take len captured.now) }
-    ensures cut { (rest : List ℕ) → length captured.now + length rest ≡ len → IsCutOf frame.new (fields_of (captured.now ++ rest)) }
+    ensures cut { (rest : List ℕ) → length captured.now + length rest ≡ len → IsCutOf (length captured.now) frame.new (fields_of (captured.now ++ rest)) }
     ensures within { frame.new.payload_offset + frame.new.payload_len ≤ len }
     ensures reason { result ≡ pos frame.new.reason }
 {
@@ -108,7 +108,7 @@ fn read_captured_packet(captured: &[u8], len: usize, frame: &mut FrameFields) ->
     requires { length captured.now ≤ max_len }
     ensures fields { frame.new ≡ captured_packet_of (take len captured.now) (len - length captured.now) }
     ensures whole { len ≤ length captured.now → frame.new ≡ packet_fields_of (take len captured.now) }
-    ensures cut { (rest : List ℕ) → length captured.now + length rest ≡ len → IsCutOf frame.new (packet_fields_of (captured.now ++ rest)) }
+    ensures cut { (rest : List ℕ) → length captured.now + length rest ≡ len → IsCutOf (length captured.now) frame.new (packet_fields_of (captured.now ++ rest)) }
     ensures within { frame.new.payload_offset + frame.new.payload_len ≤ len }
     ensures reason { result ≡ pos frame.new.reason }
 {

@@ -1,5 +1,6 @@
 pub mod AnsweredOnce
 mod ErrorReplies
+mod Exact
 mod FrameReplies
 mod HostAnswers
 pub mod Ndiscs

@@ -6,6 +6,7 @@ mod emit;
 mod errors;
 mod host;
 mod interfaces;
+pub mod laws;
 mod neighbours;
 mod types;
 

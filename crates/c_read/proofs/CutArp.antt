@@ -1,15 +1,17 @@
 -- The struct of an ARP packet that was not captured as a whole.
-use Rattle.std.proofs.Common.{ℕ, ◌≡◌, ◌∙◌, ◌≤◌, ◌<◌, inl, inr, ◌&&◌, bytes_eq, nat_le, if◌then◌else◌, Bool, List, ◌++◌, Some, None, ap, length, refl, sym, take, arith}
+use Rattle.std.proofs.Common.{ℕ, ◌≡◌, ◌∙◌, ◌≤◌, ◌<◌, inl, inr, ◌+◌, ◌&&◌, bytes_eq, nat_le, if◌then◌else◌, Bool, List, ◌++◌, Some, None, ap, length, refl, sym, take, arith}
 use Rattle.std.proofs.lemmas.Bool.{cases_lt}
 use Rattle.std.proofs.lemmas.List.{take-append-le}
 use Rattle.ip_wire.specs.Arp as arp
 use Rattle.ip_wire.specs.Arp.{arp_of}
+use Rattle.ip_wire.specs.Types.{ArpRepr}
+use Rattle.ip_wire.specs.declared.ArpRepr.TheVariants.{EthernetIpv4}
 use Rattle.c_structs.specs.declared.codes.Reason.TheVariants as reason
 use Rattle.c_structs.specs.declared.types.FrameFields.{FrameFields}
 use Rattle.c_read.proofs.CutBytes.{field-front, le-false, le-true, longer, lt-false, lt-true, range-front}
-use Rattle.c_read.proofs.CutOf.{IsStart, arp-keeps, cut-as, cut-network, same-of}
+use Rattle.c_read.proofs.CutOf.{IsNext, IsStart, choice-has, cut-as, cut-network, nothing-follows, rejected-next, same-of, start-network, start-rejected, start-transport, stored-next}
 use Rattle.c_read.specs.Captured.{IsCutOf, cut_arp, cut_header}
-use Rattle.c_read.specs.FrameFields.{rejected, with_arp}
+use Rattle.c_read.specs.FrameFields.{arp_fault, rejected, with_arp, with_message}
 
 arp_of-by : (bytes : List ℕ) → arp_of bytes ≡ (if nat_le 28 (length bytes) && bytes_eq (take 6 bytes) arp.ethernet_ipv4 then Some (arp.value_of bytes) else None)
 unfolding arp_of
@@ -44,8 +46,20 @@ arp-short f bytes h =
     let none : arp_of bytes ≡ None = rw (arp_of-by bytes, le-false 28 (length bytes) h) refl in
     rw (none, lt-true (length bytes) 28 h) refl
 
-pub cut-arp : (f : FrameFields) (bytes rest : List ℕ) → IsStart f → f.payload_len ≡ length (bytes ++ rest) → IsCutOf (cut_arp f bytes) (with_arp f (bytes ++ rest))
-cut-arp f bytes rest start len =
+-- the packet that is stored
+message-next : (f : FrameFields) (v : ArpRepr) (len : ℕ) → IsStart f → len ≤ 28 → IsNext f (with_message f v) len
+message-next f (EthernetIpv4 operation source_hardware source_protocol target_hardware target_protocol) len start fits =
+    let next = with_message f (EthernetIpv4 operation source_hardware source_protocol target_hardware target_protocol) in
+    stored-next f next next len 28 (nothing-follows next reason.TooShort (start-transport f start) (start-rejected f start)).0 refl refl refl refl fits
+
+pub arp-next : (f : FrameFields) (bytes : List ℕ) (len : ℕ) → IsStart f → len ≤ f.payload_len → len ≤ 28 → IsNext f (with_arp f bytes) len
+arp-next f bytes len start fits few =
+    choice-has (λ g. IsNext f g len) (arp_of bytes) (with_message f) (rejected f (arp_fault bytes)) (λ v. message-next f v len start few)
+    (rejected-next f (arp_fault bytes) len (start-network f start) fits)
+
+pub cut-arp : (n : ℕ) (f : FrameFields) (bytes rest : List ℕ) → IsStart f → f.payload_len ≡ length (bytes ++ rest) → n ≡ f.payload_offset + length bytes
+    → IsCutOf n (cut_arp f bytes) (with_arp f (bytes ++ rest))
+cut-arp n f bytes rest start len place =
     let all = bytes ++ rest in
     elim (cases_lt (length bytes) 28) [
       | inr h ↦ same-of _ _ (ap (λ (b : Bool). if b then cut_header f 28 else with_arp f bytes) (lt-false (length bytes) 28 h) ∙ arp-front f bytes rest h)
@@ -56,6 +70,6 @@ cut-arp f bytes rest start len =
                 same-of _ _ (cut ∙ ap (λ (b : Bool). rejected f (if b then reason.TooShort else reason.HeaderCut)) (lt-true f.payload_len 28 (omega (arith, none, len))) ∙ sym (arp-short f all none))
             | inr there ↦
                 cut-as _ _ _ _ (cut ∙ ap (λ (b : Bool). rejected f (if b then reason.TooShort else reason.HeaderCut)) (lt-false f.payload_len 28 (omega (arith, there, len)))) refl
-                (cut-network f (with_arp f all) start (arp-keeps f all))
+                (cut-network n f (with_arp f all) 28 start (arp-next f all 28 start (omega (arith, there, len)) (omega arith)) (omega (arith, place, few)))
           ]
     ]

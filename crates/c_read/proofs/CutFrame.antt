@@ -1,5 +1,5 @@
 -- The struct of captured bytes, by that of the whole frame.
-use Rattle.std.proofs.Common.{ℕ, ◌≡◌, ◌∙◌, ◌≤◌, ◌<◌, inl, inr, ◌+◌, ◌-◌, ◌==◌, if◌then◌else◌, Bool, true, false, List, [], ◌∷◌, ◌++◌, append-nil, ap, drop, length, refl, slice_range, sym, take, arith}
+use Rattle.std.proofs.Common.{ℕ, ◌≡◌, ◌∙◌, ◌≤◌, ◌<◌, inl, inr, ◌+◌, ◌-◌, ◌==◌, if◌then◌else◌, Bool, true, false, List, [], ◌∷◌, ◌++◌, append-nil, ap, drop, length, refl, slice_range, subst, sym, take, arith}
 use Rattle.std.proofs.lemmas.Bool.{cases_lt}
 use Rattle.std.proofs.lemmas.Grind.{common_steps}
 use Rattle.std.proofs.lemmas.List.{drop-append-le}
@@ -11,13 +11,13 @@ use Rattle.c_structs.specs.Nothing.{nothing_of}
 use Rattle.c_structs.specs.declared.codes.Reason.TheVariants as reason
 use Rattle.c_structs.specs.declared.types.FrameFields.{FrameFields}
 use Rattle.c_read.proofs.CapturedOf.{captured_of-long, captured_of-short, captured_of-whole, captured_packet_of-long, captured_packet_of-short, captured_packet_of-whole}
-use Rattle.c_read.proofs.CutArp.{cut-arp}
+use Rattle.c_read.proofs.CutArp.{arp-next, cut-arp}
 use Rattle.c_read.proofs.CutBytes.{field-front, longer, lt-false, lt-true, range-front}
-use Rattle.c_read.proofs.CutIpv4.{cut-ipv4, dropped}
-use Rattle.c_read.proofs.CutIpv6.{cut-ipv6}
-use Rattle.c_read.proofs.CutOf.{IsStart, cut-as, same-of}
+use Rattle.c_read.proofs.CutIpv4.{cut-ipv4, dropped, ipv4-next, least-len}
+use Rattle.c_read.proofs.CutIpv6.{cut-ipv6, ipv6-next}
+use Rattle.c_read.proofs.CutOf.{IsNext, IsStart, cut-as, cut-network, if-has, rejected-next, same-of, start-network}
 use Rattle.c_read.proofs.FieldsOf.{fields_of_long, fields_of_short, packet_fields_of-some}
-use Rattle.c_read.specs.Captured.{IsCutOf, before, captured_of, captured_packet_of, cut_carried, cut_ipv4, cut_ipv6, cut_packet, link, transport_header}
+use Rattle.c_read.specs.Captured.{IsCutOf, before, begin_of, captured_of, captured_packet_of, cut_carried, cut_ipv4, cut_ipv6, cut_packet, link, network, transport_header}
 use Rattle.c_read.specs.FrameFields.{bare_of, fields_of, packet_fields_of, rejected, with_carried, with_ipv4, with_ipv6, with_link, with_packet}
 
 -- ---- packets
@@ -25,29 +25,44 @@ use Rattle.c_read.specs.FrameFields.{bare_of, fields_of, packet_fields_of, rejec
 unsent : (f : FrameFields) → IsStart f → f ≡ before transport_header f
 unsent f start = start ∙ sym (ap (before transport_header) start)
 
-pub cut-carried : (f : FrameFields) (t : EthernetProtocol) (bytes rest : List ℕ) → IsStart f → f.payload_len ≡ length (bytes ++ rest)
-    → IsCutOf (cut_carried f t bytes) (with_carried f t (bytes ++ rest))
-cut-carried f ethertype.Arp bytes rest start len = cut-arp f bytes rest start len
-cut-carried f ethertype.Ipv4 bytes rest start len = cut-ipv4 f bytes rest start (unsent f start) len
-cut-carried f ethertype.Ipv6 bytes rest start len = cut-ipv6 f bytes rest start len
-cut-carried f (ethertype.Unknown n) bytes rest start len = same-of f f refl
+pub cut-carried : (n : ℕ) (f : FrameFields) (t : EthernetProtocol) (bytes rest : List ℕ) → IsStart f → f.payload_len ≡ length (bytes ++ rest)
+    → n ≡ f.payload_offset + length bytes → IsCutOf n (cut_carried f t bytes) (with_carried f t (bytes ++ rest))
+cut-carried n f ethertype.Arp bytes rest start len place = cut-arp n f bytes rest start len place
+cut-carried n f ethertype.Ipv4 bytes rest start len place = cut-ipv4 n f bytes rest start (unsent f start) len place
+cut-carried n f ethertype.Ipv6 bytes rest start len place = cut-ipv6 n f bytes rest start len place
+cut-carried n f (ethertype.Unknown k) bytes rest start len place = same-of f f refl
+
+-- the network header begins after the link-layer header, which it keeps
+pub carried-next : (f : FrameFields) (t : EthernetProtocol) (bytes : List ℕ) → IsStart f → IsNext f (with_carried f t bytes) 0
+carried-next f ethertype.Arp bytes start = arp-next f bytes 0 start (omega arith) (omega arith)
+carried-next f ethertype.Ipv4 bytes start = ipv4-next f bytes 0 start (omega arith) (λ read. omega arith)
+carried-next f ethertype.Ipv6 bytes start = ipv6-next f bytes 0 start (omega arith) (omega arith)
+carried-next f (ethertype.Unknown k) bytes start =
+    let next = rejected-next f reason.Read 0 (start-network f start) (omega arith) in
+    record { ethernet = next.ethernet; begins = next.begins; ends = next.ends }
 
 abbrev by-version : FrameFields → ℕ → FrameFields → FrameFields → FrameFields
 by-version f version x y = if version == 4 then x else if version == 6 then y else rejected f reason.BadVersion
 
-choice : (a c : Bool) (x y z x2 y2 : FrameFields) → IsCutOf x x2 → IsCutOf y y2 → IsCutOf (if a then x else if c then y else z) (if a then x2 else if c then y2 else z)
+choice : {n : ℕ} (a c : Bool) (x y z x2 y2 : FrameFields) → IsCutOf n x x2 → IsCutOf n y y2 → IsCutOf n (if a then x else if c then y else z) (if a then x2 else if c then y2 else z)
 choice true c x y z x2 y2 p q = p
 choice false true x y z x2 y2 p q = q
 choice false false x y z x2 y2 p q = same-of z z refl
 
-packet-cut : (f : FrameFields) (bytes rest : List ℕ) → 1 ≤ length bytes → IsStart f → f.payload_len ≡ length (bytes ++ rest)
-    → IsCutOf (cut_packet f bytes) (with_packet f (bytes ++ rest))
-packet-cut f bytes rest h start len =
+packet-next : (f : FrameFields) (bytes : List ℕ) → IsStart f → 1 ≤ f.payload_len → IsNext f (with_packet f bytes) 1
+packet-next f bytes start some =
+    if-has (λ g. IsNext f g 1) (field bytes 0 4 == 4) (with_ipv4 f bytes) _ (ipv4-next f bytes 1 start some (λ read. let least = least-len bytes read in omega (arith, least)))
+    (if-has (λ g. IsNext f g 1) (field bytes 0 4 == 6) (with_ipv6 f bytes) (rejected f reason.BadVersion) (ipv6-next f bytes 1 start some (omega arith))
+    (rejected-next f reason.BadVersion 1 (start-network f start) some))
+
+packet-cut : (n : ℕ) (f : FrameFields) (bytes rest : List ℕ) → 1 ≤ length bytes → IsStart f → f.payload_len ≡ length (bytes ++ rest) → n ≡ f.payload_offset + length bytes
+    → IsCutOf n (cut_packet f bytes) (with_packet f (bytes ++ rest))
+packet-cut n f bytes rest h start len place =
     let all = bytes ++ rest in
     let version : field all 0 4 ≡ field bytes 0 4 = field-front bytes rest 0 4 (omega (arith, h)) in
     cut-as _ _ _ _ refl (ap (λ (n : ℕ). by-version f n (with_ipv4 f all) (with_ipv6 f all)) version)
     (choice (field bytes 0 4 == 4) (field bytes 0 4 == 6) (cut_ipv4 f bytes) (cut_ipv6 f bytes) (rejected f reason.BadVersion) (with_ipv4 f all) (with_ipv6 f all)
-    (cut-ipv4 f bytes rest start (unsent f start) len) (cut-ipv6 f bytes rest start len))
+    (cut-ipv4 n f bytes rest start (unsent f start) len place) (cut-ipv6 n f bytes rest start len place))
 
 -- ---- frames
 
@@ -65,7 +80,12 @@ value-front bytes rest h =
 abbrev linked : EthernetRepr → ℕ → ℕ → List ℕ → FrameFields
 linked v len payload_len payload = with_carried (with_link (nothing_of len) v payload_len) v.ethertype payload
 
-frame-cut : (bytes rest : List ℕ) → 0 < length rest → IsCutOf (captured_of bytes (length rest)) (fields_of (bytes ++ rest))
+frame-begins : (frame : List ℕ) → 14 ≤ length frame → begin_of network (fields_of frame) ≡ 14
+frame-begins frame h =
+    let v = ethernet.header_of frame in
+    ap (begin_of network) (fields_of_long frame h) ∙ (carried-next (with_link (nothing_of (length frame)) v (length (drop 14 frame))) v.ethertype (drop 14 frame) refl).begins
+
+frame-cut : (bytes rest : List ℕ) → 0 < length rest → IsCutOf (length bytes) (captured_of bytes (length rest)) (fields_of (bytes ++ rest))
 frame-cut bytes rest missing =
     let all = bytes ++ rest in
     let size = longer bytes rest in
@@ -79,7 +99,15 @@ frame-cut bytes rest missing =
                 ∙ sym (fields_of_short all (omega (arith, size, none)) ∙ ap nothing_of size))
             | inr more ↦
                 cut-as _ _ _ _ (cut ∙ ap (λ (b : Bool). rejected (nothing_of len) (if b then reason.TooShort else reason.HeaderCut)) (lt-false len 14 more)) refl
-                (inr (link, record { reason = refl; fields = refl }))
+                (inr (
+                  link,
+                  record {
+                    reason = refl;
+                    offset = refl;
+                    missing = subst (λ (k : ℕ). length bytes < k) (sym (frame-begins all (omega (arith, size, more)))) few;
+                    fields = refl;
+                  },
+                ))
           ]
       | inr h ↦
           let v = ethernet.header_of bytes in
@@ -92,11 +120,12 @@ frame-cut bytes rest missing =
           ∙ ap (λ (n : ℕ). linked v len n (drop 14 all)) count
           ∙ ap (linked v len (len - 14)) payload
           in
+          let front : length (drop 14 bytes) ≡ length bytes - 14 = dropped 14 bytes in
           cut-as _ _ _ _ (captured_of-long bytes (length rest) missing h) whole
-          (cut-carried (with_link (nothing_of len) v (len - 14)) v.ethertype (drop 14 bytes) rest refl (sym count ∙ ap length payload))
+          (cut-carried (length bytes) (with_link (nothing_of len) v (len - 14)) v.ethertype (drop 14 bytes) rest refl (sym count ∙ ap length payload) (omega (arith, front, h)))
     ]
 
-bare-cut : (bytes rest : List ℕ) → 0 < length rest → IsCutOf (captured_packet_of bytes (length rest)) (packet_fields_of (bytes ++ rest))
+bare-cut : (bytes rest : List ℕ) → 0 < length rest → IsCutOf (length bytes) (captured_packet_of bytes (length rest)) (packet_fields_of (bytes ++ rest))
 bare-cut bytes rest missing =
     let all = bytes ++ rest in
     let size = longer bytes rest in
@@ -105,21 +134,22 @@ bare-cut bytes rest missing =
       | inl few ↦
           cut-as _ _ _ _
           (captured_packet_of-short bytes (length rest) missing few
-          ∙ ap (λ (b : Bool). rejected (bare_of len) (if b then reason.TooShort else reason.HeaderCut)) (lt-false len 1 (omega (arith, missing)))) refl
-          (inr (link, record { reason = refl; fields = refl }))
+          ∙ ap (λ (b : Bool). rejected (bare_of len) (if b then reason.TooShort else reason.HeaderCut)) (lt-false len 1 (omega (arith, missing))))
+          (packet_fields_of-some all (omega (arith, size, missing)) ∙ ap (λ (n : ℕ). with_packet (bare_of n) all) size)
+          (cut-network (length bytes) (bare_of len) (with_packet (bare_of len) all) 1 refl (packet-next (bare_of len) all refl (omega (arith, missing))) (omega (arith, few)))
       | inr h ↦
           cut-as _ _ _ _ (captured_packet_of-long bytes (length rest) missing h)
           (packet_fields_of-some all (omega (arith, size, h)) ∙ ap (λ (n : ℕ). with_packet (bare_of n) all) size)
-          (packet-cut (bare_of len) bytes rest h refl (sym size))
+          (packet-cut (length bytes) (bare_of len) bytes rest h refl (sym size) (omega arith))
     ]
 
 -- ---- with nothing missing too
 
-pub captured-cut : (bytes rest : List ℕ) → IsCutOf (captured_of bytes (length rest)) (fields_of (bytes ++ rest))
+pub captured-cut : (bytes rest : List ℕ) → IsCutOf (length bytes) (captured_of bytes (length rest)) (fields_of (bytes ++ rest))
 captured-cut bytes [] = same-of _ _ (captured_of-whole bytes ∙ ap fields_of (sym (append-nil bytes)))
 captured-cut bytes (x ∷ rest) = frame-cut bytes (x ∷ rest) (omega arith)
 
-pub captured-packet-cut : (bytes rest : List ℕ) → IsCutOf (captured_packet_of bytes (length rest)) (packet_fields_of (bytes ++ rest))
+pub captured-packet-cut : (bytes rest : List ℕ) → IsCutOf (length bytes) (captured_packet_of bytes (length rest)) (packet_fields_of (bytes ++ rest))
 captured-packet-cut bytes [] = same-of _ _ (captured_packet_of-whole bytes ∙ ap packet_fields_of (sym (append-nil bytes)))
 captured-packet-cut bytes (x ∷ rest) = bare-cut bytes (x ∷ rest) (omega arith)
 
@@ -131,11 +161,11 @@ taken of bytes rest len is =
     ap (λ (b : List ℕ). of b (len - length bytes)) all ∙ ap (of bytes) missing
 
 pub read-cut : (bytes rest : List ℕ) (len : ℕ) (f : FrameFields) → f ≡ captured_of (take len bytes) (len - length bytes) → length bytes + length rest ≡ len
-    → IsCutOf f (fields_of (bytes ++ rest))
+    → IsCutOf (length bytes) f (fields_of (bytes ++ rest))
 read-cut bytes rest len f is sum = cut-as _ _ _ _ (is ∙ taken captured_of bytes rest len sum) refl (captured-cut bytes rest)
 
 pub read-packet-cut : (bytes rest : List ℕ) (len : ℕ) (f : FrameFields) → f ≡ captured_packet_of (take len bytes) (len - length bytes) → length bytes + length rest ≡ len
-    → IsCutOf f (packet_fields_of (bytes ++ rest))
+    → IsCutOf (length bytes) f (packet_fields_of (bytes ++ rest))
 read-packet-cut bytes rest len f is sum = cut-as _ _ _ _ (is ∙ taken captured_packet_of bytes rest len sum) refl (captured-packet-cut bytes rest)
 
 -- nothing is missing

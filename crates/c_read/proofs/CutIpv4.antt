@@ -1,5 +1,5 @@
 -- The struct of an IPv4 packet that was not captured as a whole.
-use Rattle.std.proofs.Common.{ℕ, ◌≡◌, ◌∙◌, ◌≤◌, ◌<◌, ◌⊎◌, inl, inr, ◌-◌, ◌*◌, ◌==◌, ◌&&◌, nat_le, nat_lt, if◌then◌else◌, Bool, true, false, List, ◌++◌, Option, Some, None, ap, drop, length, refl, slice_range, sym, take, arith}
+use Rattle.std.proofs.Common.{ℕ, ◌≡◌, ◌∙◌, ◌≤◌, ◌<◌, ◌⊎◌, inl, inr, ◌+◌, ◌-◌, ◌*◌, ◌==◌, ◌&&◌, nat_le, nat_lt, if◌then◌else◌, Bool, true, false, true≢false, List, ◌++◌, Option, Some, None, ap, drop, length, refl, slice_range, subst, sym, take, arith}
 use Rattle.std.proofs.lemmas.Bool.{cases_lt}
 use Rattle.std.proofs.lemmas.Grind.{common_steps}
 use Rattle.std.proofs.lemmas.List.{take-append-le}
@@ -16,7 +16,7 @@ use Rattle.c_structs.specs.declared.codes.Reason.TheVariants as reason
 use Rattle.c_structs.specs.declared.types.FrameFields.{FrameFields}
 use Rattle.c_read.proofs.CutBytes.{field-front, le-false, le-true, longer, lt-false, lt-true, range-following, range-front}
 use Rattle.c_read.proofs.CutMessage.{cut-message}
-use Rattle.c_read.proofs.CutOf.{IsStart, cut-as, cut-network, ipv4-keeps, same-of}
+use Rattle.c_read.proofs.CutOf.{Follows, IsNext, IsStart, cut-as, cut-network, if-has, nothing-follows, rejected-next, same-of, start-network, start-rejected, start-transport, stored-next, transport-follows}
 use Rattle.c_read.proofs.CutTcp.{cut-tcp}
 use Rattle.c_read.proofs.CutUdp.{cut-udp}
 use Rattle.c_read.specs.Captured.{IsCutOf, before, begun_ipv4, cut_header, cut_ipv4, cut_payload, cut_transport_by, is_no_ipv4, transport_header}
@@ -24,11 +24,11 @@ use Rattle.c_read.specs.FrameFields.{ipv4_fault, ipv4_values, rejected, with_ipv
 
 -- ---- what a packet carries
 
-pub cut-by : (f : FrameFields) (p : IpProtocol) (src dst : IpAddress) (bytes rest : List ℕ) → f ≡ before transport_header f → f.payload_len ≡ length (bytes ++ rest)
-    → IsCutOf (cut_transport_by f p src dst bytes) (with_transport_by f p src dst (bytes ++ rest))
-cut-by f protocol.Udp src dst bytes rest fresh len = cut-udp f src dst bytes rest fresh len
-cut-by f protocol.Tcp src dst bytes rest fresh len = cut-tcp f src dst bytes rest fresh len
-cut-by f p src dst bytes rest fresh len = cut-message f p src dst bytes rest fresh len
+pub cut-by : (n : ℕ) (f : FrameFields) (p : IpProtocol) (src dst : IpAddress) (bytes rest : List ℕ) → f ≡ before transport_header f → f.payload_len ≡ length (bytes ++ rest)
+    → n ≡ f.payload_offset + length bytes → length bytes < f.payload_len → IsCutOf n (cut_transport_by f p src dst bytes) (with_transport_by f p src dst (bytes ++ rest))
+cut-by n f protocol.Udp src dst bytes rest fresh len place missing = cut-udp n f src dst bytes rest fresh len place
+cut-by n f protocol.Tcp src dst bytes rest fresh len place missing = cut-tcp n f src dst bytes rest fresh len place missing
+cut-by n f p src dst bytes rest fresh len place missing = cut-message n f p src dst bytes rest fresh len place missing
 
 pub dropped : (n : ℕ) (xs : List ℕ) → length (drop n xs) ≡ length xs - n
 dropped n xs = grind (arith, common_steps)
@@ -89,6 +89,37 @@ some : (f : FrameFields) (bytes : List ℕ) → ipv4.is_read false bytes ≡ tru
     → with_ipv4 f bytes ≡ carrying (with_ipv4_fields f bytes (ipv4.header_of bytes) (length (ipv4_payload bytes))) (ipv4.is_fragment bytes) (ipv4.header_of bytes) (ipv4_payload bytes)
 some f bytes e =
     ap (λ (o : Option Ipv4Repr). option_map_or (λ v. carrying (with_ipv4_header f bytes v) (ipv4.is_fragment bytes) v (ipv4_payload bytes)) o (rejected f (ipv4_fault bytes))) (present bytes e)
+
+-- ---- where its header begins and ends
+
+pub least-len : (bytes : List ℕ) → ipv4.is_read false bytes ≡ true → 20 ≤ ipv4.header_len bytes
+least-len bytes e = elim (cases_lt (length bytes) 20) [
+  | inl few ↦
+      let never : ipv4.is_read false bytes ≡ false = rw (le-false 20 (length bytes) few) refl in
+      absurd (true≢false (sym e ∙ never))
+  | inr h ↦ elim (decide (ipv4.header_len bytes) (ipv4.total_len bytes) (field bytes 0 4) (length bytes) h) [
+    | inl off ↦ absurd (true≢false (sym e ∙ off))
+    | inr s ↦ s.least
+  ]
+]
+
+-- the header of a packet has so many bytes or more, or is rejected
+pub ipv4-next : (f : FrameFields) (bytes : List ℕ) (len : ℕ) → IsStart f → len ≤ f.payload_len → (ipv4.is_read false bytes ≡ true → len ≤ ipv4.header_len bytes)
+    → IsNext f (with_ipv4 f bytes) len
+ipv4-next f bytes len start fits least = elim (bool (ipv4.is_read false bytes)) [
+  | inr never ↦ subst (λ g. IsNext f g len) (sym (none f bytes never)) (rejected-next f (ipv4_fault bytes) len (start-network f start) fits)
+  | inl read ↦
+      let v = ipv4.header_of bytes in
+      let payload = ipv4_payload bytes in
+      let next = with_ipv4_fields f bytes v (length payload) in
+      let transport : next.transport ≡ 0 = start-transport f start in
+      let rejected : next.rejected ≡ 0 = start-rejected f start in
+      let follows : Follows next (carrying next (ipv4.is_fragment bytes) v payload) =
+      if-has (Follows next) (ipv4.is_fragment bytes) next (with_payload next (Ipv4 v) payload) (nothing-follows next reason.TooShort transport rejected).0
+      (transport-follows next v.next_header (src_addr_of (Ipv4 v)) (dst_addr_of (Ipv4 v)) payload transport rejected)
+      in
+      subst (λ g. IsNext f g len) (sym (some f bytes read)) (stored-next f next (carrying next (ipv4.is_fragment bytes) v payload) len (ipv4.header_len bytes) follows refl refl refl refl (least read))
+]
 
 -- ---- the header with more bytes after it
 
@@ -184,8 +215,9 @@ captured-front f bytes rest h whole =
     ]
 
 -- the fixed part of the header was not captured
-short-cut : (f : FrameFields) (bytes rest : List ℕ) → IsStart f → f.payload_len ≡ length (bytes ++ rest) → IsCutOf (cut_header f 20) (with_ipv4 f (bytes ++ rest))
-short-cut f bytes rest start len =
+short-cut : (n : ℕ) (f : FrameFields) (bytes rest : List ℕ) → IsStart f → f.payload_len ≡ length (bytes ++ rest) → n < f.payload_offset + 20
+    → IsCutOf n (cut_header f 20) (with_ipv4 f (bytes ++ rest))
+short-cut n f bytes rest start len part =
     let all = bytes ++ rest in
     elim (cases_lt (length all) 20) [
       | inl few ↦
@@ -193,13 +225,14 @@ short-cut f bytes rest start len =
           same-of _ _ (rw (lt-true f.payload_len 20 (omega (arith, few, len)), none f all never, lt-true (length all) 20 few) refl)
       | inr more ↦
           cut-as _ _ _ _ (ap (λ (b : Bool). rejected f (if b then reason.TooShort else reason.HeaderCut)) (lt-false f.payload_len 20 (omega (arith, more, len)))) refl
-          (cut-network f (with_ipv4 f all) start (ipv4-keeps f all))
+          (cut-network n f (with_ipv4 f all) 20 start (ipv4-next f all 20 start (omega (arith, more, len)) (least-len all)) part)
     ]
 
 -- the header was captured
-begun : (f : FrameFields) (bytes rest : List ℕ) → f ≡ before transport_header f → 20 ≤ length bytes → ipv4.header_len bytes ≤ length bytes → length bytes < ipv4.total_len bytes
-    → IsSound (ipv4.header_len bytes) (ipv4.total_len bytes) (field bytes 0 4) (length (bytes ++ rest)) → IsCutOf (begun_ipv4 f bytes) (with_ipv4 f (bytes ++ rest))
-begun f bytes rest fresh h captured cut s =
+begun : (n : ℕ) (f : FrameFields) (bytes rest : List ℕ) → f ≡ before transport_header f → 20 ≤ length bytes → ipv4.header_len bytes ≤ length bytes → length bytes < ipv4.total_len bytes
+    → IsSound (ipv4.header_len bytes) (ipv4.total_len bytes) (field bytes 0 4) (length (bytes ++ rest)) → n ≡ f.payload_offset + length bytes
+    → IsCutOf n (begun_ipv4 f bytes) (with_ipv4 f (bytes ++ rest))
+begun n f bytes rest fresh h captured cut s place =
     let all = bytes ++ rest in
     let size = longer bytes rest in
     let hl = ipv4.header_len bytes in
@@ -213,12 +246,14 @@ begun f bytes rest fresh h captured cut s =
     let next = with_ipv4_fields f bytes v (tl - hl) in
     let found = some-front f bytes rest (front ++ back) h captured s payload ∙ ap (λ (n : ℕ). carrying (with_ipv4_fields f bytes v n) (ipv4.is_fragment bytes) v (front ++ back)) count in
     let clean : next ≡ before transport_header next = ap (λ (g : FrameFields). with_ipv4_fields g bytes v (tl - hl)) fresh in
-    cut-as _ _ _ _ refl found (by (ipv4.is_fragment bytes) next front back v clean (sym count))
+    let many : length front ≡ length bytes - hl = dropped hl bytes in
+    cut-as _ _ _ _ refl found (by (ipv4.is_fragment bytes) next front back v clean (sym count) (omega (arith, place, many, captured)) (omega (arith, many, captured, cut)))
   where
     by : (b : Bool) (next : FrameFields) (front back : List ℕ) (v : Ipv4Repr) → next ≡ before transport_header next → next.payload_len ≡ length (front ++ back)
-        → IsCutOf (if b then next else cut_payload next (Ipv4 v) front) (carrying next b v (front ++ back))
-    by true next front back v clean len = same-of _ _ refl
-    by false next front back v clean len = cut-by next v.next_header (src_addr_of (Ipv4 v)) (dst_addr_of (Ipv4 v)) front back clean len
+        → n ≡ next.payload_offset + length front → length front < next.payload_len
+        → IsCutOf n (if b then next else cut_payload next (Ipv4 v) front) (carrying next b v (front ++ back))
+    by true next front back v clean len place missing = same-of _ _ refl
+    by false next front back v clean len place missing = cut-by n next v.next_header (src_addr_of (Ipv4 v)) (dst_addr_of (Ipv4 v)) front back clean len place missing
 
 -- the tests of the cut reader
 no-header : (f : FrameFields) (bytes : List ℕ) → 20 ≤ length bytes → length bytes < ipv4.total_len bytes
@@ -281,14 +316,14 @@ by-tests : (f : FrameFields) (bytes : List ℕ) (short whole never cut : Bool) �
     → nat_lt (length bytes) (ipv4.header_len bytes) ≡ cut → cut_ipv4 f bytes ≡ stored f bytes short whole never cut
 by-tests f bytes short whole never cut a b c d = rw (a, b, c, d) refl
 
-pub cut-ipv4 : (f : FrameFields) (bytes rest : List ℕ) → IsStart f → f ≡ before transport_header f → f.payload_len ≡ length (bytes ++ rest)
-    → IsCutOf (cut_ipv4 f bytes) (with_ipv4 f (bytes ++ rest))
-cut-ipv4 f bytes rest start fresh len =
+pub cut-ipv4 : (n : ℕ) (f : FrameFields) (bytes rest : List ℕ) → IsStart f → f ≡ before transport_header f → f.payload_len ≡ length (bytes ++ rest)
+    → n ≡ f.payload_offset + length bytes → IsCutOf n (cut_ipv4 f bytes) (with_ipv4 f (bytes ++ rest))
+cut-ipv4 n f bytes rest start fresh len place =
     let all = bytes ++ rest in
     let tl = ipv4.total_len bytes in
     let hl = ipv4.header_len bytes in
     elim (cases_lt (length bytes) 20) [
-      | inl few ↦ cut-as _ _ _ _ (by-tests f bytes true _ _ _ (lt-true _ _ few) refl refl refl) refl (short-cut f bytes rest start len)
+      | inl few ↦ cut-as _ _ _ _ (by-tests f bytes true _ _ _ (lt-true _ _ few) refl refl refl) refl (short-cut n f bytes rest start len (omega (arith, place, few)))
       | inr h ↦ elim (cases_lt (length bytes) tl) [
         | inr whole ↦ same-of _ _ (by-tests f bytes false true _ _ (lt-false _ _ h) (le-true _ _ whole) refl refl ∙ captured-front f bytes rest h whole)
         | inl cut ↦ elim (no-header f bytes h cut) [
@@ -297,12 +332,15 @@ cut-ipv4 f bytes rest start fresh len =
               ∙ sym (none-front f bytes rest h (ap (λ (n : ℕ). tested hl tl (field bytes 0 4) n) (sym len) ∙ off)))
           | inr (s, sure) ↦ elim (cases_lt (length bytes) hl) [
             | inl part ↦
+                let within = s.within in
+                let fits = s.whole in
                 cut-as _ _ _ _ (by-tests f bytes false false false true (lt-false _ _ h) (le-false _ _ cut) sure (lt-true _ _ part)) refl
-                (cut-network f (with_ipv4 f all) start (ipv4-keeps f all))
+                (cut-network n f (with_ipv4 f all) hl start
+                (ipv4-next f all hl start (omega (arith, within, fits)) (λ read. let same = len-front bytes rest h in omega (arith, same))) (omega (arith, place, part)))
             | inr captured ↦
                 let fits = s.whole in
                 cut-as _ _ _ _ (by-tests f bytes false false false false (lt-false _ _ h) (le-false _ _ cut) sure (lt-false _ _ captured)) refl
-                (begun f bytes rest fresh h captured cut (record { least = s.least; within = s.within; whole = omega (arith, len, fits); version = s.version }))
+                (begun n f bytes rest fresh h captured cut (record { least = s.least; within = s.within; whole = omega (arith, len, fits); version = s.version }) place)
           ]
         ]
       ]

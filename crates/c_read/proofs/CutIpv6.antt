@@ -1,5 +1,5 @@
 -- The struct of an IPv6 packet that was not captured as a whole.
-use Rattle.std.proofs.Common.{ℕ, ◌≡◌, ◌∙◌, ◌≤◌, ◌<◌, inl, inr, ◌+◌, ◌-◌, ◌==◌, ◌&&◌, ◌||◌, not, nat_le, nat_lt, if◌then◌else◌, Bool, true, false, List, ◌++◌, Option, Some, None, ap, drop, length, refl, slice_range, sym, take, arith}
+use Rattle.std.proofs.Common.{ℕ, ◌≡◌, ◌∙◌, ◌≤◌, ◌<◌, inl, inr, ◌+◌, ◌-◌, ◌==◌, ◌&&◌, ◌||◌, not, nat_le, nat_lt, if◌then◌else◌, Bool, true, false, List, ◌++◌, Option, Some, None, ap, drop, length, refl, slice_range, subst, sym, take, arith}
 use Rattle.std.proofs.lemmas.Bool.{cases_lt}
 use Rattle.std.proofs.lemmas.List.{drop-append-le}
 use Rattle.std.specs.Option.{option_map_or}
@@ -16,7 +16,7 @@ use Rattle.c_structs.specs.declared.types.FrameFields.{FrameFields}
 use Rattle.c_structs.specs.declared.types.Ip.{Ip}
 use Rattle.c_read.proofs.CutBytes.{field-front, le-false, le-true, longer, lt-false, lt-true, range-following, range-front}
 use Rattle.c_read.proofs.CutIpv4.{bool, cut-by, dropped}
-use Rattle.c_read.proofs.CutOf.{IsStart, cut-as, cut-network, ipv6-keeps, same-of}
+use Rattle.c_read.proofs.CutOf.{IsNext, IsStart, cut-as, cut-network, fragment-beside, rejected-next, same-of, start-network, start-rejected, start-transport, stored-next, transport-follows}
 use Rattle.c_read.specs.Captured.{IsCutOf, before, begun_ipv6, cut_fragment, cut_fragment_by, cut_header, cut_ipv6, cut_transport_by, fragment_header, transport_header}
 use Rattle.c_read.specs.FrameFields.{ipv6_fault, ipv6_values, rejected, with_fragment, with_fragment_by, with_fragment_header, with_ipv6, with_ipv6_fields, with_ipv6_header, with_payload, with_transport_by}
 
@@ -47,6 +47,21 @@ none f bytes e = ap (shape f bytes) (absent bytes e)
 some : (f : FrameFields) (bytes : List ℕ) → ipv6.is_read bytes ≡ true
     → with_ipv6 f bytes ≡ carrying (with_ipv6_fields f bytes (ipv6.header_of bytes) (length (ipv6.payload_of bytes))) (ipv6.header_of bytes) (ipv6.payload_of bytes)
 some f bytes e = ap (shape f bytes) (present bytes e)
+
+-- the header of a packet has 40 bytes, or is rejected
+pub ipv6-next : (f : FrameFields) (bytes : List ℕ) (len : ℕ) → IsStart f → len ≤ f.payload_len → len ≤ 40 → IsNext f (with_ipv6 f bytes) len
+ipv6-next f bytes len start fits few = elim (bool (ipv6.is_read bytes)) [
+  | inr never ↦ subst (λ g. IsNext f g len) (sym (none f bytes never)) (rejected-next f (ipv6_fault bytes) len (start-network f start) fits)
+  | inl read ↦
+      let v = ipv6.header_of bytes in
+      let payload = ipv6.payload_of bytes in
+      let next = with_ipv6_fields f bytes v (length payload) in
+      let part = with_fragment_by next v.next_header payload in
+      let beside = fragment-beside next v.next_header payload in
+      let follows = transport-follows part v.next_header (src_addr_of (Ipv6 v)) (dst_addr_of (Ipv6 v)) payload (beside.transport ∙ start-transport f start) (beside.rejected ∙ start-rejected f start) in
+      subst (λ g. IsNext f g len) (sym (some f bytes read))
+      (stored-next f part (carrying next v payload) len 40 follows (ap (λ (k : ℕ). k == 0) beside.network) beside.ethernet beside.offset beside.after few)
+]
 
 -- ---- the header with more bytes after it
 
@@ -116,8 +131,9 @@ IsWhole f = f ≡ before fragment_header f
 abbrev tests : FrameFields → List ℕ → Bool → Bool → FrameFields
 tests f bytes none few = if none then f else if few then rejected f reason.HeaderCut else with_fragment_header f (fragment.header_of (drop 2 bytes))
 
-cut-fragment : (f : FrameFields) (bytes rest : List ℕ) → IsWhole f → f.payload_len ≡ length (bytes ++ rest) → IsCutOf (cut_fragment f bytes) (with_fragment f (bytes ++ rest))
-cut-fragment f bytes rest whole len =
+cut-fragment : (n : ℕ) (f : FrameFields) (bytes rest : List ℕ) → IsWhole f → f.payload_len ≡ length (bytes ++ rest) → n ≡ f.payload_offset + length bytes
+    → IsCutOf n (cut_fragment f bytes) (with_fragment f (bytes ++ rest))
+cut-fragment n f bytes rest whole len place =
     let all = bytes ++ rest in
     let next = λ (b : Bool). if b then f else with_fragment_header f (fragment.header_of (drop 2 all)) in
     elim (cases_lt f.payload_len 8) [
@@ -129,7 +145,7 @@ cut-fragment f bytes rest whole len =
           elim (cases_lt (length bytes) 8) [
             | inl few ↦
                 cut-as _ _ _ _ (first ∙ ap (λ (b : Bool). tests f bytes false b) (lt-true (length bytes) 8 few)) stored
-                (inr (fragment_header, record { reason = refl; fields = ap (λ (h : FrameFields). rejected h reason.HeaderCut) whole }))
+                (inr (fragment_header, record { reason = refl; offset = refl; missing = omega (arith, place, few); fields = ap (λ (h : FrameFields). rejected h reason.HeaderCut) whole }))
             | inr h ↦
                 same-of _ _ (first ∙ ap (λ (b : Bool). tests f bytes false b) (lt-false (length bytes) 8 h) ∙ sym (stored ∙ ap (with_fragment_header f) (part-front bytes rest h)))
           ]
@@ -150,8 +166,9 @@ captured-front f bytes rest h whole =
       | inl s ↦ some f bytes s ∙ sym (some-front f bytes rest (ipv6.payload_of bytes) h (same ∙ s) (range-front bytes rest 40 tl (omega arith) whole))
     ]
 
-short-cut : (f : FrameFields) (bytes rest : List ℕ) → IsStart f → f.payload_len ≡ length (bytes ++ rest) → IsCutOf (cut_header f 40) (with_ipv6 f (bytes ++ rest))
-short-cut f bytes rest start len =
+short-cut : (n : ℕ) (f : FrameFields) (bytes rest : List ℕ) → IsStart f → f.payload_len ≡ length (bytes ++ rest) → n < f.payload_offset + 40
+    → IsCutOf n (cut_header f 40) (with_ipv6 f (bytes ++ rest))
+short-cut n f bytes rest start len part =
     let all = bytes ++ rest in
     elim (cases_lt (length all) 40) [
       | inl few ↦
@@ -159,13 +176,13 @@ short-cut f bytes rest start len =
           same-of _ _ (rw (lt-true f.payload_len 40 (omega (arith, few, len)), none f all off, lt-true (length all) 40 few) refl)
       | inr more ↦
           cut-as _ _ _ _ (ap (λ (b : Bool). rejected f (if b then reason.TooShort else reason.HeaderCut)) (lt-false f.payload_len 40 (omega (arith, more, len)))) refl
-          (cut-network f (with_ipv6 f all) start (ipv6-keeps f all))
+          (cut-network n f (with_ipv6 f all) 40 start (ipv6-next f all 40 start (omega (arith, more, len)) (omega arith)) part)
     ]
 
 -- the header was captured
-begun : (f : FrameFields) (bytes rest : List ℕ) → IsStart f → 40 ≤ length bytes → length bytes < ipv6.total_len bytes → ipv6.total_len bytes ≤ length (bytes ++ rest)
-    → (field bytes 0 4 == 6) ≡ true → IsCutOf (begun_ipv6 f bytes) (with_ipv6 f (bytes ++ rest))
-begun f bytes rest start h cut whole version =
+begun : (n : ℕ) (f : FrameFields) (bytes rest : List ℕ) → IsStart f → 40 ≤ length bytes → length bytes < ipv6.total_len bytes → ipv6.total_len bytes ≤ length (bytes ++ rest)
+    → (field bytes 0 4 == 6) ≡ true → n ≡ f.payload_offset + length bytes → IsCutOf n (begun_ipv6 f bytes) (with_ipv6 f (bytes ++ rest))
+begun n f bytes rest start h cut whole version place =
     let all = bytes ++ rest in
     let tl = ipv6.total_len bytes in
     let v = ipv6.header_of bytes in
@@ -180,15 +197,17 @@ begun f bytes rest start h cut whole version =
     let first = ap (λ (g : FrameFields). with_ipv6_fields g bytes v v.payload_len) start in
     let clean : next ≡ before transport_header next = first ∙ sym (ap (λ (g : FrameFields). before transport_header (with_ipv6_fields g bytes v v.payload_len)) start) in
     let unbroken : IsWhole next = first ∙ sym (ap (λ (g : FrameFields). before fragment_header (with_ipv6_fields g bytes v v.payload_len)) start) in
-    cut-as _ _ _ _ refl found (by v.next_header next front back v clean unbroken (sym count))
+    let many : length front ≡ length bytes - 40 = dropped 40 bytes in
+    cut-as _ _ _ _ refl found (by v.next_header next front back v clean unbroken (sym count) (omega (arith, place, many, h)) (omega (arith, many, h, cut, size)))
   where
     by : (p : IpProtocol) (next : FrameFields) (front back : List ℕ) (v : Ipv6Repr) → next ≡ before transport_header next → IsWhole next → next.payload_len ≡ length (front ++ back)
-        → IsCutOf (cut_transport_by (cut_fragment_by next p front) p (src_addr_of (Ipv6 v)) (dst_addr_of (Ipv6 v)) front)
+        → n ≡ next.payload_offset + length front → length front < next.payload_len
+        → IsCutOf n (cut_transport_by (cut_fragment_by next p front) p (src_addr_of (Ipv6 v)) (dst_addr_of (Ipv6 v)) front)
         (with_transport_by (with_fragment_by next p (front ++ back)) p (src_addr_of (Ipv6 v)) (dst_addr_of (Ipv6 v)) (front ++ back))
-    by protocol.Ipv6Frag next front back v clean unbroken len = cut-fragment next front back unbroken len
-    by protocol.Udp next front back v clean unbroken len = cut-by next protocol.Udp (src_addr_of (Ipv6 v)) (dst_addr_of (Ipv6 v)) front back clean len
-    by protocol.Tcp next front back v clean unbroken len = cut-by next protocol.Tcp (src_addr_of (Ipv6 v)) (dst_addr_of (Ipv6 v)) front back clean len
-    by p next front back v clean unbroken len = cut-by next p (src_addr_of (Ipv6 v)) (dst_addr_of (Ipv6 v)) front back clean len
+    by protocol.Ipv6Frag next front back v clean unbroken len place missing = cut-fragment n next front back unbroken len place
+    by protocol.Udp next front back v clean unbroken len place missing = cut-by n next protocol.Udp (src_addr_of (Ipv6 v)) (dst_addr_of (Ipv6 v)) front back clean len place missing
+    by protocol.Tcp next front back v clean unbroken len place missing = cut-by n next protocol.Tcp (src_addr_of (Ipv6 v)) (dst_addr_of (Ipv6 v)) front back clean len place missing
+    by p next front back v clean unbroken len place missing = cut-by n next p (src_addr_of (Ipv6 v)) (dst_addr_of (Ipv6 v)) front back clean len place missing
 
 -- what the cut reader stores, by its tests
 abbrev stored : FrameFields → List ℕ → Bool → Bool → Bool → Bool → FrameFields
@@ -202,12 +221,13 @@ by-tests : (f : FrameFields) (bytes : List ℕ) (few whole version fits : Bool) 
     → nat_lt f.payload_len (ipv6.total_len bytes) ≡ fits → cut_ipv6 f bytes ≡ stored f bytes few whole version fits
 by-tests f bytes few whole version fits a b c d = rw (a, b, c, d) refl
 
-pub cut-ipv6 : (f : FrameFields) (bytes rest : List ℕ) → IsStart f → f.payload_len ≡ length (bytes ++ rest) → IsCutOf (cut_ipv6 f bytes) (with_ipv6 f (bytes ++ rest))
-cut-ipv6 f bytes rest start len =
+pub cut-ipv6 : (n : ℕ) (f : FrameFields) (bytes rest : List ℕ) → IsStart f → f.payload_len ≡ length (bytes ++ rest) → n ≡ f.payload_offset + length bytes
+    → IsCutOf n (cut_ipv6 f bytes) (with_ipv6 f (bytes ++ rest))
+cut-ipv6 n f bytes rest start len place =
     let all = bytes ++ rest in
     let tl = ipv6.total_len bytes in
     elim (cases_lt (length bytes) 40) [
-      | inl few ↦ cut-as _ _ _ _ (by-tests f bytes true _ _ _ (lt-true _ _ few) refl refl refl) refl (short-cut f bytes rest start len)
+      | inl few ↦ cut-as _ _ _ _ (by-tests f bytes true _ _ _ (lt-true _ _ few) refl refl refl) refl (short-cut n f bytes rest start len (omega (arith, place, few)))
       | inr h ↦ elim (cases_lt (length bytes) tl) [
         | inr whole ↦ same-of _ _ (by-tests f bytes false true _ _ (lt-false _ _ h) (le-true _ _ whole) refl refl ∙ captured-front f bytes rest h whole)
         | inl cut ↦ elim (cases_lt f.payload_len tl) [
@@ -220,7 +240,7 @@ cut-ipv6 f bytes rest start len =
                 same-of _ _ (by-tests f bytes false false false _ (lt-false _ _ h) (le-false _ _ cut) other refl ∙ sym (none-front f bytes rest h off))
             | inl six ↦
                 cut-as _ _ _ _ (by-tests f bytes false false true false (lt-false _ _ h) (le-false _ _ cut) six (lt-false _ _ fits)) refl
-                (begun f bytes rest start h cut (omega (arith, len, fits)) six)
+                (begun n f bytes rest start h cut (omega (arith, len, fits)) six place)
           ]
         ]
       ]

@@ -1,5 +1,5 @@
 -- The struct of an ICMP message that was not captured as a whole.
-use Rattle.std.proofs.Common.{ℕ, ◌≡◌, ◌∙◌, ◌≤◌, ◌+◌, ◌-◌, ◌&&◌, nat_le, if◌then◌else◌, Bool, true, false, List, ◌++◌, ap, inl, inr, length, refl, sym, arith}
+use Rattle.std.proofs.Common.{ℕ, ◌≡◌, ◌∙◌, ◌≤◌, ◌<◌, ◌+◌, ◌-◌, ◌&&◌, nat_le, if◌then◌else◌, Bool, true, false, List, ◌++◌, ap, inl, inr, length, refl, sym, arith}
 use Rattle.std.proofs.lemmas.Bool.{cases_lt}
 use Rattle.ip_wire.specs.Types.{IpAddress, IpProtocol}
 use Rattle.c_structs.specs.Nothing.{no_icmp}
@@ -25,9 +25,10 @@ without f all v fresh h =
     fresh ∙ sym (ap (λ (g : FrameFields). record g { transport_offset = 0; transport = 0; transport_checksum = 0; icmp = no_icmp }) fresh)
     ∙ ap (λ (n : ℕ). record f { transport_offset = 0; payload_len = n; transport = 0; transport_checksum = 0; icmp = no_icmp }) len
 
-pub cut-message : (f : FrameFields) (p : IpProtocol) (src dst : IpAddress) (bytes rest : List ℕ) → f ≡ before transport_header f → f.payload_len ≡ length (bytes ++ rest)
-    → IsCutOf (if has_message p src bytes then with_icmp f bytes verdict.ChecksumCut else f) (with_message_by f p src dst (bytes ++ rest))
-cut-message f p src dst bytes rest fresh len = by (is_icmp p src)
+pub cut-message : (n : ℕ) (f : FrameFields) (p : IpProtocol) (src dst : IpAddress) (bytes rest : List ℕ) → f ≡ before transport_header f → f.payload_len ≡ length (bytes ++ rest)
+    → n ≡ f.payload_offset + length bytes → length bytes < f.payload_len
+    → IsCutOf n (if has_message p src bytes then with_icmp f bytes verdict.ChecksumCut else f) (with_message_by f p src dst (bytes ++ rest))
+cut-message n f p src dst bytes rest fresh len place missing = by (is_icmp p src)
   where
     all : List ℕ
     all = bytes ++ rest
@@ -41,17 +42,17 @@ cut-message f p src dst bytes rest fresh len = by (is_icmp p src)
     whole : Bool → FrameFields
     whole b = if b then with_icmp f all v else f
 
-    by : (a : Bool) → IsCutOf (if a && nat_le 8 (length bytes) then with_icmp f bytes verdict.ChecksumCut else f) (if a && nat_le 8 (length all) then with_icmp f all v else f)
+    by : (a : Bool) → IsCutOf n (if a && nat_le 8 (length bytes) then with_icmp f bytes verdict.ChecksumCut else f) (if a && nat_le 8 (length all) then with_icmp f all v else f)
     by false = same-of f f refl
     by true = let size = longer bytes rest in elim (cases_lt (length bytes) 8) [
       | inr h ↦
           cut-as _ _ _ _ (ap front (le-true 8 (length bytes) h))
           (ap whole (le-true 8 (length all) (omega (arith, size, h))) ∙ ap (λ (i : Icmp). record (with_icmp f all v) { icmp = i }) (values-front bytes rest h))
-          (inl (inl (record { checksum = inr refl; fields = refl })))
+          (inl (inl (record { checksum = inr (refl, omega (arith, place, missing)); fields = refl })))
       | inl few ↦ elim (cases_lt (length all) 8) [
         | inl none ↦ same-of _ _ (ap front (le-false 8 (length bytes) few) ∙ sym (ap whole (le-false 8 (length all) none)))
         | inr there ↦
             cut-as _ _ _ _ (ap front (le-false 8 (length bytes) few)) (ap whole (le-true 8 (length all) there))
-            (inl (inr (record { named = refl; fields = without f all v fresh (omega (arith, len, there)) })))
+            (inl (inr (record { named = refl; missing = omega (arith, place, few); fields = without f all v fresh (omega (arith, len, there)) })))
       ]
     ]

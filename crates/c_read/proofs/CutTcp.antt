@@ -18,7 +18,7 @@ use Rattle.c_structs.specs.declared.codes.Verdict.TheVariants as verdict
 use Rattle.c_structs.specs.declared.types.FrameFields.{FrameFields}
 use Rattle.c_structs.specs.declared.types.Icmp.{Icmp}
 use Rattle.c_read.proofs.CutBytes.{field-front, le-false, le-true, longer, lt-false, lt-true, range-front}
-use Rattle.c_read.proofs.CutOf.{after_header-choice, cut-as, cut-transport, same-of}
+use Rattle.c_read.proofs.CutOf.{choice-has, IsPast, cut-as, cut-transport, same-of}
 use Rattle.c_read.specs.Captured.{HasHeaders, IsCutOf, before, cut_header, cut_tcp, options, transport_header}
 use Rattle.c_read.specs.FrameFields.{after_header, rejected, rejected_transport, tcp_fault, tcp_values, with_tcp, with_tcp_fields, with_tcp_header}
 
@@ -165,33 +165,37 @@ part-shape : (f : FrameFields) (src dst : IpAddress) (bytes : List ℕ) (o : Opt
 part-shape f src dst bytes o why h found fault = rw (lt-false (length bytes) 20 h, found, fault) refl
 
 -- two verdicts in the same struct
-only-verdict : (o : Option TcpHeader) (f : FrameFields) (bytes : List ℕ) (header_len n : ℕ) (why : Reason) (v : Verdict)
-    → HasHeaders (shape o (with_tcp_fields f bytes verdict.ChecksumCut) header_len n why) (shape o (with_tcp_fields f bytes v) header_len n why)
-only-verdict None f bytes header_len n why v = record { checksum = inr refl; fields = refl }
-only-verdict (Some x) f bytes header_len n why v = record { checksum = inr refl; fields = refl }
+only-verdict : (n : ℕ) (o : Option TcpHeader) (f : FrameFields) (bytes : List ℕ) (header_len len : ℕ) (why : Reason) (v : Verdict)
+    → n < f.payload_offset + f.payload_len → n < f.payload_offset + header_len + len
+    → HasHeaders n (shape o (with_tcp_fields f bytes verdict.ChecksumCut) header_len len why) (shape o (with_tcp_fields f bytes v) header_len len why)
+only-verdict n None f bytes header_len len why v all part = record { checksum = inr (refl, all); fields = refl }
+only-verdict n (Some x) f bytes header_len len why v all part = record { checksum = inr (refl, part); fields = refl }
 
 -- the options are cut off
 options-fields : (f : FrameFields) (bytes : List ℕ) → f.icmp ≡ no_icmp
     → let g = rejected_transport (with_tcp_fields f bytes verdict.ChecksumCut) reason.HeaderCut in g ≡ record g { icmp = no_icmp }
 options-fields f bytes clean = ap (λ (i : Icmp). record (rejected_transport (with_tcp_fields f bytes verdict.ChecksumCut) reason.HeaderCut) { icmp = i }) clean
 
-options-cut : (o : Option TcpHeader) (f : FrameFields) (bytes : List ℕ) (header_len n : ℕ) (why : Reason) (v : Verdict) → f.icmp ≡ no_icmp
-    → IsCutOf (rejected_transport (with_tcp_fields f bytes verdict.ChecksumCut) reason.HeaderCut) (shape o (with_tcp_fields f bytes v) header_len n why)
-options-cut None f bytes header_len n why v clean = inr (options, record { reason = refl; fields = options-fields f bytes clean })
-options-cut (Some x) f bytes header_len n why v clean = inr (options, record { reason = refl; fields = options-fields f bytes clean })
+options-cut : (n : ℕ) (o : Option TcpHeader) (f : FrameFields) (bytes : List ℕ) (header_len len : ℕ) (why : Reason) (v : Verdict) → f.icmp ≡ no_icmp
+    → n < f.payload_offset + tcp.header_len bytes
+    → IsCutOf n (rejected_transport (with_tcp_fields f bytes verdict.ChecksumCut) reason.HeaderCut) (shape o (with_tcp_fields f bytes v) header_len len why)
+options-cut n None f bytes header_len len why v clean few = inr (options, record { reason = refl; offset = refl; missing = few; fields = options-fields f bytes clean })
+options-cut n (Some x) f bytes header_len len why v clean few = inr (options, record { reason = refl; offset = refl; missing = few; fields = options-fields f bytes clean })
 
 -- value and fault are those of the whole segment
-both : (f : FrameFields) (src dst : IpAddress) (bytes rest : List ℕ) (o : Option TcpHeader) (why : Reason) → 20 ≤ length bytes → f.payload_len ≡ length (bytes ++ rest)
+both : (n : ℕ) (f : FrameFields) (src dst : IpAddress) (bytes rest : List ℕ) (o : Option TcpHeader) (why : Reason) → 20 ≤ length bytes → f.payload_len ≡ length (bytes ++ rest)
+    → n ≡ f.payload_offset + length bytes → length bytes < f.payload_len
     → tcp_of src dst false bytes ≡ o → tcp_of src dst false (bytes ++ rest) ≡ o → tcp_fault bytes f.payload_len ≡ why → tcp_fault (bytes ++ rest) f.payload_len ≡ why
-    → IsCutOf (cut_tcp f src dst bytes) (with_tcp f src dst (bytes ++ rest))
-both f src dst bytes rest o why h len found found2 fault fault2 =
+    → IsCutOf n (cut_tcp f src dst bytes) (with_tcp f src dst (bytes ++ rest))
+both n f src dst bytes rest o why h len place missing found found2 fault fault2 =
     cut-as _ _ _ _ (part-shape f src dst bytes o why h found fault) (whole-shape f src dst bytes rest o why h len found2 fault2)
-    (inl (inl (only-verdict o f bytes (tcp.header_len bytes) (f.payload_len - tcp.header_len bytes) why (tcp_verdict src dst (bytes ++ rest)))))
+    (inl (inl (only-verdict n o f bytes (tcp.header_len bytes) (f.payload_len - tcp.header_len bytes) why (tcp_verdict src dst (bytes ++ rest))
+    (omega (arith, place, missing)) (omega (arith, place, missing)))))
 
 -- the header itself was not captured
-tcp-cut : (f : FrameFields) (src dst : IpAddress) (bytes : List ℕ) → f ≡ before transport_header f → f.payload_len ≡ length bytes
-    → IsCutOf (cut_header f 20) (with_tcp f src dst bytes)
-tcp-cut f src dst bytes fresh len =
+tcp-cut : (n : ℕ) (f : FrameFields) (src dst : IpAddress) (bytes : List ℕ) → f ≡ before transport_header f → f.payload_len ≡ length bytes → n < f.payload_offset + 20
+    → IsCutOf n (cut_header f 20) (with_tcp f src dst bytes)
+tcp-cut n f src dst bytes fresh len part =
     let g = shape (tcp_of src dst false bytes) (with_tcp_header f src dst bytes) (tcp.header_len bytes) (length (tcp.payload_of bytes)) (tcp_fault bytes (length bytes)) in
     elim (cases_lt (length bytes) 20) [
       | inl few ↦
@@ -200,7 +204,9 @@ tcp-cut f src dst bytes fresh len =
       | inr more ↦
           cut-as _ _ _ _ (ap (λ (b : Bool). rejected f (if b then reason.TooShort else reason.HeaderCut)) (lt-false f.payload_len 20 (omega (arith, more, len))))
           (ap (λ (b : Bool). if b then rejected f reason.TooShort else g) (lt-false (length bytes) 20 more))
-          (cut-transport f _ fresh (after_header-choice (tcp_of src dst false bytes) f _ _ refl refl))
+          (cut-transport n f _ 20 fresh (choice-has (λ k. IsPast f k 20) (tcp_of src dst false bytes)
+          (λ u. after_header (with_tcp_header f src dst bytes) (tcp.header_len bytes) (length (tcp.payload_of bytes))) (rejected_transport (with_tcp_header f src dst bytes) (tcp_fault bytes (length bytes)))
+          (λ u. record { kept = refl; begins = refl; ends = refl }) (record { kept = refl; begins = refl; ends = refl })) part)
     ]
 
 -- ---- the cases
@@ -222,10 +228,11 @@ tests bad ports control short =
     else reason.BadOptions
 
 -- the options are cut off, by the tests before
-options-by : (f : FrameFields) (src dst : IpAddress) (bytes rest : List ℕ) (ports : Bool) (control : Option TcpControl) → f.icmp ≡ no_icmp → 20 ≤ length bytes → length bytes < tcp.header_len bytes
-    → tcp.header_len bytes ≤ length bytes + length rest → f.payload_len ≡ length (bytes ++ rest) → (field bytes 0 16 == 0 || (field bytes 16 16 == 0)) ≡ ports → control_of bytes ≡ control
-    → IsCutOf (cut_tcp f src dst bytes) (with_tcp f src dst (bytes ++ rest))
-options-by f src dst bytes rest ports control clean h cut fits len port flags =
+options-by : (n : ℕ) (f : FrameFields) (src dst : IpAddress) (bytes rest : List ℕ) (ports : Bool) (control : Option TcpControl) → f.icmp ≡ no_icmp → 20 ≤ length bytes → length bytes < tcp.header_len bytes
+    → tcp.header_len bytes ≤ length bytes + length rest → f.payload_len ≡ length (bytes ++ rest) → n ≡ f.payload_offset + length bytes → length bytes < f.payload_len
+    → (field bytes 0 16 == 0 || (field bytes 16 16 == 0)) ≡ ports → control_of bytes ≡ control
+    → IsCutOf n (cut_tcp f src dst bytes) (with_tcp f src dst (bytes ++ rest))
+options-by n f src dst bytes rest ports control clean h cut fits len place missing port flags =
     let all = bytes ++ rest in
     let size = longer bytes rest in
     let hl = tcp.header_len bytes in
@@ -247,36 +254,37 @@ options-by f src dst bytes rest ports control clean h cut fits len port flags =
     by : (p : Bool) (c : Option TcpControl) → (field bytes 0 16 == 0 || (field bytes 16 16 == 0)) ≡ p → control_of bytes ≡ c → (nat_lt (tcp.header_len bytes) 20 || nat_lt f.payload_len (tcp.header_len bytes)) ≡ false
         → tcp_fault bytes f.payload_len ≡ fault-by (tcp.header_len bytes) f.payload_len (field bytes 0 16) (field bytes 16 16) (control_of bytes) true
         → tcp_fault (bytes ++ rest) f.payload_len ≡ fault-by (tcp.header_len bytes) f.payload_len (field bytes 0 16) (field bytes 16 16) (control_of bytes) false
-        → tcp_of src dst false bytes ≡ None → IsCutOf (cut_tcp f src dst bytes) (with_tcp f src dst (bytes ++ rest))
+        → tcp_of src dst false bytes ≡ None → IsCutOf n (cut_tcp f src dst bytes) (with_tcp f src dst (bytes ++ rest))
     by true c port flags bad here there none =
         let sound : is_sound src dst false (bytes ++ rest) ≡ false =
         ap (λ (n : ℕ). sound-by (tcp.has_lengths (bytes ++ rest)) n (field (bytes ++ rest) 16 16)) (field-front bytes rest 0 16 (omega (arith, h)))
         ∙ ap (λ (n : ℕ). sound-by (tcp.has_lengths (bytes ++ rest)) (field bytes 0 16) n) (field-front bytes rest 16 16 (omega (arith, h)))
         ∙ port-unsound (tcp.has_lengths (bytes ++ rest)) (field bytes 0 16 == 0) (field bytes 16 16 == 0) port
         in
-        both f src dst bytes rest None reason.PortZero h len none (unsound src dst (bytes ++ rest) sound)
+        both n f src dst bytes rest None reason.PortZero h len place missing none (unsound src dst (bytes ++ rest) sound)
         (here ∙ decided f.payload_len true false true c bad port flags) (there ∙ decided f.payload_len false false true c bad port flags)
     by false None port flags bad here there none =
-        both f src dst bytes rest None reason.BadFlags h len none (uncontrolled src dst (bytes ++ rest) (control-front bytes rest h ∙ flags))
+        both n f src dst bytes rest None reason.BadFlags h len place missing none (uncontrolled src dst (bytes ++ rest) (control-front bytes rest h ∙ flags))
         (here ∙ decided f.payload_len true false false None bad port flags) (there ∙ decided f.payload_len false false false None bad port flags)
     by false (Some c) port flags bad here there none =
         cut-as _ _ _ _ (part-shape f src dst bytes None reason.HeaderCut h none (here ∙ decided f.payload_len true false false (Some c) bad port flags))
         (whole-shape f src dst bytes rest _ _ h len refl refl)
-        (options-cut (tcp_of src dst false (bytes ++ rest)) f bytes (tcp.header_len bytes) (f.payload_len - tcp.header_len bytes) (tcp_fault (bytes ++ rest) f.payload_len) (tcp_verdict src dst (bytes ++ rest)) clean)
+        (options-cut n (tcp_of src dst false (bytes ++ rest)) f bytes (tcp.header_len bytes) (f.payload_len - tcp.header_len bytes) (tcp_fault (bytes ++ rest) f.payload_len) (tcp_verdict src dst (bytes ++ rest)) clean
+        (omega (arith, place, cut)))
 
-pub cut-tcp : (f : FrameFields) (src dst : IpAddress) (bytes rest : List ℕ) → f ≡ before transport_header f → f.payload_len ≡ length (bytes ++ rest)
-    → IsCutOf (cut_tcp f src dst bytes) (with_tcp f src dst (bytes ++ rest))
-cut-tcp f src dst bytes rest fresh len =
+pub cut-tcp : (n : ℕ) (f : FrameFields) (src dst : IpAddress) (bytes rest : List ℕ) → f ≡ before transport_header f → f.payload_len ≡ length (bytes ++ rest)
+    → n ≡ f.payload_offset + length bytes → length bytes < f.payload_len → IsCutOf n (cut_tcp f src dst bytes) (with_tcp f src dst (bytes ++ rest))
+cut-tcp n f src dst bytes rest fresh len place missing =
     let all = bytes ++ rest in
     let size = longer bytes rest in
     let hl = tcp.header_len bytes in
     elim (cases_lt (length bytes) 20) [
-      | inl few ↦ cut-as _ _ _ _ (cut-few few) refl (tcp-cut f src dst all fresh len)
+      | inl few ↦ cut-as _ _ _ _ (cut-few few) refl (tcp-cut n f src dst all fresh len (omega (arith, place, few)))
       | inr h ↦ elim (cases_lt (length bytes) hl) [
         | inr captured ↦
             let here = fault-here bytes f.payload_len false (lt-false (length bytes) hl captured) in
             let there = fault-front bytes rest f.payload_len false h (lt-false (length all) hl (omega (arith, size, captured))) in
-            both f src dst bytes rest _ _ h len (same h captured) refl here there
+            both n f src dst bytes rest _ _ h len place missing (same h captured) refl here there
         | inl cut ↦ elim (cases_lt f.payload_len hl) [
           | inl wrong ↦
               let one = lengths-are bytes hl true false h refl (le-true 20 hl (omega (arith, h, cut))) (le-false hl (length bytes) cut) in
@@ -284,10 +292,10 @@ cut-tcp f src dst bytes rest fresh len =
               let bad : (nat_lt hl 20 || nat_lt f.payload_len hl) ≡ true = ap (λ (b : Bool). b || nat_lt f.payload_len hl) (lt-false hl 20 (omega (arith, h, cut))) ∙ lt-true f.payload_len hl wrong in
               let here = fault-here bytes f.payload_len _ refl ∙ at-once f.payload_len _ bad in
               let there = fault-front bytes rest f.payload_len _ h refl ∙ at-once f.payload_len _ bad in
-              both f src dst bytes rest None reason.BadLength h len
+              both n f src dst bytes rest None reason.BadLength h len place missing
               (unsound src dst bytes (ap (λ (b : Bool). sound-by b (field bytes 0 16) (field bytes 16 16)) one))
               (unsound src dst all (ap (λ (b : Bool). sound-by b (field all 0 16) (field all 16 16)) two)) here there
-          | inr fits ↦ options-by f src dst bytes rest _ _ (ap (λ (g : FrameFields). g.icmp) fresh) h cut (omega (arith, len, size, fits)) len refl refl
+          | inr fits ↦ options-by n f src dst bytes rest _ _ (ap (λ (g : FrameFields). g.icmp) fresh) h cut (omega (arith, len, size, fits)) len place missing refl refl
         ]
       ]
     ]

@@ -19,7 +19,7 @@ use Rattle.c_structs.specs.declared.codes.Verdict.{Verdict}
 use Rattle.c_structs.specs.declared.codes.Verdict.TheVariants as verdict
 use Rattle.c_structs.specs.declared.types.FrameFields.{FrameFields}
 use Rattle.c_read.proofs.CutBytes.{field-front, le-false, le-true, longer, lt-false, lt-true, range-front}
-use Rattle.c_read.proofs.CutOf.{after_header-choice, cut-as, cut-transport, same-of}
+use Rattle.c_read.proofs.CutOf.{choice-has, IsPast, cut-as, cut-transport, same-of}
 use Rattle.c_read.specs.Captured.{HasHeaders, IsCutOf, before, cut_header, cut_udp, transport_header}
 use Rattle.c_read.specs.FrameFields.{after_header, rejected, rejected_transport, udp_fault, with_udp, with_udp_fields, with_udp_header}
 
@@ -116,20 +116,26 @@ udp-wrong-front f src dst bytes rest h one two =
     ∙ sym (udp-wrong f src dst (bytes ++ rest) (omega (arith, size, h)) two
     ∙ ap (λ (g : FrameFields). rejected_transport g reason.BadLength) (fields-front f bytes rest verdict.None h))
 
+missed : {P Q R : Type 0} → P ⊎ Q → R → P ⊎ (Q × R)
+missed (inl p) r = inl p
+missed (inr q) r = inr (q, r)
+
 -- two verdicts in the same struct
-only-verdict : (f : FrameFields) (bytes : List ℕ) (port : Bool) (n : ℕ) (v w : Verdict) → (verdict_code v ≡ verdict_code w) ⊎ (verdict_code v ≡ 5)
-    → HasHeaders (shape port (with_udp_fields f bytes v) n) (shape port (with_udp_fields f bytes w) n)
-only-verdict f bytes true n v w is = record { checksum = is; fields = refl }
-only-verdict f bytes false n v w is = record { checksum = is; fields = refl }
+only-verdict : (n : ℕ) (f : FrameFields) (bytes : List ℕ) (port : Bool) (len : ℕ) (v w : Verdict) → (verdict_code v ≡ verdict_code w) ⊎ (verdict_code v ≡ 5)
+    → n < f.payload_offset + f.payload_len → n < f.payload_offset + 8 + len
+    → HasHeaders n (shape port (with_udp_fields f bytes v) len) (shape port (with_udp_fields f bytes w) len)
+only-verdict n f bytes true len v w is all part = record { checksum = missed is all; fields = refl }
+only-verdict n f bytes false len v w is all part = record { checksum = missed is part; fields = refl }
 
 cut-verdict : (zero : Bool) (x y : Verdict) → (verdict_code (if zero then x else verdict.ChecksumCut) ≡ verdict_code (if zero then x else y)) ⊎ (verdict_code (if zero then x else verdict.ChecksumCut) ≡ 5)
 cut-verdict true x y = inl refl
 cut-verdict false x y = inr refl
 
 -- some of it was not captured
-udp-part : (f : FrameFields) (src dst : IpAddress) (bytes rest : List ℕ) → 8 ≤ length bytes → length bytes < udp.packet_len bytes → udp.packet_len bytes ≤ length bytes + length rest
-    → IsCutOf (shape (field bytes 16 16 == 0) (with_udp_fields f bytes (cut_udp_verdict src bytes)) (udp.packet_len bytes - 8)) (with_udp f src dst (bytes ++ rest))
-udp-part f src dst bytes rest h cut whole =
+udp-part : (n : ℕ) (f : FrameFields) (src dst : IpAddress) (bytes rest : List ℕ) → 8 ≤ length bytes → length bytes < udp.packet_len bytes → udp.packet_len bytes ≤ length bytes + length rest
+    → udp.packet_len bytes ≤ f.payload_len → n ≡ f.payload_offset + length bytes
+    → IsCutOf n (shape (field bytes 16 16 == 0) (with_udp_fields f bytes (cut_udp_verdict src bytes)) (udp.packet_len bytes - 8)) (with_udp f src dst (bytes ++ rest))
+udp-part n f src dst bytes rest h cut whole room place =
     let all = bytes ++ rest in
     let size = longer bytes rest in
     let len : udp.packet_len all ≡ udp.packet_len bytes = field-front bytes rest 32 16 (omega (arith, h)) in
@@ -143,12 +149,13 @@ udp-part f src dst bytes rest h cut whole =
     cut-as _ _ _ _ refl
     (udp-whole f src dst all (omega (arith, size, h)) lengths
     ∙ shape-front f bytes rest (udp_verdict src dst all) _ _ (udp.packet_len bytes - 8) h found payload)
-    (inl (inl (only-verdict f bytes (field bytes 16 16 == 0) (udp.packet_len bytes - 8) _ _ (cut-verdict (field bytes 48 16 == 0) (zero_udp_verdict src) _))))
+    (inl (inl (only-verdict n f bytes (field bytes 16 16 == 0) (udp.packet_len bytes - 8) _ _ (cut-verdict (field bytes 48 16 == 0) (zero_udp_verdict src) _)
+    (omega (arith, place, cut, room)) (omega (arith, place, cut)))))
 
 -- the header itself was not captured
-udp-cut : (f : FrameFields) (src dst : IpAddress) (bytes : List ℕ) → f ≡ before transport_header f → f.payload_len ≡ length bytes
-    → IsCutOf (cut_header f 8) (with_udp f src dst bytes)
-udp-cut f src dst bytes fresh len = elim (cases_lt (length bytes) 8) [
+udp-cut : (n : ℕ) (f : FrameFields) (src dst : IpAddress) (bytes : List ℕ) → f ≡ before transport_header f → f.payload_len ≡ length bytes → n < f.payload_offset + 8
+    → IsCutOf n (cut_header f 8) (with_udp f src dst bytes)
+udp-cut n f src dst bytes fresh len part = elim (cases_lt (length bytes) 8) [
   | inl few ↦
       same-of _ _ (ap (λ (b : Bool). rejected f (if b then reason.TooShort else reason.HeaderCut)) (lt-true f.payload_len 8 (omega (arith, few, len)))
       ∙ sym (ap (λ (b : Bool). if b then rejected f reason.TooShort else option_map_or (λ u. after_header (with_udp_header f src dst bytes) 8 (length (udp.payload_of bytes))) (udp_of src dst false bytes) (rejected_transport (with_udp_header f src dst bytes) (udp_fault bytes))) (lt-true (length bytes) 8 few)))
@@ -158,7 +165,8 @@ udp-cut f src dst bytes fresh len = elim (cases_lt (length bytes) 8) [
       let h = rejected_transport next (udp_fault bytes) in
       cut-as _ _ _ _ (ap (λ (b : Bool). rejected f (if b then reason.TooShort else reason.HeaderCut)) (lt-false f.payload_len 8 (omega (arith, more, len))))
       (ap (λ (b : Bool). if b then rejected f reason.TooShort else option_map_or (λ u. g) (udp_of src dst false bytes) h) (lt-false (length bytes) 8 more))
-      (cut-transport f _ fresh (after_header-choice (udp_of src dst false bytes) f g h refl refl))
+      (cut-transport n f _ 8 fresh (choice-has (λ k. IsPast f k 8) (udp_of src dst false bytes) (λ u. g) h
+      (λ u. record { kept = refl; begins = refl; ends = refl }) (record { kept = refl; begins = refl; ends = refl })) part)
 ]
 
 -- ---- the packet
@@ -168,14 +176,14 @@ cut-tested : (f : FrameFields) (src dst : IpAddress) (bytes : List ℕ) (a c : B
     → cut_udp f src dst bytes ≡ (if a || c then with_udp f src dst bytes else shape (field bytes 16 16 == 0) (with_udp_fields f bytes (cut_udp_verdict src bytes)) (udp.packet_len bytes - 8))
 cut-tested f src dst bytes a c h first last = rw (lt-false (length bytes) 8 h, first, last) refl
 
-pub cut-udp : (f : FrameFields) (src dst : IpAddress) (bytes rest : List ℕ) → f ≡ before transport_header f → f.payload_len ≡ length (bytes ++ rest)
-    → IsCutOf (cut_udp f src dst bytes) (with_udp f src dst (bytes ++ rest))
-cut-udp f src dst bytes rest fresh is =
+pub cut-udp : (n : ℕ) (f : FrameFields) (src dst : IpAddress) (bytes rest : List ℕ) → f ≡ before transport_header f → f.payload_len ≡ length (bytes ++ rest)
+    → n ≡ f.payload_offset + length bytes → IsCutOf n (cut_udp f src dst bytes) (with_udp f src dst (bytes ++ rest))
+cut-udp n f src dst bytes rest fresh is place =
     let all = bytes ++ rest in
     let size = longer bytes rest in
     let len = udp.packet_len bytes in
     elim (cases_lt (length bytes) 8) [
-      | inl few ↦ cut-as _ _ _ _ (cut-few few) refl (udp-cut f src dst all fresh is)
+      | inl few ↦ cut-as _ _ _ _ (cut-few few) refl (udp-cut n f src dst all fresh is (omega (arith, place, few)))
       | inr h ↦ elim (cases_lt (length bytes) len) [
         | inr whole ↦
             let tested = cut-tested f src dst bytes true _ h (le-true _ _ whole) refl in
@@ -195,7 +203,7 @@ cut-udp f src dst bytes rest fresh is =
               same-of _ _ (cut-tested f src dst bytes false true h (le-false _ _ cut) (lt-true _ _ wrong) ∙ udp-wrong-front f src dst bytes rest h one two)
           | inr fits ↦
               cut-as _ _ _ _ (cut-tested f src dst bytes false false h (le-false _ _ cut) (lt-false _ _ fits)) refl
-              (udp-part f src dst bytes rest h cut (omega (arith, is, size, fits)))
+              (udp-part n f src dst bytes rest h cut (omega (arith, is, size, fits)) fits place)
         ]
       ]
     ]

@@ -13,9 +13,11 @@ mod FieldsOf
 mod FrameOptions
 pub mod InFrame
 mod Messages
+mod ParsedLine
 mod RejectedApart
 mod Steps
 mod StoredFrame
 mod StoredHeaders
 mod StoredParts
 mod TcpUsual
+mod Untagged

@@ -1,5 +1,5 @@
 -- Which frames and packets have the struct of an ICMP message, and what it stores.
-use Rattle.std.proofs.Common.{ℕ, ◌≡◌, ◌≢◌, ◌∙◌, ◌≤◌, ◌<◌, ◌-◌, ◌++◌, ◌==◌, inl, inr, nat_lt, if◌then◌else◌, Bool, true, false, List, Option, None, Some, Result, Ok, Err, drop, length, length-append, replicate, refl, sym, ap, subst, arith}
+use Rattle.std.proofs.Common.{ℕ, ◌≡◌, ◌≢◌, ◌∙◌, ◌≤◌, ◌<◌, ◌-◌, ◌++◌, ◌==◌, inl, inr, ◌+◌, nat_lt, if◌then◌else◌, Bool, true, false, List, Option, None, Some, Result, Ok, Err, drop, length, length-append, replicate, refl, sym, ap, subst, arith}
 use Rattle.std.specs.Bool.{⊤}
 use Rattle.std.proofs.lemmas.Bool.Decides.{nat_tests}
 use Rattle.std.proofs.lemmas.List.{length-replicate}
@@ -179,7 +179,7 @@ packet-tells bytes =
 kept : {Q : Type 0} (f g : FrameFields) → f.transport ≡ g.transport → f.icmp ≡ g.icmp → Tells Q g → Tells Q f
 kept f g transport icmp t = record { named = λ e. t.named (sym transport ∙ e); none = λ other. icmp ∙ t.none (λ e. other (transport ∙ e)) }
 
-cut-tells : {Q : Type 0} (f g : FrameFields) → IsCutOf f g → Tells Q g → Tells Q f
+cut-tells : {Q : Type 0} {n : ℕ} (f g : FrameFields) → IsCutOf n f g → Tells Q g → Tells Q f
 cut-tells f g (inl (inl h)) t = kept f g (ap (λ (k : FrameFields). k.transport) h.fields) (ap (λ (k : FrameFields). k.icmp) h.fields) t
 cut-tells f g (inl (inr l)) t = silent f 0 (ap (λ (k : FrameFields). k.transport) l.fields) (λ e. omega (arith, e)) (ap (λ (k : FrameFields). k.icmp) l.fields)
 cut-tells f g (inr (fragment_header, at)) t = kept f g (ap (λ (k : FrameFields). k.transport) at.fields) (ap (λ (k : FrameFields). k.icmp) at.fields) t
@@ -215,7 +215,7 @@ after-tells len bytes t (Ok found) =
     let count = padding-len (f.payload_len - length rest) in
     omega (arith, less, some, count)
     in
-    cut-tells _ _ (cut-carried f type rest missing refl all) (carried-tells f type (rest ++ missing) fresh (λ ip same is. tt)))
+    cut-tells _ _ (cut-carried (f.payload_offset + length rest) f type rest missing refl all refl) (carried-tells f type (rest ++ missing) fresh (λ ip same is. tt)))
     (λ whole. carried-tells f type rest fresh (λ ip same is. tt))
 after-tells len bytes t (Err (fault.TooShort least)) = new (cut_header (nothing_of len) least) (record { transport = refl; icmp = refl })
 after-tells len bytes t (Err fault.BadVersion) = new (rejected (nothing_of len) reason.BadVersion) (record { transport = refl; icmp = refl })

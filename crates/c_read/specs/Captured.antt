@@ -1,7 +1,7 @@
 -- The struct of a frame of which only the first bytes were captured. The payload's length in the struct counts all
 -- bytes of the frame. The bytes are those that were captured, and fewer.
 -- Pinned by: `CutWorked`
-use Rattle.std.specs.Prelude.{ℕ, ◌≡◌, ◌⊎◌, ◌+◌, ◌-◌, ◌==◌, ◌||◌, not, nat_le, nat_lt, if◌then◌else◌, Bool, false, List, drop, length}
+use Rattle.std.specs.Prelude.{ℕ, ◌≡◌, ◌<◌, ◌⊎◌, ◌+◌, ◌-◌, ◌==◌, ◌||◌, not, nat_le, nat_lt, if◌then◌else◌, Bool, false, List, drop, length}
 use Rattle.std.specs.Option.{option_map_or}
 use Rattle.ip_wire.specs.Ethernet as ethernet
 use Rattle.ip_wire.specs.Field.{field}
@@ -15,13 +15,15 @@ use Rattle.ip_wire.specs.Udp as udp
 use Rattle.ip_wire.specs.Types.{EthernetProtocol, EthernetRepr, IpAddress, IpProtocol, IpRepr, Ipv4, Ipv6}
 use Rattle.ip_wire.specs.declared.EthernetProtocol.TheVariants as ethertype
 use Rattle.ip_wire.specs.declared.IpProtocol.TheVariants as protocol
-use Rattle.c_structs.specs.Codes.{reason_code, transport_code, verdict_code}
+use Rattle.c_structs.specs.Codes.{network_code, reason_code, transport_code, verdict_code}
 use Rattle.c_structs.specs.Nothing.{nothing_of, no_icmp, no_tcp}
 use Rattle.c_structs.specs.Verdicts.{cut_udp_verdict}
+use Rattle.c_structs.specs.declared.codes.NetworkKind.TheVariants as network_kind
 use Rattle.c_structs.specs.declared.codes.Reason.TheVariants as reason
 use Rattle.c_structs.specs.declared.codes.TransportKind.TheVariants as transport
 use Rattle.c_structs.specs.declared.codes.Verdict.TheVariants as verdict
 use Rattle.c_structs.specs.declared.types.FrameFields.{FrameFields}
+use Rattle.c_read.specs.Summary.{transport_of}
 use Rattle.c_read.specs.FrameFields.{bare_of, after_header, fields_of, has_message, ipv4_fault, ipv6_fault, packet_fields_of, rejected, rejected_transport, tcp_fault, with_arp, with_fragment_header, with_icmp, with_ipv4, with_ipv4_fields, with_ipv6, with_ipv6_fields, with_link, with_tcp_fields, with_udp, with_udp_fields}
 
 -- ---- the headers
@@ -180,19 +182,50 @@ before options g = record g {
   icmp = no_icmp;
 }
 
--- a header was cut: the fields before it are those of the whole frame, and the payload begins at it
-pub record IsCutAt (h : CutHeader) (f g : FrameFields) : Type 0 where
+-- where the header after the network header begins, or the payload if there is none
+abbrev pub after_network : FrameFields → ℕ
+after_network g = if transport_of g == transport_code transport.None then g.payload_offset else g.transport_offset
+
+-- the end of the payload
+abbrev pub payload_end : FrameFields → ℕ
+payload_end g = g.payload_offset + g.payload_len
+
+-- Where a header begins, by the struct of the whole frame. A rejected network header begins where the payload does. TCP
+-- options have the place of their header.
+abbrev pub begin_of : CutHeader → FrameFields → ℕ
+begin_of link g = 0
+begin_of network g = if g.network == network_code network_kind.None then g.payload_offset else g.network_offset
+begin_of fragment_header g = g.payload_offset
+begin_of transport_header g = g.transport_offset
+begin_of options g = g.transport_offset
+
+-- Where a header ends, by the struct of the whole frame. A rejected network header may reach to the end of the frame. The
+-- header of the transport ends without its options.
+abbrev pub end_of : CutHeader → FrameFields → ℕ
+end_of link g = begin_of network g
+end_of network g = if g.network == network_code network_kind.None then payload_end g else after_network g
+end_of fragment_header g = g.payload_offset + 8
+end_of transport_header g = g.transport_offset + (if transport_of g == transport_code transport.Udp then 8 else 20)
+end_of options g = g.transport_offset + g.tcp.header_len
+
+-- The first n bytes were captured, and end before this header does: the fields before it are those of the whole frame,
+-- and the payload begins at it.
+pub record IsCutAt (n : ℕ) (h : CutHeader) (f g : FrameFields) : Type 0 where
   pub reason : f.reason ≡ reason_code reason.HeaderCut
+  pub offset : f.payload_offset ≡ begin_of h g
+  pub missing : n < end_of h g
   pub fields : f ≡ record (before h g) { reason = f.reason; payload_offset = f.payload_offset; payload_len = f.payload_len }
 
 -- no header was cut: all fields are those of the whole frame, but a checksum may cover bytes that are missing
-pub record HasHeaders (f g : FrameFields) : Type 0 where
-  pub checksum : (f.transport_checksum ≡ g.transport_checksum) ⊎ (f.transport_checksum ≡ verdict_code verdict.ChecksumCut)
+pub record HasHeaders (n : ℕ) (f g : FrameFields) : Type 0 where
+  pub checksum : (f.transport_checksum ≡ g.transport_checksum)
+      ⊎ ((f.transport_checksum ≡ verdict_code verdict.ChecksumCut) × (n < payload_end g))
   pub fields : f ≡ record g { transport_checksum = f.transport_checksum }
 
 -- the header of an ICMP message was cut, and is not rejected: the message is payload
-pub record LacksMessage (f g : FrameFields) : Type 0 where
+pub record LacksMessage (n : ℕ) (f g : FrameFields) : Type 0 where
   pub named : g.transport ≡ transport_code transport.Icmp
+  pub missing : n < g.transport_offset + 8
   pub fields : f ≡ record g {
     transport_offset = 0;
     payload_offset = g.transport_offset;
@@ -202,6 +235,6 @@ pub record LacksMessage (f g : FrameFields) : Type 0 where
     icmp = no_icmp;
   }
 
--- the fields of a frame of which only a part was captured, by those of the whole frame
-abbrev pub IsCutOf : FrameFields → FrameFields → Type 0
-IsCutOf f g = (HasHeaders f g ⊎ LacksMessage f g) ⊎ ((h : CutHeader) × IsCutAt h f g)
+-- the fields of a frame of which the first n bytes were captured, by those of the whole frame
+abbrev pub IsCutOf : ℕ → FrameFields → FrameFields → Type 0
+IsCutOf n f g = (HasHeaders n f g ⊎ LacksMessage n f g) ⊎ ((h : CutHeader) × IsCutAt n h f g)

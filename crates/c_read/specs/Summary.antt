@@ -3,8 +3,10 @@
 use Rattle.std.specs.Prelude.{ℕ, ◌++◌, ◌==◌, ◌||◌, ◌/◌, ◌%◌, if◌then◌else◌, Bool, List, [], Option, Some, None, codes, decimal}
 use Rattle.ip_wire.specs.Endpoint.{endpoint_at, endpoint_text}
 use Rattle.ip_wire.specs.IpAddress.{address_text}
+use Rattle.ip_wire.specs.Ip.{dst_addr_of, src_addr_of}
 use Rattle.ip_wire.specs.Printed.{dashed, hex_byte}
-use Rattle.ip_wire.specs.Types.{IpAddress}
+use Rattle.ip_wire.specs.TcpRepr.{TcpHeader}
+use Rattle.ip_wire.specs.Types.{IpAddress, IpRepr, Ipv4, Ipv6, UdpRepr}
 use Rattle.c_structs.specs.Addresses.{ip_of}
 use Rattle.c_structs.specs.declared.types.Arp.{Arp}
 use Rattle.c_structs.specs.declared.types.Ethernet.{Ethernet}
@@ -124,3 +126,30 @@ abbrev pub frame_line : FrameFields → ℕ → ℕ → List ℕ
 frame_line f icmp_type icmp_code =
     ends_text f (ip_of f.src.addr) (ip_of f.dst.addr) ++ header_text f icmp_type icmp_code ++ codes " len=" ++ decimal f.payload_len
     ++ ipv4_note f.ipv4_checksum ++ transport_note f.transport_checksum ++ reason_note f.reason
+
+-- ---- the line of a packet with ports, by the values that it parses as
+
+-- the version of an IP header
+abbrev pub version_text : IpRepr → List ℕ
+version_text (Ipv4 v) = codes "IPv4 "
+version_text (Ipv6 v) = codes "IPv6 "
+
+-- the source and the destination of a packet with these ports
+abbrev pub endpoints_text : IpRepr → ℕ → ℕ → List ℕ
+endpoints_text v src_port dst_port =
+    version_text v ++ endpoint_text (endpoint_at (src_addr_of v) src_port)
+    ++ codes " > " ++ endpoint_text (endpoint_at (dst_addr_of v) dst_port)
+
+-- the line of a UDP packet with a payload of this length, without what its checksums say
+abbrev pub udp_line : IpRepr → UdpRepr → ℕ → List ℕ
+udp_line v ports len = endpoints_text v ports.src_port ports.dst_port ++ codes " UDP" ++ codes " len=" ++ decimal len
+
+-- the line of a TCP segment with a payload of this length, without what its checksums say; the struct has its flags and
+-- numbers
+abbrev pub tcp_line : IpRepr → TcpHeader → Tcp → ℕ → List ℕ
+tcp_line v header fields len =
+    endpoints_text v header.src_port header.dst_port ++ tcp_text fields ++ codes " len=" ++ decimal len
+
+-- the line with what the checksums of a frame say
+abbrev pub with_verdicts : List ℕ → FrameFields → List ℕ
+with_verdicts line f = line ++ ipv4_note f.ipv4_checksum ++ transport_note f.transport_checksum

@@ -31,7 +31,7 @@ use wire_icmp::{ICMP_HEADER_LEN, IcmpPacket};
 pub fn read_captured(fields: &mut FrameFields, captured: &[u8], len: usize)
     requires part { length captured.now < len }
     ensures value { fields.new ≡ captured_of (take len captured.now) (len - length captured.now) }
-    ensures cut { (rest : List ℕ) → length captured.now + length rest ≡ len → IsCutOf fields.new (fields_of (captured.now ++ rest)) }
+    ensures cut { (rest : List ℕ) → length captured.now + length rest ≡ len → IsCutOf (length captured.now) fields.new (fields_of (captured.now ++ rest)) }
     ensures within { fields.new.payload_offset + fields.new.payload_len ≤ len }
 {
     *fields = FrameFields::nothing(len);
@@ -46,7 +46,7 @@ pub fn read_captured(fields: &mut FrameFields, captured: &[u8], len: usize)
 pub fn read_captured_packet(fields: &mut FrameFields, captured: &[u8], len: usize)
     requires part { length captured.now < len }
     ensures value { fields.new ≡ captured_packet_of (take len captured.now) (len - length captured.now) }
-    ensures cut { (rest : List ℕ) → length captured.now + length rest ≡ len → IsCutOf fields.new (packet_fields_of (captured.now ++ rest)) }
+    ensures cut { (rest : List ℕ) → length captured.now + length rest ≡ len → IsCutOf (length captured.now) fields.new (packet_fields_of (captured.now ++ rest)) }
     ensures within { fields.new.payload_offset + fields.new.payload_len ≤ len }
 {
     *fields = FrameFields::nothing(len);

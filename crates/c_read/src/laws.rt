@@ -1,21 +1,32 @@
 //! Laws of the stored values. Most bodies are empty: the law follows from the definitions.
 
-ghost use Rattle.std.specs.Prelude.{◌≡◌, ◌↔◌, ◌≢◌, ◌≤◌, drop, false, length, true};
+ghost use Rattle.std.specs.Prelude.{◌≡◌, ◌↔◌, ◌≢◌, ◌≤◌, ◌<◌, List, None, Some, drop, false, length, true, ℕ};
 ghost use Rattle.ip_wire.specs.Ethernet as ethernet;
-ghost use Rattle.ip_wire.specs.Frame.{Carried, ReadsFrame, type_of};
+ghost use Rattle.ip_wire.specs.Frame.{Carried, ReadsFrame, datagram, packet, segment, type_of};
 ghost use Rattle.ip_wire.specs.Ip.{ReadsHeader};
 ghost use Rattle.ip_wire.specs.Ipv4 as ipv4;
 ghost use Rattle.ip_wire.specs.declared.EthernetProtocol.TheVariants as ethertype;
-ghost use Rattle.ip_wire.specs.Types.{EthernetRepr, IpRepr, Ipv4Repr};
+ghost use Rattle.ip_wire.specs.TcpRepr.{TcpHeader};
+ghost use Rattle.ip_wire.specs.Types.{EthernetRepr, IpRepr, Ipv4Repr, UdpRepr};
+ghost use Rattle.ip_wire.specs.Field.{field};
+ghost use Rattle.wire_link.specs.Link.{is_tag};
 ghost use Rattle.c_read.specs.FrameFields.{fields_of};
+ghost use Rattle.c_read.specs.Summary.{tcp_line, udp_line, with_verdicts};
+ghost use Rattle.c_structs.specs.Written.{Prints};
 ghost use Rattle.c_read.specs.Stored.{HasVerdicts, IsTypeOf, Stores, StoresFragment, StoresRejected, StoresUnread, in_frame, unchecked};
 
 mod messages;
 
+use crate::captured::read_captured;
 use crate::frame_fields::{read_frame, read_packet};
+use crate::links::read_linked;
+use crate::summary::print_frame;
 use c_structs::FrameFields;
 use ip_wire::{ChecksumCapabilities, ETHERNET_HEADER_LEN};
 pub use messages::{messages_are_stored, only_messages_have_icmp, other_frames_have_no_icmp};
+
+// The number of the link type of Ethernet (www.tcpdump.org/linktypes.html).
+const LINKTYPE_ETHERNET: u32 = 1;
 
 /// The struct of a frame that is parsed whole stores each value of its headers under the name of the
 /// value, and locates the innermost payload. The verified checksums are valid exactly if their fields
@@ -54,4 +65,38 @@ pub fn frame_has_packet(frame: &[u8], whole: &mut FrameFields, packet: &mut Fram
 {
     read_frame(whole, frame);
     read_packet(packet, &frame[ETHERNET_HEADER_LEN..]);
+}
+
+/// A frame without VLAN tags of which a part was captured, read by the link type of Ethernet, is stored as by itself.
+pub fn untagged_is_captured(
+    captured: &[u8],
+    len: usize,
+    linked: &mut FrameFields,
+    frame: &mut FrameFields,
+)
+    requires part { length captured.now < len }
+    ensures { is_tag (field captured.now 96 16) ≡ false → linked.new ≡ frame.new }
+{
+    read_linked(linked, LINKTYPE_ETHERNET, captured, len);
+    read_captured(frame, captured, len);
+}
+
+/// A whole frame without VLAN tags, read by the link type of Ethernet, is stored as by itself.
+pub fn untagged_is_read(bytes: &[u8], linked: &mut FrameFields, frame: &mut FrameFields)
+    ensures { is_tag (field bytes.now 96 16) ≡ false → linked.new ≡ frame.new }
+{
+    read_linked(linked, LINKTYPE_ETHERNET, bytes, bytes.len());
+    read_frame(frame, bytes);
+}
+
+/// The line of a frame with a UDP packet or a TCP segment has the addresses, the ports and the length of the payload that
+/// the frame parses as.
+pub fn line_is_parsed(frame: &[u8], fields: &mut FrameFields, out: &mut [u8]) -> isize
+    ensures udp { (v : EthernetRepr) (ip : IpRepr) (ports : UdpRepr) (payload : List ℕ) → ReadsFrame unchecked frame.now v (packet ip (datagram ports payload))
+        → Prints (Some (with_verdicts (udp_line ip ports (length payload)) fields.new)) None out.old out.new result }
+    ensures tcp { (v : EthernetRepr) (ip : IpRepr) (header : TcpHeader) (payload : List ℕ) → ReadsFrame unchecked frame.now v (packet ip (segment header payload))
+        → Prints (Some (with_verdicts (tcp_line ip header fields.new.tcp (length payload)) fields.new)) None out.old out.new result }
+{
+    read_frame(fields, frame);
+    print_frame(fields, fields.icmp.msg_type, fields.icmp.code, out)
 }

@@ -22,7 +22,6 @@ use Rattle.ip_wire.specs.Ipv4 as ipv4
 use Rattle.ip_wire.specs.Ipv6 as ipv6
 use Rattle.ip_wire.specs.Packet.{IsPacket, packet_of}
 use Rattle.ip_wire.specs.Protocol.{protocol_of}
-use Rattle.ip_wire.specs.Tcp as tcp
 use Rattle.ip_wire.specs.Tcp.{Verifies}
 use Rattle.ip_wire.specs.TcpRepr.{HasControl, Reads, TcpHeader, header_of}
 use Rattle.ip_wire.specs.TcpSegmentSize.{with_max_seg_size}

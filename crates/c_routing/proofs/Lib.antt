@@ -1,6 +1,7 @@
 mod Clampings
 mod Editing
 mod Forwards
+mod Fragmenting
 mod NatCalls
 mod RouteChoice
 mod RouteLists

@@ -1,6 +1,7 @@
 pub mod Clamped
 pub mod Edited
 pub mod Forwarded
+pub mod Fragmented
 pub mod Lengths
 pub mod Nat
 pub mod Rejections

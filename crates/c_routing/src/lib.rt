@@ -4,6 +4,7 @@
 mod clamping;
 mod edits;
 mod forwarding;
+mod fragments;
 mod lengths;
 mod nat;
 mod rejections;
@@ -16,6 +17,7 @@ pub use edits::{
     fill_checksum, offload_of, set_addr, set_bytes, set_dscp, set_hop_limit, set_port,
 };
 pub use forwarding::forward_frame;
+pub use fragments::write_fragment;
 pub use nat::{translate_in, translate_out};
 pub use rejections::Rejection;
 pub use routes::{Route, choose_by_table, choose_route, index_routes, make_table};

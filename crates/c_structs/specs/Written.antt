@@ -34,6 +34,7 @@ failure_number failure.OptionsTooLong = 8
 failure_number failure.PayloadTooLong = 9
 failure_number failure.NoHeader = 10
 failure_number failure.NoRoom = 11
+failure_number failure.DontFragment = 12
 
 -- what a call returns for a failure: its number, times -(1 << 40)
 abbrev pub failure_code : Failure → ℤ

@@ -31,6 +31,8 @@ pub enum Failure {
     NoHeader,
     /// The result is longer than the slice.
     NoRoom,
+    /// The packet is longer than the MTU, and has DF.
+    DontFragment,
 }
 
 impl Failure {

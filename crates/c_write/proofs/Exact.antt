@@ -41,7 +41,7 @@ pub and_then-some : {A B : Type 0} (f : A → Option B) (b : Bool) (o : Option A
 and_then-some f b None each = refl
 and_then-some f b (Some x) each = each x
 
-or-none : {T : Type 0} (o p : Option T) → is_none (option_or o p) ≡ is_none o && is_none p
+pub or-none : {T : Type 0} (o p : Option T) → is_none (option_or o p) ≡ is_none o && is_none p
 or-none None p = refl
 or-none (Some x) p = refl
 

@@ -20,21 +20,21 @@ use Rattle.c_structs.specs.declared.types.TcpOptions.{TcpOptions}
 
 -- ---- options
 
-and_then-of : {A B : Type 0} (f : A → Option B) (b : Bool) (o : Option A) → ((x : A) → o ≡ Some x → is_some (f x) ≡ b)
+pub and_then-of : {A B : Type 0} (f : A → Option B) (b : Bool) (o : Option A) → ((x : A) → o ≡ Some x → is_some (f x) ≡ b)
     → is_some (option_and_then f o) ≡ is_some o && b
 and_then-of f b None each = refl
 and_then-of f b (Some x) each = each x refl
 
 -- ---- the headers
 
-framed-exact : (f : FrameFields) (number : ℕ) (packet : List ℕ)
+pub framed-exact : (f : FrameFields) (number : ℕ) (packet : List ℕ)
     → is_some (framed f number packet) ≡ is_none (ip_failure f.ip f.src.addr f.dst.addr (length packet)) && is_whole f.ip
 framed-exact f number packet =
     some_map (λ v. headers_bytes f v ++ packet) (ip_header f number (length packet))
     ∙ and_then-some (λ v. only_if (is_whole f.ip) v) (is_whole f.ip) (ip_value f.ip number f.src.addr f.dst.addr (length packet)) (λ v. only-some (is_whole f.ip) v)
     ∙ ap (λ b. b && is_whole f.ip) (ip-value-exact f.ip number (length packet) f.src.addr f.dst.addr)
 
-most-fits : (version : ℕ) → most_payload version ≤ 65535
+pub most-fits : (version : ℕ) → most_payload version ≤ 65535
 most-fits version = grind (arith, nat_tests)
 
 -- ---- UDP
@@ -54,8 +54,8 @@ not-whole true true = refl
 not-whole true false = refl
 not-whole false c = refl
 
--- the tests of the packet and of the header before it, in one order
-udp-tests : (pair : Option Failure) (port hop fields whole : Bool) (most n : ℕ) → most ≤ 65535
+-- the tests of a packet whose header has 8 bytes and of the header before it, in one order
+pub udp-tests : (pair : Option Failure) (port hop fields whole : Bool) (most n : ℕ) → most ≤ 65535
     → is_none (option_or pair (if not port then Some failure.NoPort else if nat_lt 65527 n then Some failure.PayloadTooLong else None))
     && (is_none (option_or pair (if hop then Some failure.NoHopLimit else if not fields then Some failure.BadField
     else if nat_lt most (8 + n) then Some failure.PayloadTooLong else None)) && whole)

@@ -1,6 +1,6 @@
 mod ArpKept
-mod Exact
-mod ExactFrames
+pub mod Exact
+pub mod ExactFrames
 mod Filled
 pub mod Framed
 mod Headed

@@ -1,10 +1,8 @@
-//! What needs each law of the applications, and the contracts of their calls: a call of each. If one says less, one of
-//! these functions is no longer proved.
+//! What follows from the contracts and laws of the applications: figures of RFCs, and that two calls with equal
+//! arguments return and write the same.
 #![tactic(auto)]
 
-mod host;
 mod layouts;
 mod nat;
-mod nat_calls;
 mod router;
 mod short;

@@ -1,85 +1,242 @@
-//! Needs the laws of the NAT.
+//! What follows from the contracts of the calls of the NAT, and the laws of its table.
 
-ghost use Rattle.std.specs.Prelude.{◌≡◌, ◌≢◌, ◌∷◌, [], IfErr, IsOk, List, OnErr, OnOk, ℕ};
-ghost use Rattle.app_nat.specs.Flows.{IsAnswer, LeadsToPorts};
-ghost use Rattle.app_nat.specs.Nat.{HasUsualChecksums, IsPacket, IsTranslated, IsUntranslated, addr_of, port_of, translated};
-ghost use Rattle.app_nat.specs.Table.{MapsTo};
-ghost use Rattle.app_nat.specs.declared.mapping.Ipv4Endpoint.{Ipv4Endpoint};
-ghost use Rattle.app_nat.specs.declared.packet.Packet.{Packet};
+ghost use Rattle.std.specs.Prelude.{◌≡◌, IfSome, length};
+ghost use Rattle.app_nat.specs.Nat.{IsPacket};
+ghost use Rattle.app_nat.specs.Table.{IsTable, mapping_at};
 
-use app_nat::{Mapping, Nat, Protocol, Rejection, Side, laws};
+use app_nat::laws::table as laws;
+use app_nat::{
+    Event, Ipv4Endpoint, Mapping, Nat, Packet, Protocol, Rejection, Side, find, inside_of,
+    mappings_for, open, port_of, translate, translate_in, translate_out,
+};
 use ip_wire::Ipv4Address;
 
-mod table;
-
-/// The packet was from or to 10.0.0.1 and port 1. It is again, in the same bytes.
-fn translation_is_undone(frame: &[u8], side: Side, addr: Ipv4Address, port: u16)
-    requires { HasUsualChecksums frame.now }
-    ensures { (there back : List ℕ) (was : IsTranslated frame.now there side addr port)
-        → addr_of side was.header ≡ 10 ∷ 0 ∷ 0 ∷ 1 ∷ [] → port_of side was.transport ≡ 1
-        → IsTranslated there back side (10 ∷ 0 ∷ 0 ∷ 1 ∷ []) 1 → back ≡ frame.now }
+/// A frame goes out in one way, or stays inside for one reason, if no endpoint has two mappings.
+#[tactic(auto, using(crate::proofs::NatsOnce::out_returned, crate::proofs::NatsOnce::out_table, crate::proofs::NatsOnce::out_frame))]
+fn translate_out_once(
+    nat: &Nat,
+    mappings: &mut [Mapping],
+    others: &mut [Mapping],
+    now: u64,
+    frame: &mut [u8],
+    other: &mut [u8],
+) -> (Result<(), Rejection>, Result<(), Rejection>)
+    requires mappings { mappings.old ≡ others.old }
+    requires frame { frame.old ≡ other.old }
+    requires table { IsTable nat.now mappings.old now }
+    ensures returned { result.0 ≡ result.1 }
+    ensures mappings { mappings.new ≡ others.new }
+    ensures frame { frame.new ≡ other.new }
 {
-    laws::translation_is_undone(frame, side, addr, port);
+    (
+        translate_out(nat, mappings, now, frame),
+        translate_out(nat, others, now, other),
+    )
 }
 
-/// A frame is the same after it was translated back, and an error comes from the first translation.
-fn translate_back(
+/// A frame comes in in one way, or stays outside for one reason.
+#[tactic(auto, using(crate::proofs::NatsOnce::in_returned, crate::proofs::NatsOnce::in_table, crate::proofs::NatsOnce::in_frame))]
+fn translate_in_once(
+    nat: &Nat,
+    mappings: &mut [Mapping],
+    others: &mut [Mapping],
+    now: u64,
     frame: &mut [u8],
+    other: &mut [u8],
+) -> (Result<(), Rejection>, Result<(), Rejection>)
+    requires mappings { mappings.old ≡ others.old }
+    requires frame { frame.old ≡ other.old }
+    ensures returned { result.0 ≡ result.1 }
+    ensures mappings { mappings.new ≡ others.new }
+    ensures frame { frame.new ≡ other.new }
+{
+    (
+        translate_in(nat, mappings, now, frame),
+        translate_in(nat, others, now, other),
+    )
+}
+
+/// An endpoint gets one port, or none.
+#[tactic(auto, using(crate::proofs::NatsOnce::open_returned, crate::proofs::NatsOnce::open_table))]
+fn open_once(
+    nat: &Nat,
+    mappings: &mut [Mapping],
+    others: &mut [Mapping],
+    now: u64,
+    event: Event,
+    inside: &Ipv4Endpoint,
+    remote: &Ipv4Endpoint,
+) -> (Option<u16>, Option<u16>)
+    requires { mappings.old ≡ others.old }
+    ensures returned { result.0 ≡ result.1 }
+    ensures mappings { mappings.new ≡ others.new }
+{
+    (
+        open(nat, mappings, now, event, inside, remote),
+        open(nat, others, now, event, inside, remote),
+    )
+}
+
+/// A port leads to one endpoint, or to none, and its mapping changes in one way.
+#[tactic(auto, using(crate::proofs::NatsOnce::find_returned, crate::proofs::NatsOnce::find_table))]
+fn find_once(
+    nat: &Nat,
+    mappings: &mut [Mapping],
+    others: &mut [Mapping],
+    now: u64,
+    event: Event,
+    port: u16,
+    remote: &Ipv4Endpoint,
+) -> (Option<Ipv4Endpoint>, Option<Ipv4Endpoint>)
+    requires { mappings.old ≡ others.old }
+    ensures returned { result.0 ≡ result.1 }
+    ensures mappings { mappings.new ≡ others.new }
+{
+    (
+        find(nat, mappings, now, event, port, remote),
+        find(nat, others, now, event, port, remote),
+    )
+}
+
+/// A port leads to one endpoint, or to none.
+#[tactic(auto, using(crate::proofs::NatsOnce::inside_results))]
+fn inside_of_once(
+    nat: &Nat,
+    mappings: &[Mapping],
+    now: u64,
+    protocol: Protocol,
+    port: u16,
+) -> (Option<Ipv4Endpoint>, Option<Ipv4Endpoint>)
+    ensures { result.0 ≡ result.1 }
+{
+    (
+        inside_of(nat, mappings, now, protocol, port),
+        inside_of(nat, mappings, now, protocol, port),
+    )
+}
+
+/// An endpoint has one port, or none, if no endpoint has two.
+#[tactic(auto, using(crate::proofs::NatsOnce::port_results))]
+fn port_of_once(
+    nat: &Nat,
+    mappings: &[Mapping],
+    now: u64,
+    protocol: Protocol,
+    inside: &Ipv4Endpoint,
+) -> (Option<u16>, Option<u16>)
+    requires { IsTable nat.now mappings.now now }
+    ensures { result.0 ≡ result.1 }
+{
+    (
+        port_of(nat, mappings, now, protocol, inside),
+        port_of(nat, mappings, now, protocol, inside),
+    )
+}
+
+/// A frame is translated in one way, or rejected for one reason.
+#[tactic(auto, using(crate::proofs::NatsOnce::translate_returned, crate::proofs::NatsOnce::translate_frame))]
+fn translate_once(
+    frame: &mut [u8],
+    other: &mut [u8],
     side: Side,
     addr: Ipv4Address,
     port: u16,
-) -> Result<(), Rejection>
-    requires { HasUsualChecksums frame.old }
-    ensures same { frame.new ≡ frame.old }
-    ensures rejected { IfErr result (IsUntranslated frame.old side port) }
+) -> (Result<(), Rejection>, Result<(), Rejection>)
+    requires { frame.old ≡ other.old }
+    ensures returned { result.0 ≡ result.1 }
+    ensures frame { frame.new ≡ other.new }
 {
-    laws::translate_back(frame, side, addr, port)
+    (
+        translate(frame, side, addr, port),
+        translate(other, side, addr, port),
+    )
 }
 
-/// After a frame went out no mapping of UDP or TCP leads to port 0, if none did before.
-fn no_mapping_leads_to_zero(
-    nat: &Nat,
-    mappings: &mut [Mapping],
-    now: u64,
+/// A frame carries one packet, or is rejected for one reason.
+#[tactic(auto, using(crate::proofs::NatsOnce::parse_results))]
+fn packet_once(frame: &[u8]) -> (Result<Packet, Rejection>, Result<Packet, Rejection>)
+    ensures { result.0 ≡ result.1 }
+{
+    (Packet::parse(frame), Packet::parse(frame))
+}
+
+/// The frame of a packet is rewritten in one way, or not at all.
+#[tactic(auto, using(crate::proofs::NatsOnce::rewrite_returned, crate::proofs::NatsOnce::rewrite_frame))]
+fn rewrite_once(
+    packet: &Packet,
     frame: &mut [u8],
-) -> Result<(), Rejection>
-    requires { LeadsToPorts nat.now mappings.old now }
-    ensures udp { (port : ℕ) (inside : Ipv4Endpoint) → MapsTo nat.now mappings.new now Protocol.Udp port inside → inside.port ≢ 0 }
-    ensures tcp { (port : ℕ) (inside : Ipv4Endpoint) → MapsTo nat.now mappings.new now Protocol.Tcp port inside → inside.port ≢ 0 }
+    other: &mut [u8],
+    side: Side,
+    addr: Ipv4Address,
+    port: u16,
+) -> (Result<(), Rejection>, Result<(), Rejection>)
+    requires carries { IsPacket frame.old packet.now }
+    requires same { frame.old ≡ other.old }
+    ensures returned { result.0 ≡ result.1 }
+    ensures frame { frame.new ≡ other.new }
 {
-    laws::no_mapping_leads_to_zero(nat, mappings, now, frame)
+    (
+        packet.rewrite(frame, side, addr, port),
+        packet.rewrite(other, side, addr, port),
+    )
 }
 
-/// After a frame came in no mapping of UDP or TCP leads to port 0, if none did before. A frame is not rejected for
-/// port 0, and a rejected frame does not change the table.
-fn no_frame_comes_in_to_zero(
-    nat: &Nat,
-    mappings: &mut [Mapping],
-    now: u64,
-    frame: &mut [u8],
-) -> Result<(), Rejection>
-    requires { LeadsToPorts nat.now mappings.old now }
-    ensures udp { (port : ℕ) (inside : Ipv4Endpoint) → MapsTo nat.now mappings.new now Protocol.Udp port inside → inside.port ≢ 0 }
-    ensures tcp { (port : ℕ) (inside : Ipv4Endpoint) → MapsTo nat.now mappings.new now Protocol.Tcp port inside → inside.port ≢ 0 }
-    ensures reason { IfErr result (λ reason. reason ≢ Rejection.ZeroPort) }
-    ensures table { OnErr result (mappings.new ≡ mappings.old) }
+/// RFC 5382 wants two hours and four minutes: 7,440 seconds.
+fn new_nat(outside: Ipv4Address) -> Nat
+    ensures { result.tcp_timeout ≡ 7440000 }
 {
-    laws::no_frame_comes_in_to_zero(nat, mappings, now, frame)
+    Nat::new([1, 2], outside, 40_000)
 }
 
-/// The answer to a packet that went out comes in, and its destination becomes the source of that packet.
+/// From port 65535 on there is only one port.
+fn last_port(nat: &Nat, mappings: &[Mapping]) -> usize
+    requires first { nat.now.first_port ≡ 65535 }
+    requires table { length mappings.now ≡ 6 }
+    ensures { result ≡ 1 }
+{
+    nat.ports(mappings)
+}
+
+/// A port has three mappings.
+fn mappings_for_two_ports() -> usize
+    ensures { result ≡ 6 }
+{
+    mappings_for(2)
+}
+
+/// A UDP mapping lives for 5 minutes: an answer comes back after 299,999 milliseconds.
 fn answer_comes_back(
     nat: &Nat,
     mappings: &mut [Mapping],
-    sent: u64,
-    frame: &mut [u8],
-    later: &mut [Mapping],
-    now: u64,
-    answer: &mut [u8],
-) -> (Result<(), Rejection>, Result<(), Rejection>)
-    ensures ok { OnOk result.0 ((packet : Packet) → IsPacket frame.old packet → IsAnswer nat.now mappings.new later.old now frame.new answer.old → IsOk result.1) }
-    ensures bytes { OnOk result.0 ((packet : Packet) → IsPacket frame.old packet → IsAnswer nat.now mappings.new later.old now frame.new answer.old
-        → answer.new ≡ translated Side.Destination packet.header.src_addr packet.src_port answer.old) }
+    inside: &Ipv4Endpoint,
+    remote: &Ipv4Endpoint,
+    sender: &Ipv4Endpoint,
+) -> Option<Option<Ipv4Endpoint>>
+    requires { nat.now.udp_timeout ≡ 300000 }
+    ensures { IfSome result (λ found. found ≡ Some inside.now) }
 {
-    laws::answer_comes_back(nat, mappings, sent, frame, later, now, answer)
+    laws::answer_comes_back(
+        nat,
+        mappings,
+        1,
+        Event::Udp,
+        inside,
+        remote,
+        300_000,
+        Event::Udp,
+        sender,
+    )
+}
+
+/// A UDP packet at 1 restarts the time-out of 5 minutes: the mapping expires at 300,001.
+fn outbound_packets_restart_the_time_out(
+    nat: &Nat,
+    mappings: &mut [Mapping],
+    inside: &Ipv4Endpoint,
+    remote: &Ipv4Endpoint,
+) -> Option<u16>
+    requires { nat.now.udp_timeout ≡ 300000 }
+    ensures { IfSome result (λ port. (mapping_at nat.now mappings.new Protocol.Udp port).expires ≡ 300001) }
+{
+    laws::outbound_packets_restart_the_time_out(nat, mappings, 1, Event::Udp, inside, remote)
 }

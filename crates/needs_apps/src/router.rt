@@ -1,9 +1,9 @@
-//! Needs the contracts of the calls of the router.
+//! What follows from the contracts of the calls of the router.
 
 ghost use Rattle.std.specs.Prelude.{◌≡◌, ◌∷◌, [], IsTrue, List, MatchOption, All, length, map};
-ghost use Rattle.app_router.specs.Index.{IsBlock, IsChosenAt, IsFilled, IsIndex, block_of};
+ghost use Rattle.app_router.specs.Index.{IsChosenAt, IsFilled, IsIndex, block_of};
 ghost use Rattle.app_router.specs.Route.{IsChosen, Leads};
-ghost use Rattle.ip_wire.specs.IpCidr.{IsIn, block_prefix_len};
+ghost use Rattle.ip_wire.specs.IpCidr.{IsIn};
 ghost use Rattle.ip_wire.specs.declared.IpAddress.{IpAddress};
 ghost use Rattle.ip_wire.specs.declared.IpCidr.{IpCidr};
 
@@ -11,7 +11,7 @@ use app_router::forward;
 use app_router::index::{Node, arrange, choose, find, index};
 use app_router::route::Route;
 use app_router::source::{SourceFault, check_source, check_source_by_index, is_martian};
-use ip_wire::{EthernetAddress, HeaderFault, IpAddress, IpCidr, IpRepr};
+use ip_wire::{EthernetAddress, HeaderFault, IpAddress, IpRepr};
 
 mod routes;
 mod tables;
@@ -67,22 +67,6 @@ fn arranged(nodes: &mut [Node], addr: &IpAddress) -> Option<u32>
 {
     arrange(nodes);
     find(nodes, addr)
-}
-
-/// The node of a block with a prefix of 8 bits, which is the eighth of its list.
-fn new_node(block: &IpCidr) -> Node
-    requires { block_prefix_len block.now ≡ 8 }
-    ensures len { result.prefix_len ≡ 8 }
-    ensures place { result.route ≡ 7 }
-{
-    Node::new(block, 7)
-}
-
-/// The prefix of a block is no longer than its address.
-fn new_node_is_of_a_block(block: &IpCidr) -> Node
-    ensures { IsBlock block.now }
-{
-    Node::new(block, 7)
 }
 
 /// A source has one fault, or none.

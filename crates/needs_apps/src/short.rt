@@ -1,28 +1,21 @@
-//! Needs the contracts of the short applications.
+//! What follows from the contracts of the short applications.
 
-ghost use Rattle.std.specs.Prelude.{◌≡◌, ◌≢◌, ◌≤◌, ◌↔◌, ◌++◌, Bool, IfSome, IsErr, IsSome, List, None, Some, drop, length, true, ℕ};
+ghost use Rattle.std.specs.Prelude.{◌≡◌, ◌≢◌, ◌↔◌, Bool, IsErr, List, Some, length, ℕ};
 ghost use Rattle.app_short.specs.Flow.{IsOneFlow};
 ghost use Rattle.ip_wire.specs.Field.{field};
-ghost use Rattle.ip_wire.specs.Frame.{IsReadWhole, all_checked, datagram, packet};
-ghost use Rattle.ip_wire.specs.FrameValue.{Agrees, Fits, ReadsNormalOf, frame_around, frame_bytes, frame_len};
 ghost use Rattle.ip_wire.specs.TcpRepr as tcp;
 ghost use Rattle.ip_wire.specs.TcpRepr.{TcpHeader};
-ghost use Rattle.ip_wire.specs.Types.{EthernetRepr, IpRepr, UdpRepr};
 ghost use Rattle.ip_wire.specs.Udp.{HasLengths};
 ghost use Rattle.ip_wire.specs.declared.IpAddress.{IpAddress};
 ghost use Rattle.ip_wire.specs.declared.TcpControl.TheVariants as control;
-ghost use Rattle.ip_wire.specs.declared.Transport.TheVariants as transport;
 
 use app_short::allow_list::is_allowed;
 use app_short::flow_key::{Flow, FlowKey};
 use app_short::hop_guard::is_near;
 use app_short::mss_clamp::clamp;
-use app_short::read_frame::udp_packet;
 use app_short::verify_checksum::{parse_udp_ports, verified_by_the_device};
-use app_short::write_frame::write_udp;
 use ip_wire::{
-    Checksum, ChecksumCapabilities, EthernetAddress, Frame, IpAddress, IpCidr, IpRepr, Ipv4Address,
-    Result, UdpRepr,
+    Checksum, ChecksumCapabilities, Frame, IpAddress, IpCidr, Ipv4Address, Result, UdpRepr,
 };
 
 /// An address is allowed, or it is not.
@@ -77,16 +70,6 @@ fn clamped_to_1400(segment: &mut [u8]) -> bool
     clamp(segment, 1400)
 }
 
-/// The parts of the UDP packet are read, or the frame carries none.
-fn udp_packet_is_read(bytes: &[u8]) -> Option<(IpRepr, UdpRepr, &[u8])>
-    ensures some { IfSome result (λ (header, ports, payload). (link : EthernetRepr)
-        × IsReadWhole bytes.now link (packet header (datagram ports payload.now))) }
-    ensures none { result ≡ None → (link : EthernetRepr) (header : IpRepr) (ports : UdpRepr)
-        (payload : List ℕ) → ¬ IsReadWhole bytes.now link (packet header (datagram ports payload)) }
-{
-    udp_packet(bytes)
-}
-
 /// A packet has one pair of ports, or an error.
 fn parse_udp_ports_once(
     packet: &[u8],
@@ -123,49 +106,4 @@ fn device() -> ChecksumCapabilities
     ensures ipv4 { result.ipv4 ≡ Checksum.Both }
 {
     verified_by_the_device()
-}
-
-/// A frame with a UDP packet has one form and one length, and the bytes after it stay.
-fn write_udp_bytes(
-    buffer: &mut [u8],
-    src_addr: EthernetAddress,
-    dst_addr: EthernetAddress,
-    header: IpRepr,
-    ports: UdpRepr,
-    payload: &[u8],
-) -> Option<usize>
-    ensures { let frame = frame_around src_addr dst_addr header (transport.Udp ports payload.entry) in
-        IfSome result (λ len. (len ≡ frame_len frame) × (buffer.new ≡ frame_bytes all_checked frame ++ drop len buffer.old)) }
-{
-    write_udp(buffer, src_addr, dst_addr, header, ports, payload)
-}
-
-/// A frame is written if its layers agree, its lengths fit and the buffer has room.
-fn write_udp_fits(
-    buffer: &mut [u8],
-    src_addr: EthernetAddress,
-    dst_addr: EthernetAddress,
-    header: IpRepr,
-    ports: UdpRepr,
-    payload: &[u8],
-) -> Option<usize>
-    ensures { let frame = frame_around src_addr dst_addr header (transport.Udp ports payload.entry) in
-        IsSome result ↔ (Agrees frame × Fits frame × (frame_len frame ≤ length buffer.old)) }
-{
-    write_udp(buffer, src_addr, dst_addr, header, ports, payload)
-}
-
-/// The frame reads back, and without one the buffer stays.
-fn write_udp_reads_back(
-    buffer: &mut [u8],
-    src_addr: EthernetAddress,
-    dst_addr: EthernetAddress,
-    header: IpRepr,
-    ports: UdpRepr,
-    payload: &[u8],
-) -> Option<usize>
-    ensures some { IfSome result (λ len. ReadsNormalOf all_checked buffer.new (frame_around src_addr dst_addr header (transport.Udp ports payload.entry))) }
-    ensures none { result ≡ None → buffer.new ≡ buffer.old }
-{
-    write_udp(buffer, src_addr, dst_addr, header, ports, payload)
 }

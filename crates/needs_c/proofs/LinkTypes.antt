@@ -10,8 +10,8 @@ use Rattle.wire_link.specs.declared.link_type.LinkType.{LinkType}
 use Rattle.wire_link.specs.declared.link_type.LinkType.TheVariants as kind
 use Rattle.ip_wire.specs.Ethernet.{protocol_of}
 use Rattle.ip_wire.specs.Types.{EthernetProtocol}
-use Rattle.ip_wire.specs.declared.EthernetProtocol.TheVariants as ethertype
-use Rattle.c_read.proofs.CutOf.{arp-keeps, ipv4-keeps, ipv6-keeps}
+use Rattle.c_read.proofs.CutFrame.{carried-next}
+use Rattle.c_read.proofs.CutOf.{IsStart}
 use Rattle.c_read.specs.Captured.{cut_carried}
 use Rattle.c_structs.specs.Codes.{reason_code}
 use Rattle.c_structs.specs.Nothing.{nothing_of}
@@ -23,16 +23,10 @@ use Rattle.c_structs.specs.declared.types.FrameFields.{FrameFields}
 
 -- ---- what follows keeps the Ethernet header
 
-carried-keeps : (f : FrameFields) (p : EthernetProtocol) (bytes : List ℕ) → (with_carried f p bytes).ethernet ≡ f.ethernet
-carried-keeps f ethertype.Arp bytes = arp-keeps f bytes
-carried-keeps f ethertype.Ipv4 bytes = ipv4-keeps f bytes
-carried-keeps f ethertype.Ipv6 bytes = ipv6-keeps f bytes
-carried-keeps f (ethertype.Unknown n) bytes = refl
-
-whole-keeps : (f : FrameFields) (p : EthernetProtocol) (bytes : List ℕ) → nat_lt (length bytes) f.payload_len ≡ false
+whole-keeps : (f : FrameFields) (p : EthernetProtocol) (bytes : List ℕ) → IsStart f → nat_lt (length bytes) f.payload_len ≡ false
     → (carried_by f p bytes).ethernet ≡ f.ethernet
-whole-keeps f p bytes whole =
-    subst (λ b. (if b then cut_carried f p bytes else with_carried f p bytes).ethernet ≡ f.ethernet) (sym whole) (carried-keeps f p bytes)
+whole-keeps f p bytes start whole =
+    subst (λ b. (if b then cut_carried f p bytes else with_carried f p bytes).ethernet ≡ f.ethernet) (sym whole) (carried-next f p bytes start).ethernet
 
 -- ---- the header
 
@@ -51,7 +45,7 @@ type-after : (bytes : List ℕ) (t : LinkType) (r : Result Link LinkFault) (old 
 type-after bytes t (Ok link) old read =
     let f = with_linked (nothing_of (length bytes)) t link bytes in
     let whole : nat_lt (length (drop link.offset bytes)) (length bytes - link.offset) ≡ false = let same = length-drop link.offset bytes in grind arith in
-    ap (λ e. e.ethertype) (whole-keeps f (protocol_of link.ethertype) (drop link.offset bytes) whole) ∙ named t link.ethertype bytes
+    ap (λ e. e.ethertype) (whole-keeps f (protocol_of link.ethertype) (drop link.offset bytes) refl whole) ∙ named t link.ethertype bytes
 type-after bytes t (Err (fault.TooShort least)) old read = absurd (omega (arith, read))
 type-after bytes t (Err fault.BadVersion) old read = absurd (omega (arith, read))
 

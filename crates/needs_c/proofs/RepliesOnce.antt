@@ -1,5 +1,5 @@
 -- A frame gets one reply, to the byte.
-use Rattle.std.proofs.Common.{ℕ, ℤ, ◌≡◌, ◌∙◌, ◌<◌, List, Option, None, Some, inl, inr, length, sym}
+use Rattle.std.proofs.Common.{ℕ, ℤ, ◌≡◌, ◌∙◌, List, Option, None, Some, inl, inr, length, sym}
 use Rattle.std.proofs.lemmas.Bool.{cases_lt}
 use Rattle.app_host.proofs.HostOnce.{bytes-once}
 use Rattle.app_host.proofs.MessagesOnce.{error-once}

@@ -1,5 +1,5 @@
-//! Needs the contracts of the exported functions. Where one is a relation, calls with equal arguments return and write
-//! the same.
+//! What follows from the contracts of the exported functions. Where one is a relation, calls with equal arguments return
+//! and write the same.
 
 mod addresses;
 mod host;

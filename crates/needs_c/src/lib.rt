@@ -1,9 +1,7 @@
-//! What needs each law of the C library and of the edits of frames, and each call whose contract is a relation. If one
-//! says less, one of these functions is no longer proved.
+//! What follows from the contracts and laws of the C library: that two calls with equal arguments return and write
+//! the same, that payloads are in their frames, and figures of C.
 #![tactic(auto)]
 
 mod calls;
-mod edits;
-mod failures;
 mod icmp;
 mod structs;

@@ -1,5 +1,5 @@
 -- Printed endpoints, worked out by hand, and what the hashed values of endpoints tell.
-use Rattle.std.proofs.Common.{ℕ, ◌≡◌, ◌<◌, ◌%◌, ◌/◌, ◌^◌, ◌==◌, List, [], ◌∷◌, ◌++◌, ◌∙◌, if◌then◌else◌, Option, Some, None, ap, codes, decimal, drop, arith, get_or, refl, subst, sym}
+use Rattle.std.proofs.Common.{ℕ, ◌≡◌, ◌<◌, ◌%◌, ◌/◌, ◌^◌, ◌==◌, List, [], ◌∷◌, ◌++◌, ◌∙◌, if◌then◌else◌, Option, Some, None, ap, codes, drop, arith, get_or, refl, subst, sym}
 use Rattle.std.specs.Fmt.{digits}
 use Rattle.std.specs.Hash as hash
 use Rattle.std.specs.Hash.{le_bytes}
@@ -46,11 +46,6 @@ pub endpoint_reads : (endpoint : IpEndpoint) → endpoint ≡ record { addr = ip
     → ReadsEndpoint (endpoint_text endpoint) endpoint → ReadsEndpoint (codes "[2001:db8::1]:80") endpoint
 unfolding ipv6_text digits
 endpoint_reads endpoint same h = subst (λ text. ReadsEndpoint text endpoint) (ap endpoint_text same) h
-
--- RFC 5952, section 6
-pub ipv6_endpoint_reads : (endpoint : IpEndpoint) (address : List ℕ) (port : ℕ) → endpoint ≡ record { addr = ip.Ipv6 address; port = port }
-    → ReadsEndpoint (endpoint_text endpoint) endpoint → ReadsEndpoint (codes "[" ++ ipv6_text address ++ codes "]" ++ (codes ":" ++ decimal port)) endpoint
-ipv6_endpoint_reads endpoint address port same h = subst (λ text. ReadsEndpoint text endpoint) (ap endpoint_text same) h
 
 -- ---- hashed values
 
@@ -101,14 +96,6 @@ same_endpoint_hash a b h k e h_is k_is a_fits b_fits =
     let (addr, port) = same_address a.addr b.addr (le_bytes 2 a.port) (le_bytes 2 b.port) (sym h_is ∙ e ∙ k_is) in
     let same = same_port a.port b.port a_fits b_fits port in
     λ i. record { addr = addr i; port = same i }
-
-pub other_port_hash : (a b : IpEndpoint) (h k : List (List ℕ)) → h ≡ k → h ≡ endpoint_hash a → k ≡ endpoint_hash b
-    → a.port < 2 ^ 16 → b.port < 2 ^ 16 → ¬ (a.port ≡ b.port) → ⊥
-other_port_hash a b h k e h_is k_is a_fits b_fits apart = apart (ap (λ endpoint. endpoint.port) (same_endpoint_hash a b h k e h_is k_is a_fits b_fits))
-
-pub other_address_hash : (a b : IpEndpoint) (h k : List (List ℕ)) → h ≡ k → h ≡ endpoint_hash a → k ≡ endpoint_hash b
-    → a.port < 2 ^ 16 → b.port < 2 ^ 16 → ¬ (a.addr ≡ b.addr) → ⊥
-other_address_hash a b h k e h_is k_is a_fits b_fits apart = apart (ap (λ endpoint. endpoint.addr) (same_endpoint_hash a b h k e h_is k_is a_fits b_fits))
 
 pub same_listening_hash : (a b : IpListenEndpoint) (h k : List (List ℕ)) → h ≡ k → h ≡ listening_hash a → k ≡ listening_hash b
     → a.port < 2 ^ 16 → b.port < 2 ^ 16 → a ≡ b

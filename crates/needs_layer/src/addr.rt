@@ -1,31 +1,19 @@
-//! Needs the statements of addresses and CIDR blocks.
+//! What follows from the statements of addresses and CIDR blocks.
 
-ghost use Rattle.std.specs.Prelude.{ℕ, ◌≡◌, ◌≢◌, ◌≤◌, ◌<◌, ◌/◌, ◌%◌, ◌++◌, ◌∷◌, [], List, Ok, Some, codes, decimal, true};
-ghost use Rattle.std.specs.Char.{digit_char};
-ghost use Rattle.std.specs.declared.cmp.Ordering.TheVariants.{Equal, Greater, Less};
+ghost use Rattle.std.specs.Prelude.{ℕ, ◌≡◌, ◌≢◌, ◌≤◌, ◌<◌, ◌∷◌, [], Ok, Some, codes};
+ghost use Rattle.std.specs.declared.cmp.Ordering.TheVariants.{Less};
 ghost use Rattle.wire_addr.specs.Block.{IsGreatest, IsLeast};
 ghost use Rattle.wire_addr.specs.BlockText.{ReadsIpv4Block, ReadsIpv6Block};
 ghost use Rattle.wire_addr.specs.Class.{HasScope};
-ghost use Rattle.wire_addr.specs.Prefix.{IsMasked, IsNetmask};
-ghost use Rattle.wire_addr.specs.Printed.{IsIpv6Print, ipv6_text};
+ghost use Rattle.wire_addr.specs.Prefix.{IsNetmask};
+ghost use Rattle.wire_addr.specs.Printed.{IsIpv6Print};
 ghost use Rattle.wire_addr.specs.Read.{ReadsEthernet, ReadsIpv4, ReadsIpv6};
-
-mod lengths;
 
 use std::cmp::Ordering;
 use std::hash::Hash;
 use wire_addr::{
     EthernetAddress, Ipv4Address, Ipv4Cidr, Ipv6Address, Ipv6Cidr, Ipv6MulticastScope, laws,
 };
-
-/// Each address has a printed text, and any two printed texts of it are the same.
-fn ipv6_print_rule(address: Ipv6Address, a: &[u8], b: &[u8])
-    ensures some { (text : List ℕ) × IsIpv6Print address text }
-    ensures same { IsIpv6Print address a.now → IsIpv6Print address b.now → a.now ≡ b.now }
-{
-    laws::ipv6_print_rule(address, a);
-    laws::ipv6_print_rule(address, b);
-}
 
 /// The one printed text of an address with two runs of two zero groups (RFC 5952, section 4.2.3).
 #[tactic(auto, using(crate::proofs::Addresses::first_run_text))]
@@ -107,32 +95,6 @@ fn ipv6_cidr_one_reading(text: &[u8], block: Ipv6Cidr) -> Result<Ipv6Cidr, ()>
     parsed
 }
 
-/// The printed text of an Ethernet address has two hex digits for each byte.
-fn print_reads_back_ethernet(address: EthernetAddress, a: u8, b: u8, c: u8, d: u8, e: u8, f: u8)
-    requires { address.0 ≡ a ∷ b ∷ c ∷ d ∷ e ∷ f ∷ [] }
-    ensures { ReadsEthernet (digit_char (a / 16) ∷ digit_char (a % 16) ∷ 45 ∷ digit_char (b / 16) ∷ digit_char (b % 16) ∷ 45 ∷ digit_char (c / 16) ∷ digit_char (c % 16) ∷ 45 ∷ digit_char (d / 16) ∷ digit_char (d % 16) ∷ 45 ∷ digit_char (e / 16) ∷ digit_char (e % 16) ∷ 45 ∷ digit_char (f / 16) ∷ digit_char (f % 16) ∷ []) address }
-{
-    laws::print_reads_back(address, Ipv4Address::UNSPECIFIED, Ipv6Address::UNSPECIFIED);
-}
-
-/// The printed text of an IPv4 address is four decimal numbers joined by `.`.
-fn print_reads_back_ipv4(a: u8, b: u8, c: u8, d: u8)
-    ensures { ReadsIpv4 (decimal a ++ 46 ∷ decimal b ++ 46 ∷ decimal c ++ 46 ∷ decimal d) (a ∷ b ∷ c ∷ d ∷ []) }
-{
-    laws::print_reads_back(
-        EthernetAddress([0; 6]),
-        Ipv4Address::new(a, b, c, d),
-        Ipv6Address::UNSPECIFIED,
-    );
-}
-
-/// The printed text of an IPv6 address parses as that address.
-fn print_reads_back_ipv6(address: Ipv6Address)
-    ensures { ReadsIpv6 (ipv6_text address) address }
-{
-    laws::print_reads_back(EthernetAddress([0; 6]), Ipv4Address::UNSPECIFIED, address);
-}
-
 /// Three printed texts parse as the addresses with these bytes (RFC 5737, RFC 5952, RFC 7042).
 #[tactic(auto, using(crate::proofs::Addresses::ipv4_text, crate::proofs::Addresses::documentation_reads))]
 fn print_reads_back(ethernet: EthernetAddress, ipv4: Ipv4Address, ipv6: Ipv6Address)
@@ -146,15 +108,6 @@ fn print_reads_back(ethernet: EthernetAddress, ipv4: Ipv4Address, ipv6: Ipv6Addr
     laws::print_reads_back(ethernet, ipv4, ipv6);
 }
 
-/// The printed text of a block of IPv4 addresses: the address, `/` and the prefix length.
-fn print_reads_back_ipv4_cidr(address: Ipv4Address, a: u8, b: u8, c: u8, d: u8, n: u8)
-    requires address { address ≡ a ∷ b ∷ c ∷ d ∷ [] }
-    requires len { n ≤ 32 }
-    ensures { ReadsIpv4Block (decimal a ++ 46 ∷ decimal b ++ 46 ∷ decimal c ++ 46 ∷ decimal d ++ codes "/" ++ decimal n) (record { address = address; prefix_len = n }) }
-{
-    laws::print_reads_back_ipv4_cidr(Ipv4Cidr::new(address, n));
-}
-
 /// The text `192.0.2.0/24`.
 #[tactic(auto, using(crate::proofs::Addresses::ipv4_block_text))]
 fn print_reads_back_ipv4_cidr_text(block: Ipv4Cidr)
@@ -164,13 +117,6 @@ fn print_reads_back_ipv4_cidr_text(block: Ipv4Cidr)
     laws::print_reads_back_ipv4_cidr(block);
 }
 
-/// The printed text of a block of IPv6 addresses.
-fn print_reads_back_ipv6_cidr(block: Ipv6Cidr)
-    ensures { ReadsIpv6Block (ipv6_text block.address ++ codes "/" ++ decimal block.prefix_len) block }
-{
-    laws::print_reads_back_ipv6_cidr(block);
-}
-
 /// The text `2001:db8:0:cd30::/60` (RFC 4291, section 2.3).
 #[tactic(auto, using(crate::proofs::Addresses::ipv6_block_text))]
 fn print_reads_back_ipv6_cidr_text(block: Ipv6Cidr)
@@ -178,32 +124,6 @@ fn print_reads_back_ipv6_cidr_text(block: Ipv6Cidr)
     ensures { ReadsIpv6Block (codes "2001:db8:0:cd30::/60") block }
 {
     laws::print_reads_back_ipv6_cidr(block);
-}
-
-/// Of two values of any type one is less if the other is greater, and equal ones compare as equal.
-fn order_agrees<T: Ord>(a: &T, b: &T)
-    ensures greater { T.cmp a.now b.now ≡ Less → T.cmp b.now a.now ≡ Greater }
-    ensures equal { T.eq a.now b.now ≡ true → T.cmp b.now a.now ≡ Equal }
-{
-    laws::order_agrees(a, b);
-}
-
-/// Of two blocks one is less if the other is greater, and only equal ones compare as equal.
-fn order_agrees_of_blocks(a: &Ipv4Cidr, b: &Ipv4Cidr)
-    ensures greater { ⟦<Ipv4Cidr as Ord>⟧.cmp a.now b.now ≡ Less → ⟦<Ipv4Cidr as Ord>⟧.cmp b.now a.now ≡ Greater }
-    ensures less { ⟦<Ipv4Cidr as Ord>⟧.cmp a.now b.now ≡ Greater → ⟦<Ipv4Cidr as Ord>⟧.cmp b.now a.now ≡ Less }
-    ensures only_equal { ⟦<Ipv4Cidr as Ord>⟧.cmp a.now b.now ≡ Equal → ⟦<Ipv4Cidr as PartialEq>⟧.eq a.now b.now ≡ true }
-    ensures equal { ⟦<Ipv4Cidr as PartialEq>⟧.eq a.now b.now ≡ true → ⟦<Ipv4Cidr as Ord>⟧.cmp a.now b.now ≡ Equal }
-{
-    laws::order_agrees(a, b);
-}
-
-/// Equal pairs of blocks have one hash.
-fn hash_agrees(a: &[Ipv6Cidr; 2], b: &[Ipv6Cidr; 2])
-    requires { ⟦<[Ipv6Cidr; 2] as PartialEq>⟧.eq a.now b.now ≡ true }
-    ensures { ⟦<[Ipv6Cidr; 2] as Hash>⟧.hash_input a.now ≡ ⟦<[Ipv6Cidr; 2] as Hash>⟧.hash_input b.now }
-{
-    laws::hash_agrees(a, b);
 }
 
 /// The first byte that differs decides: 00-00-5e-00-53-xx comes before 00-00-5e-00-yy-01 if y is greater than 53.
@@ -355,16 +275,6 @@ fn one_block_end_last(block: Ipv4Cidr, highest: Ipv4Address) -> Option<Ipv4Addre
     address
 }
 
-/// A block of one or two addresses has one highest address, though no broadcast address.
-fn one_block_end_of_two_addresses(block: Ipv4Cidr, a: Ipv4Address, b: Ipv4Address)
-    requires len { 31 ≤ block.prefix_len }
-    requires first { IsGreatest 4 block a }
-    requires second { IsGreatest 4 block b }
-    ensures { a ≡ b }
-{
-    laws::one_block_end(block, a, b);
-}
-
 /// The scope of an address is the one that is returned.
 fn one_scope(address: Ipv6Address, scope: Ipv6MulticastScope) -> Ipv6MulticastScope
     requires { HasScope address scope }
@@ -373,11 +283,4 @@ fn one_scope(address: Ipv6Address, scope: Ipv6MulticastScope) -> Ipv6MulticastSc
     let found = address.x_multicast_scope();
     laws::one_scope(address, found, scope);
     found
-}
-
-/// An address has one form with zeros after its first bits, for any number of bits.
-fn one_masked_address(address: Ipv6Address, a: Ipv6Address, b: Ipv6Address)
-    ensures { (n : ℕ) → IsMasked n address a → IsMasked n address b → a ≡ b }
-{
-    laws::one_masked_address(address, a, b);
 }

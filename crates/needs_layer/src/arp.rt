@@ -1,8 +1,8 @@
-//! Needs the statements of ARP.
+//! What follows from the statements of ARP.
 
-ghost use Rattle.std.specs.Prelude.{◌≡◌, ◌+◌, ◌*◌, ◌++◌, ◌≤◌, ◌∷◌, [], Some, length, slice_range, true};
+ghost use Rattle.std.specs.Prelude.{◌≡◌, ◌++◌, ◌≤◌, ◌∷◌, [], Some, length, slice_range, true};
 ghost use Rattle.std.specs.declared.cmp.Ordering.TheVariants.{Equal, Greater, Less};
-ghost use Rattle.wire_arp.specs.Arp.{Reads, arp_of, bytes_of, normal, packet_bytes, packet_bytes_mut};
+ghost use Rattle.wire_arp.specs.Arp.{Reads, arp_of, bytes_of, packet_bytes, packet_bytes_mut};
 ghost use Rattle.wire_arp.specs.ArpFields.{widths};
 ghost use Rattle.wire_arp.specs.declared.arp.ArpHardware.TheVariants as hardware;
 ghost use Rattle.wire_arp.specs.declared.arp.ArpOperation.TheVariants as operation;
@@ -70,14 +70,6 @@ fn emit_reads_back_name(
     laws::emit_reads_back_arp(value, rest);
 }
 
-/// The packet that bytes have is computed.
-fn reading_is_computed(bytes: &[u8], value: ArpRepr)
-    requires { Reads bytes.now value }
-    ensures { arp_of bytes.now ≡ Some value }
-{
-    laws::reading_is_computed_arp(bytes, value);
-}
-
 /// A packet is computed only from 28 bytes or more.
 fn reading_is_computed_only(bytes: &[u8], value: ArpRepr)
     requires { arp_of bytes.now ≡ Some value }
@@ -87,23 +79,6 @@ fn reading_is_computed_only(bytes: &[u8], value: ArpRepr)
     ensures lengths { field bytes.now 32 16 ≡ 0x0604 }
 {
     laws::reading_is_computed_arp(bytes, value);
-}
-
-/// The normal form is reached in one step, and a parsed packet is in its normal form.
-fn normal_twice(bytes: &[u8], value: ArpRepr)
-    ensures twice { normal (normal value) ≡ normal value }
-    ensures read { Reads bytes.now value → normal value ≡ value }
-{
-    laws::normal_twice_arp(bytes, value);
-}
-
-/// The packet of bytes that have nothing else.
-fn no_more_bytes(bytes: &[u8], value: ArpRepr)
-    requires len { length bytes.now ≡ 28 }
-    requires reads { Reads bytes.now value }
-    ensures { length (bytes_of value) ≤ 28 }
-{
-    laws::no_more_bytes_arp(bytes, value);
 }
 
 /// Ethernet comes first. Otherwise the numbers decide.
@@ -230,33 +205,7 @@ fn address_getters_read_fields(packet: &ArpPacket<'_>, rest: &[u8]) -> [u8; 6]
     [sha[0], sha[1], spa[0], tha[0], tha[1], tpa[0]]
 }
 
-/// The lengths of the addresses of a packet with nothing after them.
-fn address_getters_read_fields_len(packet: &ArpPacket<'_>) -> [usize; 4]
-    requires { let bytes = packet_bytes packet.now in length bytes ≡ 8 + 2 * field bytes 32 8 + 2 * field bytes 40 8 }
-    ensures { let bytes = packet_bytes packet.now in
-        result ≡ field bytes 32 8 ∷ field bytes 40 8 ∷ field bytes 32 8 ∷ field bytes 40 8 ∷ [] }
-{
-    [
-        laws::address_getters_read_fields_arp(
-            packet,
-            laws::ArpAddressGetting::SourceHardwareAddr,
-        ).len(),
-        laws::address_getters_read_fields_arp(
-            packet,
-            laws::ArpAddressGetting::SourceProtocolAddr,
-        ).len(),
-        laws::address_getters_read_fields_arp(
-            packet,
-            laws::ArpAddressGetting::TargetHardwareAddr,
-        ).len(),
-        laws::address_getters_read_fields_arp(
-            packet,
-            laws::ArpAddressGetting::TargetProtocolAddr,
-        ).len(),
-    ]
-}
-
-/// The same of a mutable view.
+/// Addresses of 2 bytes and of 1 byte in a mutable view, before any padding.
 fn mutable_address_getters_read_fields(packet: &ArpPacketMut<'_>, rest: &[u8]) -> [u8; 6]
     requires { packet_bytes_mut packet.now ≡ 0 ∷ 6 ∷ 8 ∷ 0 ∷ 2 ∷ 1 ∷ 0 ∷ 1 ∷ 9 ∷ 10 ∷ 11 ∷ 12 ∷ 13 ∷ 14 ∷ rest.now }
     ensures { result ≡ 9 ∷ 10 ∷ 11 ∷ 12 ∷ 13 ∷ 14 ∷ [] }
@@ -278,44 +227,4 @@ fn mutable_address_getters_read_fields(packet: &ArpPacketMut<'_>, rest: &[u8]) -
         laws::ArpAddressGetting::TargetProtocolAddr,
     );
     [sha[0], sha[1], spa[0], tha[0], tha[1], tpa[0]]
-}
-
-/// The same of a mutable view.
-fn mutable_address_getters_read_fields_len(packet: &ArpPacketMut<'_>) -> [usize; 4]
-    requires { let bytes = packet_bytes_mut packet.now in length bytes ≡ 8 + 2 * field bytes 32 8 + 2 * field bytes 40 8 }
-    ensures { let bytes = packet_bytes_mut packet.now in
-        result ≡ field bytes 32 8 ∷ field bytes 40 8 ∷ field bytes 32 8 ∷ field bytes 40 8 ∷ [] }
-{
-    [
-        laws::mutable_address_getters_read_fields_arp(
-            packet,
-            laws::ArpAddressGetting::SourceHardwareAddr,
-        ).len(),
-        laws::mutable_address_getters_read_fields_arp(
-            packet,
-            laws::ArpAddressGetting::SourceProtocolAddr,
-        ).len(),
-        laws::mutable_address_getters_read_fields_arp(
-            packet,
-            laws::ArpAddressGetting::TargetHardwareAddr,
-        ).len(),
-        laws::mutable_address_getters_read_fields_arp(
-            packet,
-            laws::ArpAddressGetting::TargetProtocolAddr,
-        ).len(),
-    ]
-}
-
-/// Views of any bytes.
-fn views_have_the_bytes(bytes: &[u8]) -> bool
-    ensures { result ≡ true }
-{
-    laws::views_have_the_bytes_arp(bytes)
-}
-
-/// The packet of a value is emitted to 28 bytes.
-fn emits_28_bytes(packet: &mut ArpPacketMut<'_>, value: ArpRepr)
-    requires { length (packet_bytes_mut packet.old) ≡ 28 }
-{
-    value.emit(packet);
 }

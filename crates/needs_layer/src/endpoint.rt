@@ -1,18 +1,13 @@
-//! Needs the statements of endpoints, protocols and addresses of either IP version.
+//! What follows from the statements of endpoints, protocols and addresses of either IP version.
 
-ghost use Rattle.std.specs.Prelude.{◌≡◌, ◌≢◌, ◌<◌, ◌≤◌, ◌↔◌, ◌++◌, ◌∷◌, [], IsTrue, Ok, Some, codes, decimal};
-ghost use Rattle.std.specs.Ordering.{nat_cmp};
+ghost use Rattle.std.specs.Prelude.{◌≡◌, ◌<◌, ◌∷◌, [], Ok, codes};
 ghost use Rattle.std.specs.declared.cmp.Ordering.TheVariants.{Less};
-ghost use Rattle.wire_addr.specs.Printed.{ipv6_text};
-ghost use Rattle.wire_addr.specs.Endpoint.{ReadsEndpoint, endpoint_cmp, listening_cmp};
-ghost use Rattle.wire_addr.specs.IpAddress.{ReadsAddress, address_cmp};
-ghost use Rattle.wire_addr.specs.IpCidr.{ReadsCidr, cidr_cmp};
-ghost use Rattle.wire_addr.specs.IpVersion.{number_of};
-ghost use Rattle.wire_addr.specs.Protocol.{protocol_cmp, protocol_hash};
+ghost use Rattle.wire_addr.specs.Endpoint.{ReadsEndpoint};
+ghost use Rattle.wire_addr.specs.IpAddress.{ReadsAddress};
+ghost use Rattle.wire_addr.specs.IpCidr.{ReadsCidr};
+ghost use Rattle.wire_addr.specs.Protocol.{protocol_hash};
 ghost use Rattle.wire_addr.specs.declared.ip_address.IpAddress.TheVariants as ip;
 ghost use Rattle.wire_addr.specs.declared.ip_cidr.IpCidr.TheVariants as cidr;
-
-mod lengths;
 
 use std::cmp::Ordering;
 use std::hash::Hash;
@@ -63,20 +58,6 @@ fn ip_endpoint_one_reading(text: &[u8], endpoint: &IpEndpoint) -> Result<IpEndpo
     }
 }
 
-/// An IPv4 address is printed as four decimal numbers joined by `.`.
-fn print_reads_back_ip_address_ipv4(a: u8, b: u8, c: u8, d: u8)
-    ensures { ReadsAddress (decimal a ++ 46 ∷ decimal b ++ 46 ∷ decimal c ++ 46 ∷ decimal d) (ip.Ipv4 (a ∷ b ∷ c ∷ d ∷ [])) }
-{
-    laws::print_reads_back_ip_address(IpAddress::v4(a, b, c, d));
-}
-
-/// An IPv6 address is printed as an `Ipv6Address` is.
-fn print_reads_back_ip_address_ipv6(address: Ipv6Address)
-    ensures { ReadsAddress (ipv6_text address) (ip.Ipv6 address) }
-{
-    laws::print_reads_back_ip_address(IpAddress::Ipv6(address));
-}
-
 /// The text `::ffff:192.0.2.1` is an IPv6 address (RFC 4291, section 2.5.5.2).
 #[tactic(auto, using(crate::proofs::Endpoints::mapped_reads))]
 fn print_reads_back_ip_address_mapped(address: IpAddress)
@@ -84,22 +65,6 @@ fn print_reads_back_ip_address_mapped(address: IpAddress)
     ensures { ReadsAddress (codes "::ffff:192.0.2.1") address }
 {
     laws::print_reads_back_ip_address(address);
-}
-
-/// A block of IPv4 addresses is printed with `/` and its prefix length.
-fn print_reads_back_ip_cidr_ipv4(address: Ipv4Address, a: u8, b: u8, c: u8, d: u8, n: u8)
-    requires address { address ≡ a ∷ b ∷ c ∷ d ∷ [] }
-    requires len { n ≤ 32 }
-    ensures { ReadsCidr (decimal a ++ 46 ∷ decimal b ++ 46 ∷ decimal c ++ 46 ∷ decimal d ++ codes "/" ++ decimal n) (cidr.Ipv4 (record { address = address; prefix_len = n })) }
-{
-    laws::print_reads_back_ip_cidr(IpCidr::Ipv4(Ipv4Cidr::new(address, n)));
-}
-
-/// A block of IPv6 addresses is printed with `/` and its prefix length.
-fn print_reads_back_ip_cidr_ipv6(block: Ipv6Cidr)
-    ensures { ReadsCidr (ipv6_text block.address ++ codes "/" ++ decimal block.prefix_len) (cidr.Ipv6 block) }
-{
-    laws::print_reads_back_ip_cidr(IpCidr::Ipv6(block));
 }
 
 /// The text `2001:db8::/32` (RFC 3849).
@@ -111,22 +76,6 @@ fn print_reads_back_ip_cidr_text(block: IpCidr)
     laws::print_reads_back_ip_cidr(block);
 }
 
-/// An IPv4 endpoint is printed with `:` and its port.
-fn print_reads_back_ip_endpoint_ipv4(a: u8, b: u8, c: u8, d: u8, port: u16)
-    ensures { ReadsEndpoint (decimal a ++ 46 ∷ decimal b ++ 46 ∷ decimal c ++ 46 ∷ decimal d ++ codes ":" ++ decimal port) (record { addr = ip.Ipv4 (a ∷ b ∷ c ∷ d ∷ []); port = port }) }
-{
-    laws::print_reads_back_ip_endpoint(IpEndpoint::new(IpAddress::v4(a, b, c, d), port));
-}
-
-/// An IPv6 endpoint is printed with its address in brackets, `:` and its port.
-#[tactic(auto, using(crate::proofs::Endpoints::ipv6_endpoint_reads))]
-fn print_reads_back_ip_endpoint_ipv6(endpoint: IpEndpoint, address: Ipv6Address, port: u16)
-    requires { endpoint ≡ record { addr = ip.Ipv6 address; port = port } }
-    ensures { ReadsEndpoint (codes "[" ++ ipv6_text address ++ codes "]" ++ (codes ":" ++ decimal port)) endpoint }
-{
-    laws::print_reads_back_ip_endpoint(endpoint);
-}
-
 /// The text `[2001:db8::1]:80` (RFC 5952, section 6).
 #[tactic(auto, using(crate::proofs::Endpoints::endpoint_reads))]
 fn print_reads_back_ip_endpoint_text(endpoint: IpEndpoint)
@@ -134,22 +83,6 @@ fn print_reads_back_ip_endpoint_text(endpoint: IpEndpoint)
     ensures { ReadsEndpoint (codes "[2001:db8::1]:80") endpoint }
 {
     laws::print_reads_back_ip_endpoint(endpoint);
-}
-
-/// Addresses are in the order of their versions, then of their bytes.
-fn ip_address_order(a: &IpAddress, b: &IpAddress) -> Ordering
-    ensures { result ≡ address_cmp a.now b.now }
-{
-    laws::ip_address_order(a, b);
-    a.cmp(b)
-}
-
-/// `==` of two addresses returns `true` exactly if they are equal.
-fn ip_address_order_equal(a: &IpAddress, b: &IpAddress) -> bool
-    ensures { IsTrue result ↔ (a.now ≡ b.now) }
-{
-    laws::ip_address_order(a, b);
-    a == b
 }
 
 /// Two addresses with the same hashed values are equal.
@@ -162,22 +95,6 @@ fn ip_address_order_hash(a: &IpAddress, b: &IpAddress)
     laws::ip_address_order(b, a);
 }
 
-/// Blocks are in the order of their versions, then of their addresses, then of their prefix lengths.
-fn ip_block_order(a: &IpCidr, b: &IpCidr) -> Ordering
-    ensures { result ≡ cidr_cmp a.now b.now }
-{
-    laws::ip_block_order(a, b);
-    a.cmp(b)
-}
-
-/// `==` of two blocks returns `true` exactly if they are equal.
-fn ip_block_order_equal(a: &IpCidr, b: &IpCidr) -> bool
-    ensures { IsTrue result ↔ (a.now ≡ b.now) }
-{
-    laws::ip_block_order(a, b);
-    a == b
-}
-
 /// Two blocks with the same hashed values are equal.
 #[tactic(auto, using(crate::proofs::Endpoints::same_cidr_hash))]
 fn ip_block_order_hash(a: &IpCidr, b: &IpCidr)
@@ -186,22 +103,6 @@ fn ip_block_order_hash(a: &IpCidr, b: &IpCidr)
 {
     laws::ip_block_order(a, b);
     laws::ip_block_order(b, a);
-}
-
-/// Endpoints are in the order of their addresses, then of their ports.
-fn endpoint_order(a: &IpEndpoint, b: &IpEndpoint) -> Ordering
-    ensures { result ≡ endpoint_cmp a.now b.now }
-{
-    laws::endpoint_order(a, b);
-    a.cmp(b)
-}
-
-/// `==` of two endpoints returns `true` exactly if they are equal.
-fn endpoint_order_equal(a: &IpEndpoint, b: &IpEndpoint) -> bool
-    ensures { IsTrue result ↔ (a.now ≡ b.now) }
-{
-    laws::endpoint_order(a, b);
-    a == b
 }
 
 /// Two endpoints with the same hashed values are equal.
@@ -214,44 +115,6 @@ fn endpoint_order_hash(a: IpEndpoint, b: IpEndpoint)
     laws::endpoint_order(&b, &a);
 }
 
-/// Two endpoints that differ in the port only are hashed differently.
-#[tactic(auto, using(crate::proofs::Endpoints::other_port_hash))]
-fn endpoint_order_hash_of_ports(a: IpEndpoint, b: IpEndpoint)
-    requires addr { a.addr ≡ b.addr }
-    requires port { a.port ≢ b.port }
-    ensures { ⟦<IpEndpoint as Hash>⟧.hash_input a ≢ ⟦<IpEndpoint as Hash>⟧.hash_input b }
-{
-    laws::endpoint_order(&a, &b);
-    laws::endpoint_order(&b, &a);
-}
-
-/// Two endpoints that differ in the address only are hashed differently.
-#[tactic(auto, using(crate::proofs::Endpoints::other_address_hash))]
-fn endpoint_order_hash_of_addresses(a: IpEndpoint, b: IpEndpoint)
-    requires addr { a.addr ≢ b.addr }
-    requires port { a.port ≡ b.port }
-    ensures { ⟦<IpEndpoint as Hash>⟧.hash_input a ≢ ⟦<IpEndpoint as Hash>⟧.hash_input b }
-{
-    laws::endpoint_order(&a, &b);
-    laws::endpoint_order(&b, &a);
-}
-
-/// Listening endpoints are in the order of their addresses, with none first, then of their ports.
-fn listen_endpoint_order(a: &IpListenEndpoint, b: &IpListenEndpoint) -> Ordering
-    ensures { result ≡ listening_cmp a.now b.now }
-{
-    laws::listen_endpoint_order(a, b);
-    a.cmp(b)
-}
-
-/// `==` of two listening endpoints returns `true` exactly if they are equal.
-fn listen_endpoint_order_equal(a: &IpListenEndpoint, b: &IpListenEndpoint) -> bool
-    ensures { IsTrue result ↔ (a.now ≡ b.now) }
-{
-    laws::listen_endpoint_order(a, b);
-    a == b
-}
-
 /// Two listening endpoints with the same hashed values are equal.
 #[tactic(auto, using(crate::proofs::Endpoints::same_listening_hash))]
 fn listen_endpoint_order_hash(a: IpListenEndpoint, b: IpListenEndpoint)
@@ -262,22 +125,6 @@ fn listen_endpoint_order_hash(a: IpListenEndpoint, b: IpListenEndpoint)
     laws::listen_endpoint_order(&b, &a);
 }
 
-/// Versions are in the order of their numbers.
-fn ip_version_order(a: IpVersion, b: IpVersion) -> Ordering
-    ensures { result ≡ nat_cmp (number_of a) (number_of b) }
-{
-    laws::ip_version_order(a, b);
-    a.cmp(&b)
-}
-
-/// `==` of two versions returns `true` exactly if they are equal.
-fn ip_version_order_equal(a: IpVersion, b: IpVersion) -> bool
-    ensures { IsTrue result ↔ (a ≡ b) }
-{
-    laws::ip_version_order(a, b);
-    a == b
-}
-
 /// Two versions with the same hashed values are equal.
 #[tactic(auto, using(crate::proofs::Endpoints::same_version_hash))]
 fn ip_version_order_hash(a: IpVersion, b: IpVersion)
@@ -286,22 +133,6 @@ fn ip_version_order_hash(a: IpVersion, b: IpVersion)
 {
     laws::ip_version_order(a, b);
     laws::ip_version_order(b, a);
-}
-
-/// Protocols with a name come first, and of both kinds the lower numbers.
-fn ip_protocol_order(a: IpProtocol, b: IpProtocol) -> Ordering
-    ensures { result ≡ protocol_cmp a b }
-{
-    laws::ip_protocol_order(a, b);
-    a.cmp(&b)
-}
-
-/// `==` of two protocols returns `true` exactly if they are equal.
-fn ip_protocol_order_equal(a: IpProtocol, b: IpProtocol) -> bool
-    ensures { IsTrue result ↔ (a ≡ b) }
-{
-    laws::ip_protocol_order(a, b);
-    a == b
 }
 
 /// Two protocols with the same hashed values have the same index and the same number.

@@ -1,10 +1,9 @@
-//! Needs the statements of Ethernet II.
+//! What follows from the statements of Ethernet II.
 
-ghost use Rattle.std.specs.Prelude.{◌≡◌, ◌≢◌, ◌+◌, ◌++◌, ◌^◌, ◌≤◌, ◌∷◌, [], Some, length, slice_range, true, ℕ};
+ghost use Rattle.std.specs.Prelude.{◌≡◌, ◌≢◌, ◌++◌, ◌≤◌, ◌∷◌, [], Some, length, slice_range, true};
 ghost use Rattle.std.specs.declared.cmp.Ordering.TheVariants.{Equal, Greater, Less};
-ghost use Rattle.wire_ethernet.specs.Ethernet.{Reads, bytes_of, ethernet_of, frame_bytes, frame_bytes_mut, normal};
+ghost use Rattle.wire_ethernet.specs.Ethernet.{Reads, bytes_of, ethernet_of, frame_bytes, frame_bytes_mut};
 ghost use Rattle.wire_ethernet.specs.declared.ethernet.EthernetProtocol.TheVariants.{Arp, Ipv4, Ipv6, Unknown};
-ghost use Rattle.wire_ethernet.specs.declared.ethernet.EthernetRepr.{EthernetRepr};
 ghost use Rattle.net_base.specs.Field.{field};
 
 use wire_addr::EthernetAddress;
@@ -31,14 +30,6 @@ fn emit_reads_back_name(value: EthernetRepr, rest: &[u8])
     laws::emit_reads_back_ethernet(value, rest);
 }
 
-/// The header that bytes have is computed.
-fn reading_is_computed(bytes: &[u8], value: EthernetRepr)
-    requires { Reads bytes.now value }
-    ensures { ethernet_of bytes.now ≡ Some value }
-{
-    laws::reading_is_computed_ethernet(bytes, value);
-}
-
 /// A header is computed only from 14 bytes or more, with the addresses first.
 fn reading_is_computed_only(bytes: &[u8], value: EthernetRepr)
     requires { ethernet_of bytes.now ≡ Some value }
@@ -48,24 +39,6 @@ fn reading_is_computed_only(bytes: &[u8], value: EthernetRepr)
     ensures arp { value.ethertype ≡ Arp → field bytes.now 96 16 ≡ 0x0806 }
 {
     laws::reading_is_computed_ethernet(bytes, value);
-}
-
-/// A parsed header is its normal form wherever it is used, and has no number of ARP without its name.
-fn normal_twice_read(bytes: &[u8], value: EthernetRepr)
-    requires { Reads bytes.now value }
-    ensures anywhere { (used : (ℕ → EthernetRepr) → ℕ) → used (λ n. normal value) ≡ used (λ n. value) }
-    ensures named { value.ethertype ≢ Unknown 0x0806 }
-{
-    laws::normal_twice_ethernet(bytes, value);
-}
-
-/// The header of bytes that have nothing else.
-fn no_more_bytes(bytes: &[u8], value: EthernetRepr)
-    requires len { length bytes.now ≡ 14 }
-    requires reads { Reads bytes.now value }
-    ensures { length (bytes_of value) ≤ 14 }
-{
-    laws::no_more_bytes_ethernet(bytes, value);
 }
 
 /// Named EtherTypes come first. Otherwise the numbers decide.
@@ -119,34 +92,4 @@ fn getters_read_fields(frame: &EthernetFrame<'_>, rest: &[u8]) -> [u64; 3]
         laws::getters_read_fields_ethernet(frame, laws::EthernetGetting::SrcAddr),
         laws::getters_read_fields_ethernet(frame, laws::EthernetGetting::Ethertype),
     ]
-}
-
-/// Views of any bytes.
-fn views_have_the_bytes(bytes: &[u8]) -> bool
-    ensures { result ≡ true }
-{
-    laws::views_have_the_bytes_ethernet(bytes)
-}
-
-/// The header ends with byte 14, and an empty payload follows.
-fn view_of_header(frame: &EthernetFrame<'_>)
-    requires { length (frame_bytes frame.now) ≡ 14 }
-{
-    let _ = frame.payload();
-}
-
-/// The header is emitted to 14 bytes, and an empty payload follows.
-fn mutable_view_of_header(frame: &mut EthernetFrameMut<'_>, value: EthernetRepr)
-    requires { length (frame_bytes_mut frame.old) ≡ 14 }
-{
-    value.emit(frame);
-    let _ = frame.payload_mut();
-}
-
-/// The longest frame that a `usize` can count.
-fn buffer_len(payload_len: usize) -> usize
-    requires { payload_len + 15 ≡ 2 ^ 64 }
-    ensures { result ≡ 18446744073709551615 }
-{
-    EthernetFrame::buffer_len(payload_len)
 }

@@ -1,19 +1,15 @@
-//! Needs the statements of whole frames.
+//! What follows from the statements of whole frames.
 
-ghost use Rattle.std.specs.Prelude.{◌≡◌, ◌≢◌, ◌≤◌, IsSome, None, Some, length};
-ghost use Rattle.ip_wire.specs.Frame.{Meaning, ReadsNotNormal, meaning_of, rebuilt};
+ghost use Rattle.std.specs.Prelude.{◌≡◌, ◌≤◌, length};
+ghost use Rattle.ip_wire.specs.Frame.{all_checked, rebuilt};
+ghost use Rattle.ip_wire.specs.FrameValue.{Finds, frame_bytes};
 
-mod back;
 mod builds;
 mod constants;
-mod equality;
-mod lengths;
-mod others;
 mod read;
-mod values;
 mod worked;
 
-use ip_wire::laws;
+use ip_wire::{Frame, laws};
 
 /// A frame that fits into a link's largest frame still fits after it is rebuilt.
 fn frame_settles_no_longer(frame: &[u8], largest: usize)
@@ -31,45 +27,11 @@ fn frame_settles(frame: &[u8])
     laws::frame_settles(frame, frame);
 }
 
-/// A second round changes nothing, unless a TCP header is not normal.
-fn frame_settles_at_once(frame: &[u8])
-    requires { ¬ ReadsNotNormal frame.now }
-    ensures { rebuilt (rebuilt frame.now) ≡ rebuilt frame.now }
+/// A frame that was parsed leniently is no longer after it is emitted again.
+fn frame_rebuilds_no_longer(bytes: &[u8], frame: &Frame<'_>)
+    requires { Finds all_checked bytes.now frame.now }
+    ensures { length (frame_bytes all_checked frame.now) ≤ length bytes.now }
 {
-    laws::frame_settles(frame, frame);
-}
-
-/// A second round changes a frame whose TCP header is not normal.
-fn frame_settles_later(frame: &[u8])
-    requires { ReadsNotNormal frame.now }
-    ensures { rebuilt (rebuilt frame.now) ≢ rebuilt frame.now }
-{
-    laws::frame_settles(frame, frame);
-}
-
-/// Two rounds keep the meaning of a frame, and give none to a frame that has none.
-fn frame_settles_keeps(frame: &[u8])
-    ensures some { (m : Meaning) → meaning_of frame.now ≡ Some m → meaning_of (rebuilt (rebuilt frame.now)) ≡ Some m }
-    ensures none { meaning_of frame.now ≡ None → meaning_of (rebuilt (rebuilt frame.now)) ≡ None }
-{
-    laws::frame_settles(frame, frame);
-}
-
-/// No frame of this meaning is shorter.
-fn frame_settles_shortest(frame: &[u8], other: &[u8], len: usize)
-    requires whole { IsSome (meaning_of frame.now) }
-    requires same { meaning_of other.now ≡ meaning_of frame.now }
-    requires len { length other.now ≡ len }
-    ensures { length (rebuilt (rebuilt frame.now)) ≤ len }
-{
-    laws::frame_settles(frame, other);
-}
-
-/// Frames of one meaning become the same bytes.
-fn frame_settles_one(frame: &[u8], other: &[u8])
-    requires { IsSome (meaning_of frame.now) }
-    ensures same { meaning_of other.now ≡ meaning_of frame.now → rebuilt (rebuilt other.now) ≡ rebuilt (rebuilt frame.now) }
-    ensures apart { meaning_of other.now ≢ meaning_of frame.now → rebuilt (rebuilt other.now) ≢ rebuilt (rebuilt frame.now) }
-{
-    laws::frame_settles(frame, other);
+    laws::frame_rebuilds(bytes, frame);
+    laws::frame_settles(bytes, bytes);
 }

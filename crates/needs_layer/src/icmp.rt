@@ -1,30 +1,11 @@
-//! Needs the statements of ICMP.
+//! What follows from the statements of ICMP and neighbour discovery.
 
-ghost use Rattle.std.specs.Prelude.{◌≡◌, ◌≤◌, ◌∷◌, [], IsTrue, Some, drop, false, length, take, true};
-ghost use Rattle.wire_addr.specs.IpAddress.{version_of};
-ghost use Rattle.wire_icmp.specs.Icmp.{IsExact, Reads, bytes_of, icmp_of, message_sum, packet_bytes, packet_bytes_mut, with_checksum};
+ghost use Rattle.std.specs.Prelude.{◌≡◌, ◌≤◌, ◌∷◌, [], Some, length};
+ghost use Rattle.wire_icmp.specs.Ndisc.{ndisc_of};
+ghost use Rattle.wire_icmp.specs.Icmp.{icmp_of, packet_bytes, packet_bytes_mut};
 
 use wire_addr::{IpAddress, IpVersion, Ipv4Address, Ipv6Address};
-use wire_icmp::{Exceeded, IcmpPacket, IcmpPacketMut, IcmpRepr, Unreachable, laws};
-
-mod lengths;
-
-/// Any message between two addresses of one version. A checksum that is verified was computed.
-fn emit_reads_back(
-    value: IcmpRepr,
-    src_addr: IpAddress,
-    dst_addr: IpAddress,
-    payload: &[u8],
-    computed: bool,
-    verified: bool,
-) -> IcmpRepr
-    requires family { version_of src_addr ≡ version_of dst_addr }
-    requires checksum { IsTrue verified → IsTrue computed }
-    ensures { Reads (bytes_of value payload.now src_addr dst_addr computed) src_addr dst_addr verified result payload.now }
-{
-    laws::emit_reads_back_icmp(value, src_addr, dst_addr, payload, computed, verified);
-    value.normal(src_addr.version())
-}
+use wire_icmp::{Exceeded, IcmpPacket, IcmpPacketMut, IcmpRepr, NdiscRepr, Unreachable, laws};
 
 /// Over IPv4 an MTU has 16 bits and a pointer 8 bits. A larger number becomes the largest one. The code 4 of
 /// "destination unreachable" means that the packet is too big.
@@ -49,32 +30,7 @@ fn normal_is_exact(code: u8) -> [IcmpRepr; 5]
     ]
 }
 
-/// A value that the header can express is its own normal form.
-fn normal_is_exact_and_same(version: IpVersion, value: IcmpRepr) -> IcmpRepr
-    requires { IsExact version value }
-    ensures { result ≡ value }
-{
-    laws::normal_is_exact_icmp(version, value)
-}
-
-/// A parsed value is its own normal form, and the header of its version can express it.
-fn read_is_exact(
-    bytes: &[u8],
-    src_addr: IpAddress,
-    dst_addr: IpAddress,
-    verified: bool,
-    value: IcmpRepr,
-    payload: &[u8],
-) -> IcmpRepr
-    requires { Reads bytes.now src_addr dst_addr verified value payload.now }
-    ensures exact { IsExact (version_of src_addr) value }
-    ensures normal { result ≡ value }
-{
-    laws::read_is_exact_icmp(bytes, src_addr, dst_addr, verified, value, payload);
-    value.normal(src_addr.version())
-}
-
-/// Computed values are those of messages of 8 bytes or more, whose checksum is correct if it is verified.
+/// A value is computed only from 8 bytes or more.
 fn reading_is_computed(
     bytes: &[u8],
     src_addr: IpAddress,
@@ -83,78 +39,9 @@ fn reading_is_computed(
     value: IcmpRepr,
 )
     requires { icmp_of src_addr dst_addr verified bytes.now ≡ Some value }
-    ensures header { 8 ≤ length bytes.now }
-    ensures checksum { IsTrue verified → message_sum src_addr dst_addr bytes.now ≡ 65535 }
-    ensures reads { Reads bytes.now src_addr dst_addr verified value (drop 8 bytes.now) }
+    ensures { 8 ≤ length bytes.now }
 {
     laws::reading_is_computed_icmp(bytes, src_addr, dst_addr, verified, value);
-}
-
-/// The value of each message is computed.
-fn reading_is_computed_of_messages(
-    bytes: &[u8],
-    src_addr: IpAddress,
-    dst_addr: IpAddress,
-    verified: bool,
-    value: IcmpRepr,
-    payload: &[u8],
-)
-    requires { Reads bytes.now src_addr dst_addr verified value payload.now }
-    ensures { icmp_of src_addr dst_addr verified bytes.now ≡ Some value }
-{
-    laws::reading_is_computed_icmp(bytes, src_addr, dst_addr, verified, value);
-}
-
-/// The first 4 bytes of a header have the checksum.
-fn filled_checksum_verifies(bytes: &[u8], src_addr: IpAddress, dst_addr: IpAddress)
-    requires { length bytes.now ≡ 4 }
-    ensures { message_sum src_addr dst_addr (with_checksum src_addr dst_addr bytes.now) ≡ 65535 }
-{
-    laws::filled_checksum_verifies_icmp(bytes, src_addr, dst_addr);
-}
-
-/// A message whose checksum was not computed, with a computed checksum.
-fn filled_checksum_verifies_and_reads(
-    bytes: &[u8],
-    src_addr: IpAddress,
-    dst_addr: IpAddress,
-    value: IcmpRepr,
-    payload: &[u8],
-)
-    requires { Reads bytes.now src_addr dst_addr false value payload.now }
-    ensures { Reads (with_checksum src_addr dst_addr bytes.now) src_addr dst_addr true value payload.now }
-{
-    laws::filled_checksum_verifies_icmp(bytes, src_addr, dst_addr);
-}
-
-/// A message that parses with its checksum verified parses without too.
-fn valid_checksum_reads(
-    bytes: &[u8],
-    src_addr: IpAddress,
-    dst_addr: IpAddress,
-    value: IcmpRepr,
-    payload: &[u8],
-)
-    requires { Reads bytes.now src_addr dst_addr true value payload.now }
-    ensures reads { Reads bytes.now src_addr dst_addr false value payload.now }
-    ensures sum { message_sum src_addr dst_addr bytes.now ≡ 65535 }
-{
-    laws::valid_checksum_reads_icmp(bytes, src_addr, dst_addr, value, payload);
-}
-
-/// A message whose sum is 0xffff parses with its checksum verified too.
-fn valid_checksum_reads_verified(
-    bytes: &[u8],
-    src_addr: IpAddress,
-    dst_addr: IpAddress,
-    value: IcmpRepr,
-    payload: &[u8],
-)
-    requires reads { Reads bytes.now src_addr dst_addr false value payload.now }
-    requires sum { message_sum src_addr dst_addr bytes.now ≡ 65535 }
-    ensures { Reads bytes.now src_addr dst_addr true value payload.now }
-{
-    laws::valid_checksum_reads_icmp(bytes, src_addr, dst_addr, value, payload);
 }
 
 /// Each field of a header of zeros is written. All bytes after the header stay.
@@ -197,7 +84,7 @@ fn fill_checksum_writes_one_field(
     laws::fill_checksum_writes_one_field_icmp(packet, src, dst);
 }
 
-/// The same between fe80::1 and fe80::2. The checksum covers a pseudo-header too.
+/// An echo request between fe80::1 and fe80::2. The checksum covers a pseudo-header too.
 #[tactic(auto, unfolding(wire_checksum::specs::WordSum::words, wire_checksum::specs::WordSum::residue))]
 fn fill_checksum_writes_one_field_over_ipv6(
     packet: &mut IcmpPacketMut<'_>,
@@ -211,19 +98,6 @@ fn fill_checksum_writes_one_field_over_ipv6(
 {
     let (src, dst) = (IpAddress::Ipv6(src_addr), IpAddress::Ipv6(dst_addr));
     laws::fill_checksum_writes_one_field_icmp(packet, src, dst);
-}
-
-/// The checksum of any message of 4 bytes or more is correct after it was filled in.
-fn fill_checksum_writes_one_field_and_verifies(
-    packet: &mut IcmpPacketMut<'_>,
-    src_addr: IpAddress,
-    dst_addr: IpAddress,
-)
-    requires header { 4 ≤ length (packet_bytes_mut packet.old) }
-    requires family { version_of src_addr ≡ version_of dst_addr }
-    ensures { message_sum src_addr dst_addr (packet_bytes_mut packet.new) ≡ 65535 }
-{
-    laws::fill_checksum_writes_one_field_icmp(packet, src_addr, dst_addr);
 }
 
 /// The sequence number of an echo request was changed from 1 to 2.
@@ -244,15 +118,6 @@ fn update_checksum_writes_one_field_of_zeros(packet: &mut IcmpPacketMut<'_>)
     laws::update_checksum_writes_one_field_icmp(packet, 0, 0);
 }
 
-/// Whatever the words were, all bytes but those of the checksum stay.
-fn update_checksum_writes_one_field_of_any(packet: &mut IcmpPacketMut<'_>, old: u16, new: u16)
-    requires { 4 ≤ length (packet_bytes_mut packet.old) }
-    ensures before { take 2 (packet_bytes_mut packet.new) ≡ take 2 (packet_bytes_mut packet.old) }
-    ensures after { drop 4 (packet_bytes_mut packet.new) ≡ drop 4 (packet_bytes_mut packet.old) }
-{
-    laws::update_checksum_writes_one_field_icmp(packet, old, new);
-}
-
 /// The identifier of an echo request becomes 0x0102, as a router writes it that translates addresses.
 #[tactic(auto, unfolding(wire_checksum::specs::WordSum::residue))]
 fn update_ident_writes_two_fields(packet: &mut IcmpPacketMut<'_>, rest: &[u8])
@@ -262,35 +127,18 @@ fn update_ident_writes_two_fields(packet: &mut IcmpPacketMut<'_>, rest: &[u8])
     laws::update_ident_writes_two_fields_icmp(packet, 0x0102);
 }
 
-/// A correct checksum stays correct, with any identifier, over IPv4 and IPv6.
-fn update_ident_writes_two_fields_and_verifies(
-    packet: &mut IcmpPacketMut<'_>,
-    src_addr: IpAddress,
-    dst_addr: IpAddress,
-    ident: u16,
+/// A neighbour discovery message has 24 bytes or more, and the hop limit 255 (RFC 4861, section 7.1).
+fn ndisc_reading_is_computed(
+    bytes: &[u8],
+    src_addr: Ipv6Address,
+    dst_addr: Ipv6Address,
+    hop_limit: u8,
+    verified: bool,
+    value: NdiscRepr,
 )
-    requires header { 6 ≤ length (packet_bytes_mut packet.old) }
-    requires sum { message_sum src_addr dst_addr (packet_bytes_mut packet.old) ≡ 65535 }
-    ensures { message_sum src_addr dst_addr (packet_bytes_mut packet.new) ≡ 65535 }
+    requires { ndisc_of src_addr dst_addr hop_limit verified bytes.now ≡ Some value }
+    ensures len { 24 ≤ length bytes.now }
+    ensures hops { hop_limit ≡ 255 }
 {
-    laws::update_ident_writes_two_fields_icmp(packet, ident);
-}
-
-/// Views of any bytes have these bytes.
-fn views_have_the_bytes(bytes: &[u8]) -> bool
-    ensures { IsTrue result }
-{
-    laws::views_have_the_bytes_icmp(bytes)
-}
-
-/// A message that is no query is an error, in both versions.
-fn errors_are_no_queries(
-    value: &IcmpRepr,
-    version: IpVersion,
-    packet: &mut IcmpPacketMut<'_>,
-) -> bool
-    requires { length (packet_bytes_mut packet.old) ≡ 1 }
-    ensures { IsTrue result }
-{
-    laws::errors_are_no_queries_icmp(value, version, packet)
+    laws::reading_is_computed_ndisc(bytes, src_addr, dst_addr, hop_limit, verified, value);
 }

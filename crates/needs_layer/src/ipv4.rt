@@ -1,125 +1,15 @@
-//! Needs the statements of IPv4.
+//! What follows from the statements of IPv4.
 
-ghost use Rattle.std.specs.Prelude.{ℕ, ◌≡◌, ◌++◌, ◌∷◌, ◌+◌, ◌≤◌, [], Bool, IsTrue, None, Some, drop, false, length, replicate, take, true};
-ghost use Rattle.std.specs.declared.cmp.Ordering.{Ordering};
+ghost use Rattle.std.specs.Prelude.{◌≡◌, ◌++◌, ◌∷◌, [], false, length, replicate, true};
 ghost use Rattle.std.specs.declared.cmp.Ordering.TheVariants.{Less};
-ghost use Rattle.wire_checksum.specs.WordSum.{sum_of_bytes};
-ghost use Rattle.wire_addr.specs.Protocol.{known, number_of, protocol_of};
+ghost use Rattle.wire_addr.specs.Protocol.{number_of};
 ghost use Rattle.wire_addr.specs.declared.ip_protocol.IpProtocol.TheVariants as protocol;
-ghost use Rattle.net_base.specs.Field.{field, with_field};
-ghost use Rattle.wire_ipv4.specs.Ipv4.{HasChecksum, Reads, bytes_of, header_len, ipv4_of, key_cmp, normal, packet_bytes, packet_bytes_mut, with_checksum};
-ghost use Rattle.wire_ipv4.specs.declared.ipv4.repr.Ipv4Repr.{Ipv4Repr};
-
-mod lengths;
+ghost use Rattle.net_base.specs.Field.{field};
+ghost use Rattle.wire_ipv4.specs.Ipv4.{packet_bytes, packet_bytes_mut};
 
 use net_base::laws::bytes_fit;
 use wire_addr::{IpProtocol, Ipv4Address};
-use wire_ipv4::{Ipv4FragKey, Ipv4Packet, Ipv4PacketMut, Ipv4Repr, laws};
-
-/// The longest payload that a packet can have. The total length is then 65,535.
-fn emit_reads_back(value: Ipv4Repr, payload: &[u8], computed: bool, verified: bool)
-    requires payload_len { value.payload_len ≡ 65515 }
-    requires payload { length payload.now ≡ 65515 }
-    requires checksum { IsTrue verified → IsTrue computed }
-    ensures { Reads (bytes_of value computed ++ payload.now) verified (record value { next_header = known value.next_header }) }
-{
-    laws::emit_reads_back_ipv4(value, payload, computed, verified);
-}
-
-/// A number that is computed from the parsed value is the same for each value of the same bytes.
-fn reads_once(bytes: &[u8], verified: bool, value: Ipv4Repr, other: Ipv4Repr)
-    requires value { Reads bytes.now verified value }
-    requires other { Reads bytes.now verified other }
-    ensures { (f : Ipv4Repr → ℕ) → f value ≡ f other }
-{
-    laws::reads_once_ipv4(bytes, verified, value, other);
-}
-
-/// A packet is parsed as the computed value, and only then.
-fn reading_is_computed(bytes: &[u8], verified: bool, value: Ipv4Repr)
-    ensures computed { Reads bytes.now verified value → ipv4_of verified bytes.now ≡ Some value }
-    ensures reads { ipv4_of verified bytes.now ≡ Some value → Reads bytes.now verified value }
-    ensures none { ipv4_of verified bytes.now ≡ None → Reads bytes.now verified value → ⊥ }
-{
-    laws::reading_is_computed_ipv4(bytes, verified, value);
-}
-
-/// A test that the normal form of a parsed value passes is passed by the value.
-fn normal_twice(bytes: &[u8], verified: bool, value: Ipv4Repr)
-    ensures { (f : Ipv4Repr → Bool) → Reads bytes.now verified value → IsTrue (f (normal value)) → IsTrue (f value) }
-{
-    laws::normal_twice_ipv4(bytes, verified, value);
-}
-
-/// A test that the normal forms of two normal forms pass is passed by the two normal forms.
-fn normal_twice_of_two(bytes: &[u8], verified: bool, a: Ipv4Repr, b: Ipv4Repr)
-    ensures { (f : Ipv4Repr → Ipv4Repr → Bool) → IsTrue (f (normal (normal a)) (normal (normal b))) → IsTrue (f (normal a) (normal b)) }
-{
-    laws::normal_twice_ipv4(bytes, verified, a);
-    laws::normal_twice_ipv4(bytes, verified, b);
-}
-
-/// 65,535 bytes that parse with and without the checksum verified have at most 65,515 bytes of payload.
-fn no_more_bytes(bytes: &[u8], verified: bool, computed: bool, value: Ipv4Repr)
-    requires { (any : Bool) → Reads bytes.now any value }
-    ensures len { length (bytes_of value computed) + value.payload_len ≤ length bytes.now }
-    ensures longest { length bytes.now ≡ 65535 → value.payload_len ≤ 65515 }
-{
-    laws::no_more_bytes_ipv4(bytes, verified, computed, value);
-}
-
-/// A header of 15 words that fills the bytes.
-fn filled_checksum_verifies(bytes: &[u8])
-    requires header { header_len bytes.now ≡ 60 }
-    requires len { length bytes.now ≡ 60 }
-    ensures valid { sum_of_bytes (take 60 (with_checksum bytes.now)) ≡ 65535 }
-    ensures reads { (v : Ipv4Repr) → Reads bytes.now false v → Reads (with_checksum bytes.now) true v }
-{
-    laws::filled_checksum_verifies_ipv4(bytes);
-}
-
-/// A header of 3 words ends with the checksum, in the fewest bytes.
-fn filled_checksum_verifies_at_its_end(bytes: &[u8])
-    requires header { header_len bytes.now ≡ 12 }
-    requires len { length bytes.now ≡ 12 }
-    ensures valid { HasChecksum (with_checksum bytes.now) }
-{
-    laws::filled_checksum_verifies_ipv4(bytes);
-}
-
-/// Verifying the checksum rejects only headers whose words do not add up to 0xffff.
-fn valid_checksum_reads(bytes: &[u8], value: Ipv4Repr)
-    ensures ignored { Reads bytes.now true value → Reads bytes.now false value }
-    ensures valid { Reads bytes.now true value → sum_of_bytes (take (header_len bytes.now) bytes.now) ≡ 65535 }
-    ensures verified { Reads bytes.now false value → sum_of_bytes (take (header_len bytes.now) bytes.now) ≡ 65535 → Reads bytes.now true value }
-{
-    laws::valid_checksum_reads_ipv4(bytes, value);
-}
-
-/// Each field that a value has, and each that it has not.
-fn one_value_changes(bytes: &[u8], value: Ipv4Repr, octet: u8, address: Ipv4Address, word: u16)
-    requires { Reads bytes.now false value }
-    ensures dscp { Reads (with_field bytes.now 8 6 octet) false value }
-    ensures ecn { Reads (with_field bytes.now 14 2 octet) false value }
-    ensures ident { Reads (with_field bytes.now 32 16 word) false value }
-    ensures dont_frag { Reads (with_field bytes.now 49 1 word) false value }
-    ensures more_frags { Reads (with_field bytes.now 50 1 word) false value }
-    ensures frag_offset { Reads (with_field bytes.now 51 13 word) false value }
-    ensures hop_limit { Reads (with_field bytes.now 64 8 octet) false (record value { hop_limit = octet }) }
-    ensures next_header { Reads (with_field bytes.now 72 8 octet) false (record value { next_header = protocol_of octet }) }
-    ensures src_addr { Reads (take 12 bytes.now ++ address ++ drop 16 bytes.now) false (record value { src_addr = address }) }
-    ensures dst_addr { Reads (take 16 bytes.now ++ address ++ drop 20 bytes.now) false (record value { dst_addr = address }) }
-    ensures checksum { Reads (with_field bytes.now 80 16 word) false value }
-{
-    laws::one_value_changes_ipv4(bytes, value, octet, address, word);
-}
-
-/// A number that is computed from the result of `cmp` is computed from the defined order too.
-fn frag_key_order(a: Ipv4FragKey, b: Ipv4FragKey)
-    ensures { (f : Ordering → ℕ) → f (⟦<Ipv4FragKey as Ord>⟧.cmp a b) ≡ 7 → f (key_cmp a b) ≡ 7 }
-{
-    laws::frag_key_order(a, b);
-}
+use wire_ipv4::{Ipv4FragKey, Ipv4Packet, Ipv4PacketMut, laws};
 
 /// Of keys that differ in each value, the identification decides.
 fn frag_key_order_by_identification(a: Ipv4FragKey, b: Ipv4FragKey)
@@ -324,25 +214,6 @@ fn update_writes_dst_addr(packet: &mut Ipv4PacketMut<'_>, rest: &[u8])
     );
 }
 
-/// A valid checksum of the shortest and of the longest header stays valid.
-fn update_keeps_the_checksum(packet: &mut Ipv4PacketMut<'_>, update: laws::Ipv4Update)
-    requires { 20 ≤ length (packet_bytes_mut packet.old) }
-    ensures shortest { length (packet_bytes_mut packet.old) ≡ 20 → header_len (packet_bytes_mut packet.old) ≡ 20
-        → HasChecksum (packet_bytes_mut packet.old) → HasChecksum (packet_bytes_mut packet.new) }
-    ensures longest { length (packet_bytes_mut packet.old) ≡ 60 → header_len (packet_bytes_mut packet.old) ≡ 60
-        → HasChecksum (packet_bytes_mut packet.old) → HasChecksum (packet_bytes_mut packet.new) }
-{
-    laws::update_writes_two_fields_ipv4(packet, update);
-}
-
-/// A header of 3 words ends with the checksum.
-fn filled_header_of_three_words(packet: &mut Ipv4PacketMut<'_>)
-    requires len { length (packet_bytes_mut packet.old) ≡ 12 }
-    requires header { header_len (packet_bytes_mut packet.old) ≡ 12 }
-{
-    packet.fill_checksum();
-}
-
 /// A header of 3 words gets the checksum 3c7b, and verifies.
 #[tactic(auto, unfolding(wire_checksum::specs::WordSum::residue, wire_checksum::specs::WordSum::words))]
 fn fill_checksum_writes_one_field(packet: &mut Ipv4PacketMut<'_>) -> bool
@@ -351,20 +222,4 @@ fn fill_checksum_writes_one_field(packet: &mut Ipv4PacketMut<'_>) -> bool
     ensures verified { result ≡ true }
 {
     laws::fill_checksum_writes_one_field_ipv4(packet)
-}
-
-/// A header of 15 words that fills the bytes verifies.
-fn fill_checksum_verifies(packet: &mut Ipv4PacketMut<'_>)
-    requires header { header_len (packet_bytes_mut packet.old) ≡ 60 }
-    requires len { length (packet_bytes_mut packet.old) ≡ 60 }
-    ensures { HasChecksum (packet_bytes_mut packet.new) }
-{
-    laws::fill_checksum_writes_one_field_ipv4(packet);
-}
-
-/// A view of any bytes has these bytes.
-fn views_have_the_bytes(bytes: &[u8]) -> bool
-    ensures { result ≡ true }
-{
-    laws::views_have_the_bytes_ipv4(bytes)
 }

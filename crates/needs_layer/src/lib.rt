@@ -1,5 +1,5 @@
-//! What needs each public statement of the packet layer: about fields, addresses, endpoints, checksums, headers and whole
-//! frames. If one says less, one of these functions is no longer proved.
+//! What follows from the statements of the packet layer: bytes of worked headers and frames, figures of RFCs,
+//! bounds, and that two answers are one.
 #![tactic(auto)]
 
 mod addr;
@@ -13,7 +13,6 @@ mod icmp;
 mod ip;
 mod ipv4;
 mod ipv6;
-mod ndisc;
 mod tcp;
 mod tcp_options;
 mod udp;

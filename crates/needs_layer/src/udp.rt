@@ -1,34 +1,11 @@
-//! Needs the statements of UDP.
+//! What follows from the statements of UDP.
 
-ghost use Rattle.std.specs.Prelude.{◌≡◌, ◌≢◌, ◌≤◌, ◌++◌, ◌∷◌, [], Bool, IsTrue, List, Some, false, length, true, ℕ};
+ghost use Rattle.std.specs.Prelude.{◌≡◌, ◌≤◌, ◌++◌, ◌∷◌, [], Bool, IsTrue, Some, false, length};
 ghost use Rattle.wire_addr.specs.IpAddress.{version_of};
-ghost use Rattle.net_base.specs.Field.{field, with_field};
-ghost use Rattle.wire_udp.specs.Udp.{HasChecksum, HasLengths, Reads, Verifies, bytes_of, packet_bytes, packet_bytes_mut, packet_len, payload_of, udp_of, with_checksum};
-ghost use Rattle.wire_udp.specs.declared.udp.repr.UdpRepr.{UdpRepr};
+ghost use Rattle.wire_udp.specs.Udp.{HasChecksum, HasLengths, Reads, bytes_of, packet_bytes, packet_bytes_mut, packet_len, udp_of};
 
 use wire_addr::IpAddress;
 use wire_udp::{UdpPacket, UdpPacketMut, UdpRepr, laws};
-
-mod lengths;
-
-/// A packet is parsed as it was emitted. A checksum that is verified was computed.
-fn emit_reads_back(
-    value: UdpRepr,
-    payload: &[u8],
-    rest: &[u8],
-    src_addr: IpAddress,
-    dst_addr: IpAddress,
-    computed: bool,
-    verified: bool,
-)
-    requires payload_len { length payload.now ≤ 65527 }
-    requires receiver { value.dst_port ≢ 0 }
-    requires family { version_of src_addr ≡ version_of dst_addr }
-    requires checksum { IsTrue verified → IsTrue computed }
-    ensures { Reads (bytes_of value payload.now src_addr dst_addr computed ++ rest.now) src_addr dst_addr verified value payload.now }
-{
-    laws::emit_reads_back_udp(value, src_addr, dst_addr, payload, rest, computed, verified);
-}
 
 /// The longest payload that a packet can have, and the port 1, without a checksum. The length field is then 65,535.
 fn emit_without_checksum_reads_back(
@@ -57,20 +34,6 @@ fn reading_is_computed(bytes: &[u8], src_addr: IpAddress, dst_addr: IpAddress)
         dst_port: 99,
     };
     laws::reading_is_computed_udp(bytes, src_addr, dst_addr, false, value);
-}
-
-/// Bytes for which a value is computed parse as it.
-fn computed_reading(
-    bytes: &[u8],
-    src_addr: IpAddress,
-    dst_addr: IpAddress,
-    verified: bool,
-    value: UdpRepr,
-)
-    requires { udp_of src_addr dst_addr verified bytes.now ≡ Some value }
-    ensures { Reads bytes.now src_addr dst_addr verified value (payload_of bytes.now) }
-{
-    laws::reading_is_computed_udp(bytes, src_addr, dst_addr, verified, value);
 }
 
 /// A parsed payload has at most 65,527 bytes.
@@ -112,75 +75,6 @@ fn setter_writes_one_field(packet: &mut UdpPacketMut<'_>, rest: &[u8])
     laws::setter_writes_one_field_udp(packet, laws::UdpSetting::Checksum(0x0708));
 }
 
-/// A checksum that was filled in is correct and not 0, and the packet is parsed with its checksum verified.
-fn filled_checksum_verifies(bytes: &[u8], src_addr: IpAddress, dst_addr: IpAddress)
-    requires lengths { HasLengths bytes.now }
-    requires family { version_of src_addr ≡ version_of dst_addr }
-    ensures valid { HasChecksum src_addr dst_addr (with_checksum src_addr dst_addr bytes.now) }
-    ensures written { field (with_checksum src_addr dst_addr bytes.now) 48 16 ≢ 0 }
-    ensures verifies { Verifies src_addr dst_addr (with_checksum src_addr dst_addr bytes.now) }
-    ensures reads { (v : UdpRepr) (payload : List ℕ) → Reads bytes.now src_addr dst_addr false v payload
-        → Reads (with_checksum src_addr dst_addr bytes.now) src_addr dst_addr true v payload }
-{
-    laws::filled_checksum_verifies_udp(bytes, src_addr, dst_addr);
-}
-
-/// For a packet that parses with its checksum not verified, and whose checksum is valid, a value is computed.
-fn valid_checksum_reads(
-    bytes: &[u8],
-    src_addr: &IpAddress,
-    dst_addr: &IpAddress,
-    value: &UdpRepr,
-    payload: &[u8],
-)
-    requires reads { Reads bytes.now src_addr.now dst_addr.now false value.now payload.now }
-    requires valid { HasChecksum src_addr.now dst_addr.now bytes.now }
-    ensures { udp_of src_addr.now dst_addr.now true bytes.now ≡ Some value.now }
-{
-    laws::reading_is_computed_udp(bytes, *src_addr, *dst_addr, true, *value);
-    laws::valid_checksum_reads_udp(bytes, *src_addr, *dst_addr, *value, payload);
-}
-
-/// Another source port, another destination port or another checksum changes only that value.
-fn one_value_changes(
-    bytes: &[u8],
-    src_addr: IpAddress,
-    dst_addr: IpAddress,
-    value: UdpRepr,
-    payload: &[u8],
-    word: u16,
-)
-    requires { (verified : Bool) → (IsTrue verified → IsTrue false) → Reads bytes.now src_addr dst_addr verified value payload.now }
-    ensures src_port { Reads (with_field bytes.now 0 16 word) src_addr dst_addr false (record value { src_port = word }) payload.now }
-    ensures dst_port { word ≢ 0 → Reads (with_field bytes.now 16 16 word) src_addr dst_addr false (record value { dst_port = word }) payload.now }
-    ensures checksum { Reads (with_field bytes.now 48 16 word) src_addr dst_addr false value payload.now }
-{
-    laws::one_value_changes_udp(bytes, src_addr, dst_addr, value, payload, word);
-}
-
-/// Another destination port, which is not 0, is parsed with the same source port.
-fn destination_port_changes(
-    bytes: &[u8],
-    changed: &[u8],
-    src_addr: &IpAddress,
-    dst_addr: &IpAddress,
-    value: &UdpRepr,
-    payload: &[u8],
-    word: u16,
-)
-    requires reads { Reads bytes.now src_addr.now dst_addr.now false value.now payload.now }
-    requires some { word ≢ 0 }
-    requires changed { changed.now ≡ with_field bytes.now 16 16 word }
-    ensures { udp_of src_addr.now dst_addr.now false changed.now ≡ Some (record value.now { dst_port = word }) }
-{
-    let other = UdpRepr {
-        src_port: value.src_port,
-        dst_port: word,
-    };
-    laws::one_value_changes_udp(bytes, *src_addr, *dst_addr, *value, payload, word);
-    laws::reading_is_computed_udp(changed, *src_addr, *dst_addr, false, other);
-}
-
 /// The source port grows by 1, and the checksum 0x1234 falls by 1.
 #[tactic(auto, unfolding(wire_checksum::specs::WordSum::residue, wire_checksum::specs::WordSum::words))]
 fn update_writes_two_fields(packet: &mut UdpPacketMut<'_>, rest: &[u8])
@@ -208,34 +102,6 @@ fn update_for_address_writes_checksum(packet: &mut UdpPacketMut<'_>, rest: &[u8]
     let old = IpAddress::v4(10, 0, 0, 1);
     let new = IpAddress::v4(10, 0, 1, 1);
     laws::update_writes_two_fields_udp(packet, laws::UdpUpdate::Address(old, new));
-}
-
-/// A valid checksum stays valid for a new source port.
-fn update_keeps_checksum(
-    packet: &mut UdpPacketMut<'_>,
-    src_addr: IpAddress,
-    dst_addr: IpAddress,
-    port: u16,
-)
-    requires lengths { HasLengths (packet_bytes_mut packet.old) }
-    requires valid { HasChecksum src_addr dst_addr (packet_bytes_mut packet.old) }
-    ensures { HasChecksum src_addr dst_addr (packet_bytes_mut packet.new) }
-{
-    laws::update_writes_two_fields_udp(packet, laws::UdpUpdate::SrcPort(port));
-}
-
-/// A valid checksum stays valid for a new destination port.
-fn update_keeps_checksum_for_destination_port(
-    packet: &mut UdpPacketMut<'_>,
-    src_addr: IpAddress,
-    dst_addr: IpAddress,
-    port: u16,
-)
-    requires lengths { HasLengths (packet_bytes_mut packet.old) }
-    requires valid { HasChecksum src_addr dst_addr (packet_bytes_mut packet.old) }
-    ensures { HasChecksum src_addr dst_addr (packet_bytes_mut packet.new) }
-{
-    laws::update_writes_two_fields_udp(packet, laws::UdpUpdate::DstPort(port));
 }
 
 /// A valid checksum stays valid for a new source address.
@@ -295,43 +161,4 @@ fn fill_checksum_writes_one_field(packet: &mut UdpPacketMut<'_>)
     let src_addr = IpAddress::v4(10, 0, 0, 1);
     let dst_addr = IpAddress::v4(10, 0, 0, 2);
     laws::fill_checksum_writes_one_field_udp(packet, src_addr, dst_addr);
-}
-
-/// A checksum that was filled in is correct and not 0.
-fn fill_checksum_is_correct(packet: &mut UdpPacketMut<'_>, src_addr: IpAddress, dst_addr: IpAddress)
-    requires lengths { HasLengths (packet_bytes_mut packet.old) }
-    requires family { version_of src_addr ≡ version_of dst_addr }
-    ensures some { field (packet_bytes_mut packet.new) 48 16 ≢ 0 }
-    ensures valid { Verifies src_addr dst_addr (packet_bytes_mut packet.new) }
-{
-    laws::fill_checksum_writes_one_field_udp(packet, src_addr, dst_addr);
-}
-
-/// The length field counts the header and the payload.
-fn lengths_agree(packet: &UdpPacket<'_>, value: UdpRepr) -> bool
-    requires { HasLengths (packet_bytes packet.now) }
-    ensures { IsTrue result }
-{
-    laws::lengths_agree_udp(packet, value)
-}
-
-/// Views of any bytes.
-fn views_have_the_bytes(bytes: &[u8]) -> bool
-    ensures { IsTrue result }
-{
-    laws::views_have_the_bytes_udp(bytes)
-}
-
-/// The two calls that verify a checksum, over IPv4 and IPv6.
-fn checksum_verdicts_agree(
-    packet: &UdpPacket<'_>,
-    src_addr: &IpAddress,
-    dst_addr: &IpAddress,
-) -> bool
-    requires header { 8 ≤ length (packet_bytes packet.now) }
-    requires whole { packet_len (packet_bytes packet.now) ≤ length (packet_bytes packet.now) }
-    requires family { version_of src_addr.now ≡ version_of dst_addr.now }
-    ensures { IsTrue result }
-{
-    laws::checksum_verdicts_agree_udp(packet, src_addr, dst_addr)
 }

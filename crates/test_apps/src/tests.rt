@@ -3,8 +3,11 @@
 ghost use Rattle.std.specs.Prelude.{◌≡◌};
 
 mod calls;
+mod datagrams;
 mod flows;
+mod fragments;
 mod hop_guard;
+mod ipv4_fragments;
 mod links;
 mod nat;
 mod replies;

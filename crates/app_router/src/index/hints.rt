@@ -5,8 +5,10 @@
 //! begin, and how a part of many nodes is divided again. The last quarter of the hints belongs to such divisions,
 //! one to every four nodes.
 
-ghost use Rattle.std.specs.Prelude.{◌≡◌, ◌+◌, ◌-◌, ◌/◌, ◌^◌, ◌≤◌, ◌<◌, length, map};
-ghost use Rattle.app_router.specs.Index.{unmarked};
+ghost use Rattle.std.specs.Prelude.{◌≡◌, ◌≢◌, ◌+◌, ◌-◌, ◌*◌, ◌/◌, ◌%◌, ◌^◌, ◌≤◌, ◌<◌, drop, length, map, take, ℕ};
+ghost use Rattle.std.specs.Int.Bits.{bit_and};
+ghost use Rattle.app_router.specs.Hints.{HasPlaces, IsHinted, IsInOrder, IsPlain, IsUnhinted, hint_at, offset_by, part_for, part_of, places_of};
+ghost use Rattle.app_router.specs.Index.{node_at, unmarked};
 
 use super::Node;
 
@@ -23,7 +25,8 @@ const PLACE_BITS: u32 = 25;
 // Stores the hints. All of them are 0 before.
 pub fn mark(nodes: &mut [Node])
     requires { length nodes.old < 2 ^ 32 }
-    ensures { map unmarked nodes.new ≡ map unmarked nodes.old }
+    ensures same { map unmarked nodes.new ≡ map unmarked nodes.old }
+    ensures hinted { 12 < length nodes.old → IsInOrder nodes.old → IsHinted nodes.new }
 {
     if nodes.len() <= SMALL {
         return;
@@ -38,7 +41,8 @@ pub fn mark(nodes: &mut [Node])
 // Stores the hints of the nodes of one version. The first hint is left out.
 fn mark_version(nodes: &mut [Node])
     requires { length nodes.old < 2 ^ 32 }
-    ensures { map unmarked nodes.new ≡ map unmarked nodes.old }
+    ensures same { map unmarked nodes.new ≡ map unmarked nodes.old }
+    ensures places { IsUnhinted nodes.old → HasPlaces nodes.new }
 {
     let len = nodes.len();
     if len <= SMALL {
@@ -53,7 +57,7 @@ fn mark_version(nodes: &mut [Node])
     for part in 0..parts {
         let high = (nodes[part + 1].hint as usize).max(low).min(len);
         let divided = mark_part(nodes, low, high);
-        set_hint(nodes, part + 1, low as u32 | divided);
+        set_hint(nodes, part + 1, low as u32 + divided);
         low = high;
     }
     set_hint(nodes, parts + 1, len as u32);
@@ -61,7 +65,9 @@ fn mark_version(nodes: &mut [Node])
 
 fn set_hint(nodes: &mut [Node], place: usize, hint: u32)
     requires { place < length nodes.old }
-    ensures { map unmarked nodes.new ≡ map unmarked nodes.old }
+    ensures same { map unmarked nodes.new ≡ map unmarked nodes.old }
+    ensures set { hint_at nodes.new place ≡ hint }
+    ensures others { (k : ℕ) → k ≢ place → hint_at nodes.new k ≡ hint_at nodes.old k }
 {
     let node = nodes[place];
     nodes[place] = Node { hint, ..node };
@@ -73,7 +79,11 @@ fn set_hint(nodes: &mut [Node], place: usize, hint: u32)
 fn mark_part(nodes: &mut [Node], low: usize, high: usize) -> u32
     requires order { low ≤ high }
     requires within { (high ≤ length nodes.old) × (length nodes.old < 2 ^ 32) }
-    ensures { map unmarked nodes.new ≡ map unmarked nodes.old }
+    ensures same { map unmarked nodes.new ≡ map unmarked nodes.old }
+    ensures others { (k : ℕ) → k < length nodes.old - length nodes.old / 4 → hint_at nodes.new k ≡ hint_at nodes.old k }
+    ensures bits { result % 2 ^ 25 ≡ 0 }
+    ensures most { result ≤ 127 * 2 ^ 25 }
+    ensures few { 0 < result → length nodes.old < 2 ^ 25 }
 {
     if high - low <= FEW || nodes.len() >> PLACE_BITS > 0 {
         return 0;
@@ -109,7 +119,8 @@ fn mark_divisions(
     requires within { (start ≤ end) × (end ≤ length nodes.old) × (length nodes.old < 2 ^ 32) }
     requires hints { (0 < count) × (first + count ≤ length nodes.old) }
     requires common { common < 127 }
-    ensures { map unmarked nodes.new ≡ map unmarked nodes.old }
+    ensures same { map unmarked nodes.new ≡ map unmarked nodes.old }
+    ensures others { (k : ℕ) → k < first → hint_at nodes.new k ≡ hint_at nodes.old k }
 {
     for i in start..end {
         let division = share(nodes[i].after(common), count);
@@ -140,6 +151,7 @@ fn divisions(len: usize, low: usize, high: usize) -> (usize, usize)
     requires { (low + 24 < high) × (high ≤ len) }
     ensures some { 0 < result.1 }
     ensures within { result.0 + result.1 ≤ len }
+    ensures from { len - len / 4 ≤ result.0 }
 {
     let before = low / 4;
     (len - len / 4 + before, high / 4 - before)
@@ -155,7 +167,8 @@ fn parts(len: usize) -> usize
 
 // The part of a number below 2^64, if these numbers are divided into so many equal parts.
 fn share(number: u64, count: usize) -> usize
-    ensures { 0 < count → result < count }
+    ensures within { 0 < count → result < count }
+    ensures value { result ≡ part_of count number }
 {
     let product = u128::from(number) * count as u128;
     (product >> 64) as usize
@@ -165,6 +178,10 @@ fn share(number: u64, count: usize) -> usize
 #[inline(always)]
 pub fn hinted(nodes: &[Node], target: &Node) -> (usize, usize)
     requires { 0 < length nodes.now }
+    ensures ipv4 { target.now.version ≡ 4 → hint_at nodes.now 0 ≤ length nodes.now → let part = take (hint_at nodes.now 0) nodes.now in
+        12 < length part → IsPlain part (part_for part target.now) → result ≡ places_of part (part_for part target.now) }
+    ensures ipv6 { target.now.version ≢ 4 → hint_at nodes.now 0 ≤ length nodes.now → let part = drop (hint_at nodes.now 0) nodes.now in
+        12 < length part → IsPlain part (part_for part target.now) → result ≡ offset_by (hint_at nodes.now 0) (places_of part (part_for part target.now)) }
 {
     let ipv4 = nodes[0].hint as usize;
     if ipv4 > nodes.len() {
@@ -181,23 +198,43 @@ pub fn hinted(nodes: &[Node], target: &Node) -> (usize, usize)
 
 // The same among the nodes of one version.
 #[inline(always)]
-fn hinted_part(nodes: &[Node], target: &Node) -> (usize, usize) {
+fn hinted_part(nodes: &[Node], target: &Node) -> (usize, usize)
+    ensures { 12 < length nodes.now → IsPlain nodes.now (part_for nodes.now target.now) → result ≡ places_of nodes.now (part_for nodes.now target.now) }
+{
     let len = nodes.len();
     if len <= SMALL {
         return (0, len);
     }
     let part = share(target.high, parts(len));
     let (hint, next) = (nodes[part + 1].hint, nodes[part + 2].hint);
-    let places = if len >> PLACE_BITS == 0 {
-        (1 << PLACE_BITS) - 1
-    } else {
-        u32::MAX
-    };
-    let (low, high) = ((hint & places) as usize, (next & places) as usize);
+    let places = place_bits(len);
+    let (low, high) = (place_in(hint, places), place_in(next, places));
     if hint > places && low + FEW < high && high <= len {
         division(nodes, low, high, target, common_bits(hint))
     } else {
         (low, high)
+    }
+}
+
+// The place in a hint, by the bits that are one.
+#[inline(always)]
+fn place_in(hint: u32, places: u32) -> usize
+    ensures value { result ≡ bit_and hint places }
+    ensures fits { hint < 2 ^ 32 }
+{
+    (hint & places) as usize
+}
+
+// The bits of a hint that are a place.
+#[inline(always)]
+fn place_bits(len: usize) -> u32
+    ensures few { len < 2 ^ 25 → result ≡ 2 ^ 25 - 1 }
+    ensures many { 2 ^ 25 ≤ len → result ≡ 2 ^ 32 - 1 }
+{
+    if len >> PLACE_BITS == 0 {
+        (1 << PLACE_BITS) - 1
+    } else {
+        u32::MAX
     }
 }
 

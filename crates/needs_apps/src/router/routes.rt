@@ -1,7 +1,7 @@
-//! Needs the contracts of the choice of a route, and of the errors of the router.
+//! What follows from the contracts of the choice of a route, and of the errors of the router.
 
-ghost use Rattle.std.specs.Prelude.{◌≡◌, IfSome, MatchOption, None};
-ghost use Rattle.app_host.specs.Message.{IsSendable, values_of};
+ghost use Rattle.std.specs.Prelude.{◌≡◌, MatchOption, None};
+ghost use Rattle.app_host.specs.Message.{values_of};
 
 use app_host::{Interface, MessageFrame};
 use app_router::route::{Route, choose};
@@ -25,15 +25,4 @@ fn error_once<'a>(
         (λ f. MatchOption result.1 ⊥ (λ g. (f.header ≡ g.header) × (values_of f ≡ values_of g))) }
 {
     (error(frame, ours, problem), error(frame, ours, problem))
-}
-
-/// The error can be sent.
-fn error_is_sendable<'a>(
-    frame: &'a [u8],
-    ours: &Interface,
-    problem: Problem,
-) -> Option<MessageFrame<'a>>
-    ensures { IfSome result (λ f. IsSendable f) }
-{
-    error(frame, ours, problem)
 }

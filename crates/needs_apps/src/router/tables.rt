@@ -1,4 +1,4 @@
-//! Needs the contracts of the calls with a table of routes.
+//! What follows from the contracts of the calls with a table of routes.
 
 ghost use Rattle.std.specs.Prelude.{◌≡◌, ◌+◌, ◌*◌, ◌^◌, ◌∷◌, [], All, List, MatchOption, length, map};
 ghost use Rattle.std.specs.Option.{IsSome};
@@ -97,14 +97,6 @@ fn table_leads(
     )
 }
 
-/// The table of no routes has 5 cells, which `fill` leaves there.
-fn table_of_no_routes(cells: &mut [u64]) -> u64
-    requires { length cells.old ≡ 5 }
-{
-    table::fill(&[], cells);
-    cells[4]
-}
-
 /// The table of no routes has an answer for each IPv4 address.
 fn answer_of_no_routes(
     routes: &[Route],
@@ -122,7 +114,7 @@ fn answer_of_no_routes(
     table::answer(routes.len(), cells, addr)
 }
 
-/// The table of 128.0.0.0/1 has one too: of its eight parts, the block has the last four.
+/// The table of 128.0.0.0/1 has an answer for each IPv4 address: of its eight parts, the block has the last four.
 fn answer_of_one_route(
     routes: &[Route],
     nodes: &mut [Node],

@@ -1,4 +1,4 @@
-//! Needs the contracts of calls with addresses and texts.
+//! What follows from the contracts of calls with addresses and texts.
 
 ghost use Rattle.std.specs.Prelude.{◌≡◌};
 ghost use Rattle.c_structs.specs.Addresses.{endpoint_struct, ethernet_bytes};

@@ -1,7 +1,6 @@
-//! Needs the contract of the call for a host.
+//! What follows from the contract of the call for a host.
 
-ghost use Rattle.std.specs.Prelude.{◌≡◌, ◌≤◌, ◌<◌, IsSome, length, negsuc, pos};
-ghost use Rattle.app_host.specs.Host.{IsUnread};
+ghost use Rattle.std.specs.Prelude.{◌≡◌, ◌<◌, IsSome, length, negsuc};
 ghost use Rattle.c_icmp.specs.HostFields.{host_of};
 
 use c_exports::host::lk_answer;
@@ -14,16 +13,6 @@ fn answer(host: &HostFields<'_>, frame: &[u8], out: &mut [u8], other: &mut [u8])
     ensures written { out.new ≡ other.new }
 {
     (lk_answer(host, frame, out), lk_answer(host, frame, other))
-}
-
-// A frame that does not parse gets no answer.
-fn no_answer(host: &HostFields<'_>, frame: &[u8], out: &mut [u8]) -> isize
-    requires host { IsSome (host_of host.now) }
-    requires unread { IsUnread frame.now }
-    requires usable { length frame.now ≤ 1099511627775 }
-    ensures { result ≡ pos 0 }
-{
-    lk_answer(host, frame, out)
 }
 
 // A frame that is too long gets a failure, and nothing is written.

@@ -1,4 +1,4 @@
-//! Needs the contracts of calls with ICMP messages.
+//! What follows from the contracts of calls with ICMP messages.
 
 ghost use Rattle.std.specs.Prelude.{◌≡◌, ◌<◌, IsSome, length, negsuc};
 ghost use Rattle.c_icmp.specs.Errors.{own_interface};

@@ -1,4 +1,4 @@
-//! Needs the contracts of calls that read packets by their link type.
+//! What follows from the contracts of calls that read packets by their link type.
 
 ghost use Rattle.std.specs.Prelude.{◌≡◌, ◌≢◌, pos};
 

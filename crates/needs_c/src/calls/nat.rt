@@ -1,4 +1,4 @@
-//! Needs the contracts of the calls of a NAT with a table.
+//! What follows from the contracts of the calls of a NAT with a table.
 
 ghost use Rattle.std.specs.Prelude.{◌≡◌};
 ghost use Rattle.app_nat.specs.Table.{IsTable};
@@ -47,13 +47,4 @@ fn translate_in(
         lk_translate_in(nat, mappings, now, frame),
         lk_translate_in(nat, others, now, other),
     )
-}
-
-// A table stays a table while frames go out and come in.
-fn translate_both(nat: &Nat, mappings: &mut [Mapping], now: u64, sent: &mut [u8], answer: &mut [u8])
-    requires { IsTable nat.now mappings.old now }
-    ensures { IsTable nat.now mappings.new now }
-{
-    lk_translate_out(nat, mappings, now, sent);
-    lk_translate_in(nat, mappings, now, answer);
 }

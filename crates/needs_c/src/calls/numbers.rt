@@ -1,4 +1,4 @@
-//! Needs the contracts of calls with numbers.
+//! What follows from the contracts of calls with numbers.
 
 ghost use Rattle.std.specs.Prelude.{◌≡◌, ◌<◌, ◌≤◌, ◌-◌, ◌++◌, [], length};
 ghost use Rattle.ip_wire.specs.Udp.{checksum_for};

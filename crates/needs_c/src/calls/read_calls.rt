@@ -1,8 +1,6 @@
-//! Needs the contracts of calls that parse.
+//! What follows from the contracts of calls that parse.
 
-ghost use Rattle.std.specs.Prelude.{List, ℕ, ◌++◌, ◌≡◌, ◌≤◌, ◌+◌, length};
-ghost use Rattle.c_read.specs.Captured.{IsCutOf};
-ghost use Rattle.c_read.specs.FrameFields.{fields_of, packet_fields_of};
+ghost use Rattle.std.specs.Prelude.{◌≡◌, ◌≤◌, length};
 
 use c_exports::read_calls::{
     lk_read_captured, lk_read_captured_packet, lk_read_frame, lk_read_frame_options,
@@ -107,22 +105,4 @@ fn whole_packet(captured: &[u8], len: usize, frame: &mut FrameFields, other: &mu
 {
     lk_read_captured_packet(captured, len, frame);
     lk_read_packet(&captured[..len], other);
-}
-
-// The first bytes of a frame have the fields of the whole frame, up to a header that was cut.
-#[tactic(auto, using(crate::proofs::Once::short_bytes, crate::proofs::Once::short_len))]
-fn cut_frame(captured: &[u8], len: usize, frame: &mut FrameFields)
-    requires { len ≤ 1099511627775 }
-    ensures { (rest : List ℕ) → length captured.now + length rest ≡ len → IsCutOf frame.new (fields_of (captured.now ++ rest)) }
-{
-    lk_read_captured(captured, len, frame);
-}
-
-// The first bytes of a packet have the fields of the whole packet, up to a header that was cut.
-#[tactic(auto, using(crate::proofs::Once::short_bytes, crate::proofs::Once::short_len))]
-fn cut_packet(captured: &[u8], len: usize, frame: &mut FrameFields)
-    requires { len ≤ 1099511627775 }
-    ensures { (rest : List ℕ) → length captured.now + length rest ≡ len → IsCutOf frame.new (packet_fields_of (captured.now ++ rest)) }
-{
-    lk_read_captured_packet(captured, len, frame);
 }

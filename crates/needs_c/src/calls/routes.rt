@@ -1,4 +1,4 @@
-//! Needs the contracts of the calls with routes.
+//! What follows from the contracts of the calls with routes.
 
 ghost use Rattle.std.specs.Prelude.{◌≡◌, ◌≤◌, ◌<◌, ◌+◌, ◌*◌, [], drop, length, negsuc, ℕ};
 ghost use Rattle.app_router.specs.Table.{half_at, hints_in};
@@ -37,7 +37,7 @@ fn too_many_routes(routes: &[Route], nodes: &mut [Node]) -> isize
     lk_index_routes(routes, nodes)
 }
 
-// Nor has an empty list in too many nodes.
+// No list has room in too many nodes, not even an empty one.
 #[tactic(auto, using(crate::proofs::RoutesOnce::too_many_nodes))]
 fn too_many_nodes(routes: &[Route], nodes: &mut [Node]) -> isize
     requires none { routes.now ≡ [] }

@@ -1,4 +1,4 @@
-//! Needs the contracts of the calls of a router, of NAT of one packet, and of the MSS clamp.
+//! What follows from the contracts of the calls of a router, of NAT of one packet, and of the MSS clamp.
 
 ghost use Rattle.std.specs.Prelude.{◌≡◌};
 

@@ -1,4 +1,4 @@
-//! Needs what `Writes` and `Edits` promise: one result, and the same bytes. Other calls promise it by the same words.
+//! What follows from `Writes` and `Edits`: one result, and the same bytes. Other calls promise it by the same words.
 
 ghost use Rattle.std.specs.Prelude.{◌≡◌, ◌≤◌, length, pos};
 ghost use Rattle.ip_wire.specs.Frame.{rebuilt};

@@ -1,8 +1,7 @@
-//! Needs what the constants are: figures of the standards.
+//! The constants are figures of the standards.
 
 ghost use Rattle.std.specs.Prelude.{◌≡◌, ◌∷◌, ◌++◌, [], None, replicate};
 ghost use Rattle.net_base.specs.declared.Checksum.TheVariants as checksum;
-ghost use Rattle.wire_addr.specs.Block.{Block};
 ghost use Rattle.wire_tcp_options.specs.TcpSeq.{number};
 
 use ip_wire::laws;

@@ -1,4 +1,4 @@
-//! Needs the statements of whole frames, on frames whose bytes are given.
+//! What follows from the statements of whole frames, on frames whose bytes are given.
 
 ghost use Rattle.std.specs.Prelude.{◌≡◌, ◌≢◌, ◌≤◌, length};
 ghost use Rattle.ip_wire.specs.Frame.{rebuilt};

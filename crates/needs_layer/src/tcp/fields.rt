@@ -1,13 +1,11 @@
-//! Needs the statements of TCP's fields.
+//! What follows from the statements of TCP's fields.
 
-ghost use Rattle.std.specs.Prelude.{◌≡◌, ◌%◌, ◌≤◌, ◌∷◌, [], length, true};
+ghost use Rattle.std.specs.Prelude.{◌≡◌, ◌%◌, ◌≤◌, ◌∷◌, [], length};
 ghost use Rattle.wire_addr.specs.IpAddress.{address_bytes, version_of};
 ghost use Rattle.wire_addr.specs.declared.ip_address.IpAddress.TheVariants.{Ipv4};
 ghost use Rattle.net_base.specs.Field.{with_field};
-ghost use Rattle.wire_tcp.specs.TcpFields.{address_after, address_before};
-ghost use Rattle.wire_tcp.specs.Tcp.{header_len, packet_bytes, packet_bytes_mut, segment_sum};
+ghost use Rattle.wire_tcp.specs.Tcp.{packet_bytes, packet_bytes_mut, segment_sum};
 
-use net_base::ChecksumCapabilities;
 use wire_addr::IpAddress;
 use wire_tcp::laws::{TcpGetting, TcpSetting, TcpUpdate};
 use wire_tcp::{TcpPacket, TcpPacketMut, TcpRepr, laws};
@@ -163,22 +161,6 @@ fn update_keeps_a_valid_checksum_dst(
     laws::update_writes_two_fields_tcp(packet, TcpUpdate::Address(*dst_addr, *new_addr));
 }
 
-/// A valid checksum stays valid after each update.
-fn update_keeps_a_valid_checksum(
-    packet: &mut TcpPacketMut<'_>,
-    src_addr: &IpAddress,
-    dst_addr: &IpAddress,
-    update: TcpUpdate,
-)
-    requires header { 18 ≤ length (packet_bytes_mut packet.old) }
-    requires src { length (address_bytes src_addr.now) % 2 ≡ 0 }
-    requires dst { length (address_bytes dst_addr.now) % 2 ≡ 0 }
-    requires valid { segment_sum (address_before update src_addr.now) dst_addr.now (packet_bytes_mut packet.old) ≡ 65535 }
-    ensures { segment_sum (address_after update src_addr.now) dst_addr.now (packet_bytes_mut packet.new) ≡ 65535 }
-{
-    laws::update_writes_two_fields_tcp(packet, update);
-}
-
 /// A segment that adds up to 0xd423 without its checksum gets the checksum 0x2bdc.
 fn fill_checksum_writes_one_field(
     packet: &mut TcpPacketMut<'_>,
@@ -191,58 +173,6 @@ fn fill_checksum_writes_one_field(
     ensures { packet_bytes_mut packet.new ≡ with_field (packet_bytes_mut packet.old) 128 16 0x2bdc }
 {
     laws::fill_checksum_writes_one_field_tcp(packet, src_addr, dst_addr);
-}
-
-/// The checksum that is filled in is valid, for addresses of both versions.
-fn fill_checksum_is_valid(packet: &mut TcpPacketMut<'_>, src_addr: IpAddress, dst_addr: IpAddress)
-    requires header { 18 ≤ length (packet_bytes_mut packet.old) }
-    requires family { version_of src_addr ≡ version_of dst_addr }
-    ensures { segment_sum src_addr dst_addr (packet_bytes_mut packet.new) ≡ 65535 }
-{
-    laws::fill_checksum_writes_one_field_tcp(packet, src_addr, dst_addr);
-}
-
-/// The lengths agree in any segment whose header has at least 20 bytes, and all of them.
-fn lengths_agree(packet: &TcpPacket<'_>) -> bool
-    requires least { 20 ≤ length (packet_bytes packet.now) }
-    requires header { 20 ≤ header_len (packet_bytes packet.now) }
-    requires whole { header_len (packet_bytes packet.now) ≤ length (packet_bytes packet.now) }
-    ensures { result ≡ true }
-{
-    laws::lengths_agree_tcp(packet)
-}
-
-/// The views agree on any bytes.
-fn views_have_the_bytes(bytes: &[u8]) -> bool
-    ensures { result ≡ true }
-{
-    laws::views_have_the_bytes_tcp(bytes)
-}
-
-/// A parsed value counts as its segment does.
-fn value_counts_as_segment(
-    packet: &TcpPacket<'_>,
-    src_addr: &IpAddress,
-    dst_addr: &IpAddress,
-    caps: &ChecksumCapabilities,
-) -> bool
-    requires { version_of src_addr.now ≡ version_of dst_addr.now }
-    ensures { result ≡ true }
-{
-    laws::value_counts_as_segment_tcp(packet, src_addr, dst_addr, caps)
-}
-
-/// A parsed value is empty as its segment is.
-fn value_is_empty_as_segment(
-    packet: &TcpPacket<'_>,
-    src_addr: &IpAddress,
-    dst_addr: &IpAddress,
-    caps: &ChecksumCapabilities,
-) -> bool
-    requires { version_of src_addr.now ≡ version_of dst_addr.now }
-    ensures { result ≡ true }
-{
-    laws::value_is_empty_as_segment_tcp(packet, src_addr, dst_addr, caps)
 }
 
 /// The sequence numbers that a segment with three bytes takes: with SYN and FIN, after a header with

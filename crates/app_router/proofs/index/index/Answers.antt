@@ -1,6 +1,6 @@
 use Rattle.std.proofs.Common.{ℕ, ◌≡◌, ◌∙◌, ◌<◌, [], below_more, get_or-set_other, get_or-set_same, length, map, set, sym, ap, subst, arith}
-use Rattle.std.proofs.lemmas.List.{get_or-map}
-use Rattle.app_router.specs.Index.{IsBlock, block_at, block_of, node_at, node_of, node_with}
+use Rattle.std.proofs.lemmas.List.{get_or-map, length-map}
+use Rattle.app_router.specs.Index.{IsBlock, IsFilled, block_at, block_of, node_at, node_of, node_with}
 use Rattle.app_router.specs.declared.route.Route.{Route}
 use Rattle.app_router.proofs.index.index.Goals as goal
 
@@ -22,3 +22,10 @@ loop-i-preserved c =
       subst IsBlock (sym block) c.new.ensures.valid,
       get_or-set_same nodes i node d room ∙ c.new.ensures.value ∙ ap (λ b. node_of b i) (sym block),
     )
+
+pub returns-clause-hinted : goal.returns-clause-hinted
+returns-clause-hinted c many =
+    let blocks = map block_of c.args.routes.now in
+    let count : length blocks ≡ length c.args.routes.now = length-map c.args.routes.now block_of in
+    let filled : IsFilled blocks c.loop-i.nodes = record { len = omega (arith, count); each = λ i less. c.loop-i.invariant i (omega (arith, less, count)) } in
+    c.arrange.ensures.hinted blocks filled many

@@ -1,6 +1,7 @@
 use Rattle.std.proofs.Common.{◌≡◌, ◌∙◌, ◌<◌, ◌≤◌, length, get_or, arith, sym, subst}
 use Rattle.std.proofs.lemmas.List.{get_or_default}
 use Rattle.app_router.specs.Index.{node_at, node_with, place}
+use Rattle.app_router.proofs.HintOrder.{unhinted_more}
 use Rattle.app_router.proofs.Links.{alike_places, alike_set, links_more}
 use Rattle.app_router.proofs.Splits.{unread}
 use Rattle.app_router.proofs.index.link.Goals as goal
@@ -15,6 +16,7 @@ loop-i-preserved c =
     let same : node ≡ node_at nodes i = get_or_default nodes i unread (node_with 0 0 0 0) below in
     let kept = c.loop-i.invariant in
     record {
+      none = unhinted_more nodes i c.climb-above.result node below kept.none;
       same = alike_set nodes i c.climb-above.result node same ∙ kept.same;
       linked = λ sorted.
           let ordered = alike_places old nodes (sym kept.same) sorted in

@@ -1,4 +1,4 @@
-use Rattle.std.proofs.Common.{ℕ, zero, suc, ◌≡◌, ◌+◌, ◌*◌, ◌/◌, ◌^◌, ◌<◌, List, [], ◌∷◌, inl, inr, ap, arith, length, map, subst, sym}
+use Rattle.std.proofs.Common.{ℕ, zero, suc, ◌≡◌, ◌+◌, ◌*◌, ◌/◌, ◌^◌, List, [], ◌∷◌, inl, inr, ap, arith, length, map, subst, sym}
 use Rattle.std.proofs.lemmas.Bool.{cases_lt}
 use Rattle.std.proofs.lemmas.List.{length-map}
 use Rattle.app_router.specs.Index.{block_of}
@@ -20,7 +20,7 @@ returns c =
     let blocks = map block_of routes in
     let len : length blocks ≡ length routes = length-map routes block_of in
     let one : length blocks ≡ 1 = ap (λ (l : List IpCidr). length l) c.requires.routes in
-    let table : IsTable blocks c.fill.new.cells = c.fill.ensures.table blocks c.index.ensures in
+    let table : IsTable blocks c.fill.new.cells = c.fill.ensures.table blocks c.index.ensures.index in
     let count : length routes ≡ 1 = omega (arith, len, one) in
     let p = c.args.addr * 8 / 2 ^ 32 in
     let whole : IsUndivided blocks 8 p = subst (λ l. IsUndivided l 8 p) (sym c.requires.routes) (undivided p) in

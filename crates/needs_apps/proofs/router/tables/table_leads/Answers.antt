@@ -5,4 +5,4 @@ use Rattle.needs_apps.proofs.router.tables.table_leads.Goals as goal
 
 pub returns : goal.returns
 returns c = one_route c.args.routes.now c.args.addr.now c.choose.result c.choose-2.result
-    (c.choose.ensures c.index.ensures (c.fill.ensures.table (map block_of c.args.routes.now) c.index.ensures)) c.choose-2.ensures
+    (c.choose.ensures c.index.ensures.index (c.fill.ensures.table (map block_of c.args.routes.now) c.index.ensures.index)) c.choose-2.ensures
