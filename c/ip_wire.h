@@ -823,11 +823,12 @@ enum lk_problem {
  * - It is from a source that lk_check_source calls LK_MARTIAN, or from an address of the interface.
  * - It is for a multicast or broadcast address, or for another that no host has.
  * - It is an IPv4 fragment other than the first.
- * - An IPv6 extension header follows the IPv6 header, of number 0, 43, 44, 51, 60, 135, 139 or 140: an ICMP error may
- *   follow it. So a packet with a fragment header gets no error, not even an atomic fragment (RFC 6946).
+ * - An IPv6 extension header, of number 0, 43, 44, 51, 60, 135, 139 or 140, does not end within the packet.
+ * - It is an IPv6 fragment other than the first, and the next header is ICMPv6 or an extension header: it may be part of
+ *   an ICMP error. Other IPv6 fragments get an error, so their sender learns the MTU.
  * - It carries ICMP over IPv4 of another type than 0, 8 and 13 to 18, which are queries and their replies.
- * - It carries ICMPv6 of a type below 128, which are errors, or of type 137, a redirect. Other types from 128 on get
- *   an error, even unknown ones (RFC 4443, section 2.1).
+ * - It carries ICMPv6, also after extension headers, of a type below 128, which are errors, or of type 137, a redirect.
+ *   Other types from 128 on get an error, even unknown ones (RFC 4443, section 2.1).
  * - It carries ICMP without a type, since its payload is empty.
  * - The interface has no address of its version.
  *

@@ -14,8 +14,9 @@ NO_NEIGHBOUR, CLOSED = {4: (3, 1), 6: (1, 3)}, {4: (3, 3), 6: (1, 4)}
 # The longest packet with an error (RFC 1812, section 4.3.2.3; RFC 4443, section 2.4 c).
 LONGEST_ERROR = {4: 576, 6: 1280}
 QUERIES = {4: {0, 8, *range(13, 19)}, 6: set(range(128, 256)) - {137}}
-# After these headers of IPv6 an ICMP error may be, or a fragment (RFC 7045, section 4).
+# The extension headers of IPv6 but for the encrypted one, 50 (RFC 7045, section 4), and two of them.
 EXTENSIONS = {0, 43, 44, 51, 60, 135, 139, 140}
+FRAGMENT, AUTHENTICATION = 44, 51
 # From these no host sends, and none is at them.
 NO_HOSTS = [ipaddress.ip_network(block) for block in (
     "0.0.0.0/8", "127.0.0.0/8", "224.0.0.0/3", "::/127", "::ffff:0:0/96", "ff00::/8")]
@@ -61,6 +62,18 @@ def echo_reply(src, dst, ident, seq_no, data):
     return message(ECHO_REPLY[version_of(src)], 0, ident << 16 | seq_no, data, src, dst)
 
 
+def upper_layer(protocol, body):
+    """The protocol after the extension headers of an IPv6 packet, and its bytes, of which a later fragment has none; or
+    None if the headers do not end in the packet (RFC 8200, section 4)."""
+    while protocol in EXTENSIONS:
+        size = 8 if protocol == FRAGMENT or len(body) < 2 else 4 * body[1] + 8 if protocol == AUTHENTICATION else 8 * body[1] + 8
+        if len(body) < size:
+            return None
+        is_later = protocol == FRAGMENT and number(body[2:4]) >> 3
+        protocol, body = body[0], b"" if is_later else body[size:]
+    return protocol, body
+
+
 def may_be_told(frame, hardware, own):
     """Whether an error may be sent about a frame whose IP header is valid (RFC 1122, section 3.2.2; RFC 4443, section
     2.4 e)."""
@@ -68,10 +81,13 @@ def may_be_told(frame, hardware, own):
     src, dst = (body[12:16], body[16:20]) if version == 4 else (body[8:24], body[24:40])
     protocol = body[9 if version == 4 else 6]
     payload = body[body[0] % 16 * 4 : number(body[2:4])] if version == 4 else body[40 : 40 + number(body[4:6])]
-    is_later = number(body[6:8]) & 0x1FFF if version == 4 else protocol in EXTENSIONS
-    is_error = protocol == (ICMP if version == 4 else ICMPV6) and (not payload or payload[0] not in QUERIES[version])
+    if version == 4:
+        found = None if number(body[6:8]) & 0x1FFF else (protocol, payload)
+    else:
+        found = upper_layer(protocol, payload)
+    is_error = found and found[0] == (ICMP if version == 4 else ICMPV6) and (not found[1] or found[1][0] not in QUERIES[version])
     is_from_host = not frame[6] & 1 and is_host(src) and src != own
-    return frame[:6] == hardware and is_from_host and is_host(dst) and not is_later and not is_error
+    return frame[:6] == hardware and is_from_host and is_host(dst) and found is not None and not is_error
 
 
 def error(frame, hardware, own, kind, mtu=0):

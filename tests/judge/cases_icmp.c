@@ -115,6 +115,35 @@ static void emit_one(size_t len)
     both_emit_icmp_error(&own, problem, mtu, made.octets, len, any_out(cap), cap);
 }
 
+/* Puts up to four extension headers between the IPv6 header and its payload. A last one is mostly whole, and a fragment
+ * header mostly that of a first fragment. */
+static void put_headers(void)
+{
+    static const uint8_t numbers[] = {0, 43, 44, 44, 44, 44, 51, 60, 60, 135, 139, 140};
+    const unsigned payload_len = get_word(made.octets + 18);
+    uint8_t headers[4 * 32];
+    size_t len = 0, number_at = 20;
+    if (made.len < 54 || made.octets[12] != 0x86 || payload_len > 65000 || made.len > MODEL_ROOM - sizeof headers)
+        return;
+    fill(headers, sizeof headers);
+    for (size_t count = 1 + below(4), number = one_in(2) ? 58 : made.octets[20]; count > 0; count--) {
+        const size_t units = 1 + below(4);
+        uint8_t *header = headers + len, next = numbers[below(sizeof numbers)];
+        *(number_at == 20 ? made.octets + 20 : headers + number_at) = next;
+        number_at = len;
+        header[0] = (uint8_t)number;
+        if (next == 44)
+            put_word(header + 2, one_in(2) ? 8 * (1 + below(3)) : below(8));
+        else if (!one_in(32))
+            header[1] = (uint8_t)(next == 51 ? 2 * units - 2 : units - 1);
+        len += next == 44 ? 8 : 8 * units;
+    }
+    memmove(made.octets + 54 + len, made.octets + 54, made.len - 54);
+    memcpy(made.octets + 54, headers, len);
+    made.len += len;
+    put_word(made.octets + 18, (unsigned)(payload_len + len));
+}
+
 /* Puts an extension header after the IPv6 header, or gives the ICMP message another type. Mostly both have numbers at
  * the bounds of those that get no error. */
 static void change_number(void)
@@ -134,6 +163,8 @@ void emit_error(void)
     make_frame();
     if (one_in(4))
         change_number();
+    if (one_in(3))
+        put_headers();
     emit_one(made.len);
     if (one_in(64))
         emit_one(unused_len());

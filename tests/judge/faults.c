@@ -58,6 +58,7 @@ __attribute__((constructor)) static void choose(void)
         "an unknown lk_offload as LK_COMPLETE", "LK_OFFLOADED of a clamped SYN as LK_GUESS",
         "the checksum in a first fragment of IPv6 not updated",
         "the last part of a fragment as the last fragment", "all options in each fragment", "a packet with DF cut",
+        "an error about a later fragment of ICMPv6", "an error about an error after an extension header",
     };
     const char *number = getenv("FAULT");
     fault = number ? (enum fault)atoi(number) : NO_FAULT;
@@ -101,8 +102,6 @@ ptrdiff_t __real_lk_emit_icmp_frame(const struct lk_frame *headers, const uint8_
 ptrdiff_t __real_lk_emit_ndisc_frame(const struct lk_frame *headers, const struct lk_ndisc *ndisc, uint8_t *out,
                                      size_t cap);
 int __real_lk_read_ndisc(const uint8_t *frame, size_t len, struct lk_ndisc *ndisc);
-ptrdiff_t __real_lk_emit_icmp_error(const struct lk_interface *own, int problem, uint32_t mtu, const uint8_t *frame,
-                                    size_t len, uint8_t *out, size_t cap);
 
 /* ---- reading ---- */
 
@@ -292,8 +291,7 @@ int __wrap_lk_read_ndisc(const uint8_t *frame, size_t len, struct lk_ndisc *ndis
     return result;
 }
 
-/* Changes a word of a header and the checksum over it. */
-static void change_word(uint8_t *word, unsigned value, uint8_t *checksum)
+void change_word(uint8_t *word, unsigned value, uint8_t *checksum)
 {
     uint16_t before = (uint16_t)(word[0] << 8 | word[1]), sum = (uint16_t)(checksum[0] << 8 | checksum[1]);
     sum = lk_update_checksum(sum, before, (uint16_t)value);
@@ -318,28 +316,6 @@ ptrdiff_t __wrap_lk_rebuild(const uint8_t *ptr, size_t len, uint8_t *out, size_t
         change_word(tcp + 12, (unsigned)(tcp[12] << 8 | tcp[13] | LK_URG), tcp + 16);
     if (fault == IDENTIFICATION_KEPT && rebuilt.network == LK_IPV4)
         change_word(out + 18, frame.ip.ident, out + 24);
-    return result;
-}
-
-ptrdiff_t __wrap_lk_emit_icmp_error(const struct lk_interface *own, int problem, uint32_t mtu, const uint8_t *frame,
-                                    size_t len, uint8_t *out, size_t cap)
-{
-    static uint8_t copy[0x20000];
-    ptrdiff_t result;
-    if (fault == ERROR_ABOUT_AN_ERROR && len >= 35 && len <= sizeof copy && frame[12] == 8 && frame[14] == 0x45 &&
-        frame[23] == 1) {
-        memcpy(copy, frame, len);
-        copy[34] = 8;
-        return __real_lk_emit_icmp_error(own, problem, mtu, copy, len, out, cap);
-    }
-    if (fault == OTHER_PROBLEM && problem == LK_NEIGHBOUR_MISSING)
-        problem = LK_ROUTE_MISSING;
-    result = __real_lk_emit_icmp_error(own, problem, mtu, frame, len, out, cap);
-    if (fault == MTU_LEFT_OUT && result > 0 && problem == LK_PACKET_TOO_BIG) {
-        uint8_t *message = out + (out[12] == 8 ? 34 : 54);
-        change_word(message + 4, 0, message + 2);
-        change_word(message + 6, 0, message + 2);
-    }
     return result;
 }
 

@@ -2,6 +2,8 @@
 #ifndef FAULTS_H
 #define FAULTS_H
 
+#include <stdint.h>
+
 enum fault {
     NO_FAULT,
     PORTS_SWAPPED,
@@ -96,10 +98,15 @@ enum fault {
     MORE_FRAGMENTS_LOST,
     OPTIONS_IN_EACH_FRAGMENT,
     DONT_FRAGMENT_IGNORED,
+    LATER_FRAGMENT_TOLD,
+    ERROR_AFTER_HEADERS_TOLD,
     FAULTS
 };
 
 /* The fault that is planted. */
 extern enum fault fault;
+
+/* Changes a word of a header and the checksum over it. */
+void change_word(uint8_t *word, unsigned value, uint8_t *checksum);
 
 #endif

@@ -136,16 +136,39 @@ static int is_extension_header(unsigned protocol)
     return memchr(numbers, (int)protocol, sizeof numbers) != 0;
 }
 
-/* An ICMP message is a query by its first byte; without one it is none. */
-static int is_no_query(const struct lk_frame *frame, const uint8_t *payload, size_t len)
+/* A message of a protocol is no query: it is ICMP, and its first byte says so, or there is none. */
+static int is_no_query(int is_ipv4, unsigned protocol, const uint8_t *message, size_t len)
 {
-    if (frame->ip.protocol != (frame->network == LK_IPV4 ? 1 : 58))
+    if (protocol != (is_ipv4 ? 1 : 58))
         return 0;
     if (len == 0)
         return 1;
-    if (frame->network == LK_IPV4)
-        return payload[0] != 0 && payload[0] != 8 && (payload[0] < 13 || payload[0] > 18);
-    return payload[0] < 128 || payload[0] == 137;
+    if (is_ipv4)
+        return message[0] != 0 && message[0] != 8 && (message[0] < 13 || message[0] > 18);
+    return message[0] < 128 || message[0] == 137;
+}
+
+/* Whether the headers after an IPv6 header show that an error may be sent (RFC 8200, section 4; the length of an
+ * authentication header: RFC 4302, section 2.2). In a later fragment only the number after its header is known. */
+static int is_told_of_ipv6(unsigned protocol, const uint8_t *header, size_t len)
+{
+    while (is_extension_header(protocol)) {
+        size_t header_len = 8;
+        if (len < 8)
+            return 0;
+        if (protocol == 44 && get_word(header + 2) >= 8)
+            return header[0] != 58 && !is_extension_header(header[0]);
+        if (protocol == 51)
+            header_len = (header[1] + 2u) * 4;
+        else if (protocol != 44)
+            header_len = (header[1] + 1u) * 8;
+        if (len < header_len)
+            return 0;
+        protocol = header[0];
+        header += header_len;
+        len -= header_len;
+    }
+    return !is_no_query(0, protocol, header, len);
 }
 
 /* Whether an error may be sent about a frame whose packet has `len` bytes, its header `header_len` of them. */
@@ -157,9 +180,9 @@ static int is_told_of(const struct lk_interface *own, const struct lk_frame *fra
         frame->ipv4_checksum == LK_WRONG || !is_answered(own, &frame->src.addr) || !is_host(&frame->dst.addr) ||
         !is_host(own_addr))
         return 0;
-    if (frame->network == LK_IPV4 ? frame->ip.fragment_offset != 0 : is_extension_header(frame->ip.protocol))
-        return 0;
-    return !is_no_query(frame, packet + header_len, len - header_len);
+    if (frame->network == LK_IPV6)
+        return is_told_of_ipv6(frame->ip.protocol, packet + header_len, len - header_len);
+    return frame->ip.fragment_offset == 0 && !is_no_query(1, frame->ip.protocol, packet + header_len, len - header_len);
 }
 
 /* Whether the frame has the problem. */

@@ -234,6 +234,98 @@ static int has_error(const struct octets *frame, size_t at, uint8_t octet)
     return len > 0;
 }
 
+/* ---- errors about IPv6 with extension headers ---- */
+
+/* What follows an IPv6 header with this next header, and whether an error about the packet is sent. */
+struct chain {
+    uint8_t next_header;
+    const char *hex;
+    int has_error;
+};
+
+#define UDP "b5e3829a000d31017472616365"
+#define ECHO "80002d1c12340001"
+#define ERROR6 "0100000000000000"
+
+/* In the order of RFC 8200, section 4.1: hop-by-hop options, options, routing, fragment, authentication, options. */
+#define IN_ORDER "3c00010400000000" "2b00010400000000" "2c00000000000000" "3300000100000007" \
+    "3c020000100000000000000180018001" "3a00010400000000"
+
+/* RFC 8200, section 4; RFC 4302, section 2.2 (51); RFC 6275, section 6.1 (135); RFC 7401, section 5.1 (139); RFC 5533,
+ * section 5.1 (140). No error about an ICMPv6 error or redirect: RFC 4443, section 2.4 e. */
+static const struct chain chains[] = {
+    {0, "1100010400000000" UDP, 1}, /* hop-by-hop options, and UDP */
+    {0, "3a00010400000000" ECHO, 1},
+    {0, "3a00010400000000" ERROR6, 0},
+    {0, "1100010400000000", 1}, /* UDP without a byte */
+    {0, "3a00010400000000", 0}, /* ICMPv6 without a type */
+    {60, "3a00010400000000" ECHO, 1},
+    {60, "3a00010400000000" ERROR6, 0},
+    {60, "3a00010400000000" "89", 0}, /* a redirect */
+    {60, "3a01010c0000000000000000000000008000", 1},
+    {60, "3a01010c8000000000000000000000000100", 0},
+    {43, "3a02040120010db800000000000000000000000000000000" ECHO, 1},
+    {43, "3a02040180010db880000000800000008000000080000000" ERROR6, 0},
+    {51, "3a0400001000000000000001112233445566778899aabbcc" ECHO, 1}, /* 24 bytes */
+    {51, "3a0400008000000080000001802233448066778880aabbcc" ERROR6, 0},
+    {51, "3a0500008000000080000001802233448066778880aabbcc800000000100", 0}, /* 28 bytes */
+    {51, "3a0500000000000000000001002233440066778800aabbcc000000008000", 1},
+    {44, "1100000100000007" UDP, 1}, /* the first fragment */
+    {44, "3a00000100000007" ECHO, 1},
+    {44, "3a00000100000007" ERROR6, 0},
+    {44, "3a00000100000007", 0},
+    {44, "3a00000000000007" ECHO, 1}, /* an atomic fragment (RFC 6946) */
+    {44, "3aff000600000007" ECHO, 1}, /* reserved bits are ignored (RFC 8200, section 4.5) */
+    {44, "1100000800000007" UDP, 1},  /* later fragments */
+    {44, "1100fff900000007" UDP, 1},
+    {44, "3b00000800000007", 1},
+    {44, "3a00000800000007" ECHO, 0},
+    {44, "3a00000800000007" ERROR6, 0},
+    {44, "3c00000800000007" "1100010400000000" UDP, 0}, /* which may end in ICMPv6 */
+    {0, "2c000104000000003a0000080000000780", 0},
+    {0, "2c00010400000000110000080000000780", 1},
+    {50, ERROR6, 1}, /* encrypted */
+    {59, "", 1},     /* no next header */
+    {60, "3b00010400000000" ERROR6, 1},
+    {135, "3b00000000000000", 1},
+    {135, "3a01000080000000800000008000000001", 0},
+    {139, "3b04010100000000" "0000000000000000000000000000000000000000000000000000000000000000", 1},
+    {140, "3a00800000000000" ECHO, 1},
+    {140, "3a00800000000000" ERROR6, 0},
+    {0, IN_ORDER ECHO, 1},
+    {0, IN_ORDER ERROR6, 0},
+    /* cut */
+    {0, "", 0},
+    {0, "11000104000000", 0},
+    {0, "1101010400000000" "00000000000000", 0},
+    {43, "1103040120010db800000000000000000000000000000000", 0},
+    {44, "11000001000000", 0},
+    {44, "11000008000000", 0},
+    {51, "1104000010000000000000011122334455667788", 0},
+    {0, "3c000104000000001101010400000000", 0},
+};
+
+static struct octets packet_with(const struct chain *chain)
+{
+    const struct octets headers = octets(chain->hex);
+    struct octets frame = changed(changed(last_hop6, 20, chain->next_header), 19, (uint8_t)headers.len);
+    memcpy(frame.at + 54, headers.at, headers.len);
+    frame.len = 54 + headers.len;
+    return frame;
+}
+
+/* The error quotes the packet with all its headers. */
+static void write_errors_after_headers(void)
+{
+    const struct lk_interface own = own_interface();
+    for (size_t i = 0; i < sizeof chains / sizeof chains[0]; i++) {
+        const struct octets about = packet_with(&chains[i]);
+        const ptrdiff_t len = both_emit_icmp_error(&own, LK_PACKET_TOO_BIG, 39, about.at, about.len, clear(), ROOM);
+        CHECK_ROW(i, chains[i].has_error ? len == (ptrdiff_t)about.len + 48 : holds(&nothing, len));
+        CHECK_ROW(i, !chains[i].has_error || memcmp(out + 62, about.at + 14, about.len - 14) == 0);
+    }
+}
+
 /* Each number in a header, and whether an error is sent. */
 static void write_errors_by_number(void)
 {
@@ -241,13 +333,17 @@ static void write_errors_by_number(void)
     static const uint8_t extension_headers[] = {0, 43, 44, 51, 60, 135, 139, 140};
     /* the queries of RFC 792 and RFC 950, by RFC 1122, section 3.2.2: echo, timestamp, information, address mask */
     static const uint8_t queries[] = {0, 8, 13, 14, 15, 16, 17, 18};
+    const struct octets hop_by_hop = packet_with(&chains[0]), options_and_echo = packet_with(&chains[5]);
     for (unsigned n = 0; n < 256; n++) {
-        const int is_extension = memchr(extension_headers, (int)n, sizeof extension_headers) != 0;
+        /* but for 44, the second byte of the payload is a length that is too long; 44 is a later fragment */
+        const int is_cut = n != 44 && memchr(extension_headers, (int)n, sizeof extension_headers) != 0;
         /* RFC 4443, section 2.1: errors are below 128; RFC 4861, section 4.5: 137 is a redirect */
         const int is_query6 = n >= 128 && n != 137;
-        CHECK_ROW(n, has_error(&last_hop6, 20, (uint8_t)n) == !is_extension);
+        CHECK_ROW(n, has_error(&last_hop6, 20, (uint8_t)n) == !is_cut);
+        CHECK_ROW(n, has_error(&hop_by_hop, 54, (uint8_t)n) == !is_cut);
         CHECK_ROW(n, has_error(&echo_request, 34, (uint8_t)n) == (memchr(queries, (int)n, sizeof queries) != 0));
         CHECK_ROW(n, has_error(&echo_request6, 54, (uint8_t)n) == is_query6);
+        CHECK_ROW(n, has_error(&options_and_echo, 62, (uint8_t)n) == is_query6);
     }
 }
 
@@ -261,5 +357,6 @@ void worked_icmp(void)
     write_neighbours();
     write_errors();
     write_no_errors();
+    write_errors_after_headers();
     write_errors_by_number();
 }

@@ -29,7 +29,7 @@ from nat import INSIDE, OUTSIDE, bound, seen_by
 from ndisc import SILENCE, adverts, heard, solicits
 from router import ARP, MODEL, SERVERS, compare_lists, start_on_pairs, start_on_taps
 from packets import word_sum
-from routed_frames import HARDWARE
+from routed_frames import HARDWARE, extended
 
 LATEST = 5  # seconds
 OWN = {socket.AF_INET: "10.1.0.1", socket.AF_INET6: "fd01::1"}
@@ -300,17 +300,23 @@ def untold(sides):
     side.forget()
     for family, src, dst in ((socket.AF_INET, "10.1.0.99", "10.9.0.9"), (socket.AF_INET6, "fd01::99", "fd09::9")):
         src, dst = socket.inet_pton(family, src), socket.inet_pton(family, dst)
-        time.sleep(MOST_ERRORS / ERRORS_PER_SECOND)
         frames = [icmp.framed(icmp.message(kind, 0, 0x70007, bytes(40), src, dst), src, dst, own, HARDWARE["left"])
                   for kind in [*range(42), *range(126, 162), 200, 201, 255]]
-        for frame in frames:
-            side.sock.send(frame)
-        time.sleep(SILENCE)
-        settle(side)
-        expected = [MODEL.error(frame, "left", "no route") for frame in frames]
-        found = [frame for frame in side.came_out if icmp.is_error(frame) and frame[6:12] == HARDWARE["left"]]
-        compare_lists("error about ICMP", [frame for frame in expected if frame], found)
-        side.forget()
+        compare_errors_about(frames, side)
+        if family == socket.AF_INET6:
+            compare_errors_about([extended(random.choice(frames)) for _ in range(MOST_ERRORS)], side)
+
+
+def compare_errors_about(frames, side):
+    time.sleep(MOST_ERRORS / ERRORS_PER_SECOND)
+    for frame in frames:
+        side.sock.send(frame)
+    time.sleep(SILENCE)
+    settle(side)
+    expected = [MODEL.error(frame, "left", "no route") for frame in frames]
+    found = [frame for frame in side.came_out if icmp.is_error(frame) and frame[6:12] == HARDWARE["left"]]
+    compare_lists("error about ICMP", [frame for frame in expected if frame], found)
+    side.forget()
 
 
 def errors_are_limited(side):
@@ -338,6 +344,8 @@ def smaller_link(room, there):
         data = random.randbytes(300_000)
         check("TCP over a smaller link", echoed(family, server, data) == data, server)
         check("ping over a smaller link", ping_discovers(server), server)
+        here.run("ip route flush cache && ip -6 route flush cache")
+        check("ping in fragments over a smaller link", four or ping_in_fragments(server), server)
     for namespace in (room, there):
         namespace.run("ip link set right mtu 1500")
     time.sleep(READS_MTU)
@@ -353,6 +361,12 @@ def ping_discovers(server):
                               text=True, check=False)
     passes = run("ping", "-c", "2", "-W", "2", "-i", "0.2", "-M", "do", "-s", str(length), server)
     return "1300" in told_mtu.stdout + told_mtu.stderr and " 0% packet loss" in passes
+
+
+def ping_in_fragments(server):
+    """A `ping` over IPv6 that comes in fragments learns the MTU, and then its packets pass."""
+    return not has("ping") or " 0% packet loss" not in run("ping", "-c", "1", "-W", "1", "-s", "4000", server) and (
+        " 0% packet loss" in run("ping", "-c", "2", "-W", "2", "-i", "0.2", "-s", "4000", server))
 
 
 def with_router(program):

@@ -27,6 +27,7 @@ def hostile_frames(count, name):
     """Some of them, most of which could be routed from this side to the other one, and ICMP messages."""
     for frame in random.choices(made_frames(), k=count):
         frame = icmp_frame(frame) if random.random() < 0.15 else frame
+        frame = extended(frame) if random.random() < 0.15 and frame[12:14] == b"\x86\xdd" and 54 <= len(frame) <= 1400 else frame
         frame = routed(frame, name) if len(frame) >= 34 and frame[12:14] in (b"\x08\0", b"\x86\xdd") else frame
         if 14 <= len(frame) <= 1514 and frame[12:14] not in (b"\x81\0", b"\x88\xa8"):
             yield frame
@@ -38,6 +39,20 @@ def icmp_frame(frame):
     kind = random.choice((0, 3, 8, 11, 12, 128, 129, 135, 136, random.randrange(256)))
     body = icmp.message(kind, random.choice((0, 0, 1, 4)), random.randrange(2**32), frame[14:600], src, dst)
     return icmp.framed(body[: random.choice((len(body), len(body), 7, 0))], src, dst, packets.SRC, packets.DST)
+
+
+def extended(frame):
+    """The IPv6 frame with extension headers before its payload. Mostly they are whole."""
+    number, headers = frame[20], b""
+    for kind in random.choices((0, 43, 44, 44, 51, 60, 60, 135, 139, 140), k=random.randrange(1, 4)):
+        size = 8 if kind == 44 else 8 * random.randrange(1, 4)
+        units = size // 4 - 2 if kind == 51 else size // 8 - 1
+        second = random.randrange(256) if random.random() < 0.05 else units
+        offset = random.randrange(1 << 16) if random.random() < 0.3 else random.randrange(8)
+        headers = bytes([number, second]) + offset.to_bytes(2, "big") + random.randbytes(size - 4) + headers
+        number = kind
+    payload_len = min(0xFFFF, int.from_bytes(frame[18:20], "big") + len(headers)).to_bytes(2, "big")
+    return frame[:18] + payload_len + bytes([number]) + frame[21:54] + headers + frame[54:]
 
 
 def routed(frame, name):

@@ -1,5 +1,5 @@
 -- Errors in frames.
-use Rattle.std.proofs.Common.{ℕ, ◌≡◌, ◌∙◌, ◌≤◌, ◌+◌, List, Some, None, drop, length, length-take, min, refl, ap, subst, true, arith}
+use Rattle.std.proofs.Common.{ℕ, ◌≡◌, ◌↔◌, ◌∙◌, ◌≤◌, ◌+◌, Bool, IsTrue, List, Some, None, drop, false, length, length-take, min, not, refl, ap, subst, true, arith}
 use Rattle.std.specs.Borrow.{Bor}
 use Rattle.ip_wire.specs.Ethernet as ethernet
 use Rattle.ip_wire.specs.Frame.{Carried, other, packet, type_of}
@@ -7,13 +7,27 @@ use Rattle.ip_wire.specs.Ip.{Reads, dst_addr_of, header_before, max_payload_len,
 use Rattle.ip_wire.specs.Ipv4 as ipv4
 use Rattle.ip_wire.specs.Ipv6 as ipv6
 use Rattle.ip_wire.specs.Types.{EthernetRepr, IpRepr, Ipv4, Ipv6}
+use Rattle.ip_wire.specs.declared.IpVersion.TheVariants as version
 use Rattle.wire_icmp.specs.Icmp.{bytes_of, protocol_of}
 use Rattle.wire_icmp.specs.declared.IcmpRepr.{IcmpRepr}
+use Rattle.app_host.proofs.Ipv6Chains.{leads_once}
 use Rattle.app_host.proofs.Messages.{icmp_values, sendable_icmp, values_icmp}
-use Rattle.app_host.specs.IcmpError.{IsBetweenHosts, IsError, IsToldOf, header_from, quoted}
+use Rattle.app_host.specs.IcmpError.{IsBetweenHosts, IsError, IsIcmpError, IsToldOf, header_from, quoted}
+use Rattle.app_host.specs.Ipv6Chain.{LeadsTo}
 use Rattle.app_host.specs.Message.{Gives, message_frame}
 use Rattle.app_host.specs.declared.interface.Interface.{Interface}
 use Rattle.app_host.specs.declared.message.Message.TheVariants.{Icmp}
+
+-- an error may be sent if the upper-layer protocol carries none
+pub told_after : (p n : ℕ) (m bytes : List ℕ) (b : Bool) → LeadsTo p m n bytes → (IsTrue b ↔ IsIcmpError version.Ipv6 p m)
+    → IsTrue (not b) ↔ ((q : ℕ) × (k : List ℕ) × LeadsTo q k n bytes × ¬ IsIcmpError version.Ipv6 q k)
+told_after p n m bytes true leads is = (
+  λ on. absurd cc,
+  λ (q, k, others, none).
+      let same = leads_once leads others in
+      absurd (none (subst (λ x. IsIcmpError version.Ipv6 x k) same.0 (subst (λ x. IsIcmpError version.Ipv6 p x) same.1 (is.0 refl)))),
+)
+told_after p n m bytes false leads is = (λ on. (p, m, leads, λ error. let on : false ≡ true = is.1 error in absurd cc), λ may. refl)
 
 -- a frame without an Ethernet header, or without an IP header, gets no error
 pub no_link : (ours : Interface) (frame : List ℕ) (message : IcmpRepr) → ((link : EthernetRepr) → ¬ ethernet.Reads frame link) → Gives (IsError ours frame message) None

@@ -5,6 +5,7 @@ pub mod HostOnce
 pub mod HostReplies
 pub mod IcmpErrors
 pub mod IcmpReplies
+pub mod Ipv6Chains
 pub mod Marked
 pub mod MessageEnds
 pub mod Messages

@@ -1,10 +1,10 @@
 -- ICMP errors about the packet of a frame (RFC 1122, section 3.2.2; RFC 1812, section 4.3.2; RFC 4443, section 2.4).
 -- Pinned by: `worked/icmp`, `MessagesOnce`, `calls/host`
-use Rattle.std.specs.Prelude.{ℕ, ◌≡◌, ◌⊎◌, ◌==◌, ◌||◌, Bool, List, [], drop, false, length, min, take, true}
+use Rattle.std.specs.Prelude.{ℕ, ◌≡◌, ◌⊎◌, List, [], drop, false, length, min, take, true}
 use Rattle.ip_wire.specs.Ethernet as ethernet
 use Rattle.ip_wire.specs.Frame.{Carried, other, packet, type_of}
 use Rattle.ip_wire.specs.Hardware as hardware
-use Rattle.ip_wire.specs.Ip.{Reads, dst_addr_of, header_before, next_header_of, payload_of, src_addr_of, version_of}
+use Rattle.ip_wire.specs.Ip.{Reads, dst_addr_of, header_before, payload_of, src_addr_of, version_of}
 use Rattle.ip_wire.specs.Field.{field}
 use Rattle.ip_wire.specs.Ipv4 as ipv4
 use Rattle.ip_wire.specs.Ipv6 as ipv6
@@ -14,28 +14,22 @@ use Rattle.ip_wire.specs.declared.IpVersion.TheVariants as version
 use Rattle.wire_icmp.specs.Icmp.{bytes_of, is_query, protocol_of}
 use Rattle.wire_icmp.specs.declared.IcmpRepr.{IcmpRepr}
 use Rattle.app_host.specs.Interface.{header_back}
+use Rattle.app_host.specs.Ipv6Chain.{LeadsTo}
 use Rattle.app_host.specs.Source.{IsHostAddr, IsInvalidSource}
 use Rattle.app_host.specs.declared.interface.Interface.{Interface}
 
--- whether the number names an extension header of IPv6 (RFC 7045, section 4), but not the encapsulating security payload
--- (50), whose payload is encrypted, nor the numbers for experiments (253 and 254)
-abbrev pub is_extension_header : ℕ → Bool
-is_extension_header n = n == 0 || n == 43 || n == 44 || n == 51 || n == 60 || n == 135 || n == 139 || n == 140
+-- The message of this protocol is ICMP, but no query: it has no type, or that of an error or a redirect.
+abbrev pub IsIcmpError : IpVersion → ℕ → List ℕ → Type 0
+IsIcmpError version protocol message =
+    (protocol ≡ number_of (protocol_of version)) × ((message ≡ []) ⊎ (is_query version (field message 0 8) ≡ false))
 
--- The packet begins a message of its protocol: it is no fragment, or the first one. Extension headers of IPv6 are not
--- parsed, so a packet with one, such as a fragment, does not count.
-abbrev pub IsBeginning : IpRepr → List ℕ → Type 0
-IsBeginning (Ipv4 v) bytes = ipv4.fragment_offset bytes ≡ 0
-IsBeginning (Ipv6 v) bytes = is_extension_header (number_of v.next_header) ≡ false
-
--- the packet carries ICMP, but no query: its payload has no type, or that of an error or a redirect
-abbrev pub IsIcmpError : IpRepr → List ℕ → Type 0
-IsIcmpError v payload =
-    (next_header_of v ≡ protocol_of (version_of v)) × ((payload ≡ []) ⊎ (is_query (version_of v) (field payload 0 8) ≡ false))
-
--- an ICMP error may be sent about the packet with this header
+-- An ICMP error may be sent about the packet with this header. Over IPv4 it is whole, or the first fragment. Over IPv6 its
+-- extension headers lead to an upper-layer protocol. It carries no ICMP error; a later fragment of ICMPv6 may be part of one.
 abbrev pub IsToldOf : IpRepr → List ℕ → Type 0
-IsToldOf v bytes = IsBeginning v bytes × ¬ IsIcmpError v (payload_of bytes (version_of v))
+IsToldOf (Ipv4 v) bytes = (ipv4.fragment_offset bytes ≡ 0) × ¬ IsIcmpError version.Ipv4 (number_of v.next_header) (payload_of bytes version.Ipv4)
+IsToldOf (Ipv6 v) bytes =
+    (protocol : ℕ) × (message : List ℕ) × LeadsTo protocol message (number_of v.next_header) (payload_of bytes version.Ipv6)
+    × ¬ IsIcmpError version.Ipv6 protocol message
 
 -- the header of the packet with an error: from our address back to the sender
 abbrev pub header_from : Interface → IpRepr → IpRepr

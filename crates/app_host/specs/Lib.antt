@@ -3,6 +3,7 @@ pub mod Host
 pub mod IcmpEcho
 pub mod IcmpError
 pub mod Interface
+pub mod Ipv6Chain
 pub mod Message
 pub mod Neighbour
 pub mod Source

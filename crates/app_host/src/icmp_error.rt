@@ -2,15 +2,18 @@
 //! section 2.4).
 
 ghost use Rattle.std.specs.Prelude.{◌≡◌, ◌↔◌, IfSome, IsTrue, true};
-ghost use Rattle.app_host.specs.IcmpError.{IsBeginning, IsBetweenHosts, IsError, IsIcmpError, IsToldOf, header_from, is_extension_header, quoted};
+ghost use Rattle.app_host.specs.IcmpError.{IsBetweenHosts, IsError, IsIcmpError, IsToldOf, header_from, quoted};
 ghost use Rattle.app_host.specs.Message.{Gives};
-ghost use Rattle.ip_wire.specs.Protocol.{number_of};
-ghost use Rattle.ip_wire.specs.Ip.{Reads, payload_of, version_of};
+ghost use Rattle.ip_wire.specs.Ip.{Reads, version_of};
+ghost use Rattle.ip_wire.specs.Ipv4 as ipv4;
+ghost use Rattle.ip_wire.specs.Ipv6 as ipv6;
+ghost use Rattle.ip_wire.specs.Types.{Ipv4, Ipv6};
 
 use crate::interface::{Interface, header_back, is_host_addr};
+use crate::ipv6_chain::upper_layer;
 use crate::message::{MessageFrame, ethertype_of};
 use ip_wire::{
-    ChecksumCapabilities, EthernetFrame, EthernetRepr, IpPacket, IpProtocol, IpRepr, Ipv4Packet,
+    ChecksumCapabilities, EthernetFrame, EthernetRepr, IpPacket, IpRepr, IpVersion, Ipv4Packet,
     Ipv4Repr, Ipv6Packet, Ipv6Repr,
 };
 use wire_icmp::{IcmpPacket, IcmpRepr, protocol_of};
@@ -27,8 +30,9 @@ const IPV6_QUOTE_LEN: usize = 1232;
 /// - The frame does not come from one host, or is not sent to this interface only.
 /// - It carries no IP packet: lengths, version or IPv4 checksum are wrong, or the EtherType.
 /// - No other host has its source, or no host its destination, or no host the address of `ours`.
-/// - The packet is a fragment other than the first, or of IPv6 with an extension header.
-/// - It carries an ICMP error or redirect.
+/// - Over IPv4 the packet is a fragment other than the first.
+/// - Over IPv6 an extension header does not end within the packet, or would be in another fragment.
+/// - It carries an ICMP error or redirect, or may be part of one: it is a later fragment of ICMPv6.
 ///
 /// The broadcast address of a subnet is not known here, so it counts as that of a host.
 pub fn error<'a>(frame: &'a [u8], ours: &Interface, message: IcmpRepr) -> Option<MessageFrame<'a>>
@@ -72,41 +76,40 @@ fn is_told_of(header: &IpRepr, packet: &[u8]) -> bool
     requires { Reads packet.now true header.now }
     ensures { IsTrue result ↔ IsToldOf header.now packet.now }
 {
-    is_beginning(header, packet) && !is_icmp_error(header, packet)
-}
-
-// Whether the packet begins a message of its protocol.
-fn is_beginning(header: &IpRepr, packet: &[u8]) -> bool
-    requires { Reads packet.now true header.now }
-    ensures { IsTrue result ↔ IsBeginning header.now packet.now }
-{
     match header {
-        IpRepr::Ipv4(_) => Ipv4Packet::new_unchecked(packet).frag_offset() == 0,
-        IpRepr::Ipv6(header) => !is_extension_header(header.next_header),
+        IpRepr::Ipv4(header) => is_told_of_ipv4(header, packet),
+        IpRepr::Ipv6(header) => is_told_of_ipv6(header, packet),
     }
 }
 
-// Whether the protocol is an extension header of IPv6 (RFC 7045, section 4), but not the encapsulating
-// security payload or a number for experiments.
-fn is_extension_header(protocol: IpProtocol) -> bool
-    ensures { result ≡ is_extension_header (number_of protocol) }
+fn is_told_of_ipv4(header: &Ipv4Repr, packet: &[u8]) -> bool
+    requires { ipv4.Reads packet.now true header.now }
+    ensures { IsTrue result ↔ IsToldOf (Ipv4 header.now) packet.now }
 {
-    matches!(protocol.number(), 0 | 43 | 44 | 51 | 60 | 135 | 139 | 140)
+    let packet = Ipv4Packet::new_unchecked(packet);
+    let protocol = header.next_header.number();
+    packet.frag_offset() == 0 && !is_icmp_error(IpVersion::Ipv4, protocol, packet.payload())
 }
 
-// Whether the packet carries ICMP, and no query.
-fn is_icmp_error(header: &IpRepr, packet: &[u8]) -> bool
-    requires { Reads packet.now true header.now }
-    ensures { IsTrue result ↔ IsIcmpError header.now (payload_of packet.now (version_of header.now)) }
+fn is_told_of_ipv6(header: &Ipv6Repr, packet: &[u8]) -> bool
+    requires { ipv6.Reads packet.now header.now }
+    ensures { IsTrue result ↔ IsToldOf (Ipv6 header.now) packet.now }
 {
-    if header.next_header() != protocol_of(header.version()) {
+    let payload = Ipv6Packet::new_unchecked(packet).payload();
+    match upper_layer(header.next_header.number(), payload) {
+        Some((protocol, message)) => !is_icmp_error(IpVersion::Ipv6, protocol, message),
+        None => false,
+    }
+}
+
+// Whether the message of this protocol is ICMP, and no query.
+fn is_icmp_error(version: IpVersion, protocol: u8, message: &[u8]) -> bool
+    ensures { IsTrue result ↔ IsIcmpError version protocol message.now }
+{
+    if protocol != protocol_of(version).number() {
         return false;
     }
-    let payload = match header {
-        IpRepr::Ipv4(_) => Ipv4Packet::new_unchecked(packet).payload(),
-        IpRepr::Ipv6(_) => Ipv6Packet::new_unchecked(packet).payload(),
-    };
-    payload.is_empty() || !IcmpPacket::new_unchecked(payload).is_query(header.version())
+    message.is_empty() || !IcmpPacket::new_unchecked(message).is_query(version)
 }
 
 // What an error quotes of the packet.

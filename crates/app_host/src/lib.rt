@@ -8,6 +8,7 @@ mod host;
 pub mod icmp_echo;
 pub mod icmp_error;
 mod interface;
+mod ipv6_chain;
 pub mod laws;
 mod message;
 pub mod neighbour;

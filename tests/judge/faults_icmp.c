@@ -1,0 +1,42 @@
+/* Faults of ICMP errors. */
+#include <string.h>
+#include "faults.h"
+#include "ip_wire.h"
+
+ptrdiff_t __real_lk_emit_icmp_error(const struct lk_interface *own, int problem, uint32_t mtu, const uint8_t *frame,
+                                    size_t len, uint8_t *out, size_t cap);
+
+static uint8_t copy[0x20000];
+
+/* The error about the frame with another byte. */
+static ptrdiff_t about_another(const struct lk_interface *own, int problem, uint32_t mtu, const uint8_t *frame,
+                               size_t len, size_t at, uint8_t octet, uint8_t *out, size_t cap)
+{
+    memcpy(copy, frame, len);
+    copy[at] = octet;
+    return __real_lk_emit_icmp_error(own, problem, mtu, copy, len, out, cap);
+}
+
+ptrdiff_t __wrap_lk_emit_icmp_error(const struct lk_interface *own, int problem, uint32_t mtu, const uint8_t *frame,
+                                    size_t len, uint8_t *out, size_t cap)
+{
+    const int is_copied = len >= 63 && len <= sizeof copy;
+    ptrdiff_t result;
+    if (fault == ERROR_ABOUT_AN_ERROR && is_copied && frame[12] == 8 && frame[14] == 0x45 && frame[23] == 1)
+        return about_another(own, problem, mtu, frame, len, 34, 8, out, cap);
+    if (fault == OTHER_PROBLEM && problem == LK_NEIGHBOUR_MISSING)
+        problem = LK_ROUTE_MISSING;
+    result = __real_lk_emit_icmp_error(own, problem, mtu, frame, len, out, cap);
+    if (fault == MTU_LEFT_OUT && result > 0 && problem == LK_PACKET_TOO_BIG) {
+        uint8_t *message = out + (out[12] == 8 ? 34 : 54);
+        change_word(message + 4, 0, message + 2);
+        change_word(message + 6, 0, message + 2);
+    }
+    if (result == 0 && is_copied && frame[12] == 0x86 && frame[54] == 58) {
+        const int is_fragment = frame[20] == 44;
+        if (is_fragment ? fault == LATER_FRAGMENT_TOLD && (frame[56] || frame[57] & 0xf8)
+                        : fault == ERROR_AFTER_HEADERS_TOLD && frame[20] == 60)
+            return about_another(own, problem, mtu, frame, len, 54, 59, out, cap);
+    }
+    return result;
+}
