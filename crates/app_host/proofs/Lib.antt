@@ -6,6 +6,7 @@ pub mod HostReplies
 pub mod IcmpErrors
 pub mod IcmpReplies
 pub mod Ipv6Chains
+mod Ipv6ChainsWorked
 pub mod Marked
 pub mod MessageEnds
 pub mod Messages

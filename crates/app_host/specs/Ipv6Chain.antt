@@ -1,5 +1,5 @@
 -- The headers after an IPv6 header: extension headers, and then that of the upper-layer protocol (RFC 8200, section 4).
--- Pinned by: `worked/icmp`
+-- Pinned by: `worked/icmp`, `Ipv6ChainsWorked`
 use Rattle.std.specs.Prelude.{ℕ, ◌≡◌, ◌≤◌, ◌+◌, ◌*◌, ◌==◌, ◌&&◌, ◌||◌, not, if◌then◌else◌, Bool, true, false, List, [], drop, length, slice_index}
 use Rattle.ip_wire.specs.Ipv6Fragment.{frag_offset_of}
 
