@@ -802,7 +802,8 @@ enum lk_problem {
     LK_ROUTE_MISSING,     /* 3, 0 and 1, 0 */
     LK_NEIGHBOUR_MISSING, /* 3, 1 and 1, 3: the next hop has no hardware address */
     LK_PORT_CLOSED,       /* 3, 3 and 1, 4 */
-    LK_PROHIBITED         /* 3, 13 and 1, 1: a filter rejects it */
+    LK_PROHIBITED,        /* 3, 13 and 1, 1: a filter rejects it */
+    LK_FRAGMENT_MISSING   /* 11, 1 and 3, 1: about a first fragment, whose packet is not complete in time (lk_expire) */
 };
 
 /* Writes an Ethernet frame with an ICMP error about a frame that came in by an interface, to its sender. `frame` is as

@@ -192,13 +192,13 @@ static int has_problem(int problem, uint32_t mtu, const struct lk_frame *frame, 
         return frame->ip.hop_limit <= 1;
     if (problem == LK_PACKET_TOO_BIG)
         return len > mtu && (frame->network == LK_IPV6 || frame->ip.dont_fragment);
-    return problem > LK_PACKET_TOO_BIG && problem <= LK_PROHIBITED;
+    return problem > LK_PACKET_TOO_BIG && problem <= LK_FRAGMENT_MISSING;
 }
 
 static struct lk_icmp message_for(int problem, uint32_t mtu, int is_ipv4)
 {
-    static const uint8_t ipv4[][2] = {{0, 0}, {11, 0}, {3, 4}, {3, 0}, {3, 1}, {3, 3}, {3, 13}};
-    static const uint8_t ipv6[][2] = {{0, 0}, {3, 0}, {2, 0}, {1, 0}, {1, 3}, {1, 4}, {1, 1}};
+    static const uint8_t ipv4[][2] = {{0, 0}, {11, 0}, {3, 4}, {3, 0}, {3, 1}, {3, 3}, {3, 13}, {11, 1}};
+    static const uint8_t ipv6[][2] = {{0, 0}, {3, 0}, {2, 0}, {1, 0}, {1, 3}, {1, 4}, {1, 1}, {3, 1}};
     const uint8_t *it = is_ipv4 ? ipv4[problem] : ipv6[problem];
     struct lk_icmp icmp = {0, it[0], it[1]};
     if (problem == LK_PACKET_TOO_BIG)

@@ -190,12 +190,14 @@ static void write_errors(void)
     ERROR(no_neighbour, LK_NEIGHBOUR_MISSING, 9, last_hop);
     ERROR(port_closed, LK_PORT_CLOSED, 0, last_hop);
     ERROR(prohibited, LK_PROHIBITED, 0, last_hop);
+    ERROR(no_others, LK_FRAGMENT_MISSING, 0, first_part);
     ERROR(expired6, LK_HOP_LIMIT_EXPIRED, 0, last_hop6);
     ERROR(too_big6, LK_PACKET_TOO_BIG, 50, last_hop6);
     ERROR(no_route6, LK_ROUTE_MISSING, 0, last_hop6);
     ERROR(no_neighbour6, LK_NEIGHBOUR_MISSING, 0, last_hop6);
     ERROR(port_closed6, LK_PORT_CLOSED, 0, last_hop6);
     ERROR(prohibited6, LK_PROHIBITED, 0, last_hop6);
+    ERROR(no_others6, LK_FRAGMENT_MISSING, 0, first_part6);
 }
 
 static void write_no_errors(void)
@@ -214,7 +216,7 @@ static void write_no_errors(void)
         changed(echo_request6, 19, 0),
     };
     NO_ERROR(LK_NO_PROBLEM, 0, last_hop);
-    NO_ERROR(7, 0, last_hop);
+    NO_ERROR(8, 0, last_hop);
     NO_ERROR(-1, 0, last_hop);
     NO_ERROR(257, 0, last_hop);
     NO_ERROR(LK_HOP_LIMIT_EXPIRED, 0, echo_request);

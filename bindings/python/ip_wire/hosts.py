@@ -49,6 +49,7 @@ class Problem(IntEnum):
     NEIGHBOUR_MISSING = 4
     PORT_CLOSED = 5
     PROHIBITED = 6
+    FRAGMENT_MISSING = 7
 
 
 @represents(c.Interface)

@@ -116,6 +116,8 @@ pub enum Problem {
     PortClosed,
     /// A filter rejects the packet.
     Prohibited,
+    /// The packet is a first fragment, and the others did not come in time.
+    FragmentMissing,
 }
 
 impl Problem {
@@ -127,6 +129,7 @@ impl Problem {
             Self::NeighbourMissing => 4,
             Self::PortClosed => 5,
             Self::Prohibited => 6,
+            Self::FragmentMissing => 7,
         }
     }
 }

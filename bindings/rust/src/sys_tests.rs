@@ -48,6 +48,7 @@ fn own_numbers() -> String {
         Problem::NeighbourMissing,
         Problem::PortClosed,
         Problem::Prohibited,
+        Problem::FragmentMissing,
     ];
     let sides = [Side::Source, Side::Destination];
     let offloads = [Offload::Guess, Offload::Offloaded, Offload::Complete];

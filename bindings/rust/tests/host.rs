@@ -105,6 +105,7 @@ fn errors_are_those_of_other_programs() {
         ("no_neighbour", "last_hop", Problem::NeighbourMissing),
         ("port_closed", "last_hop", Problem::PortClosed),
         ("prohibited", "last_hop", Problem::Prohibited),
+        ("no_others", "first_part", Problem::FragmentMissing),
         ("expired6", "last_hop6", Problem::HopLimitExpired),
         ("too_big6", "last_hop6", Problem::PacketTooBig(50)),
     ] {

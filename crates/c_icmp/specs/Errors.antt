@@ -9,8 +9,9 @@ use Rattle.app_host.specs.declared.interface.Interface.{Interface}
 use Rattle.ip_wire.specs.Frame.{Carried}
 use Rattle.ip_wire.specs.Reply.{unmarked}
 use Rattle.ip_wire.specs.Types.{EthernetRepr}
+use Rattle.wire_icmp.specs.declared.icmp.reason.Exceeded.TheVariants as exceeded
 use Rattle.wire_icmp.specs.declared.icmp.reason.Unreachable.TheVariants as unreachable
-use Rattle.wire_icmp.specs.declared.icmp.repr.IcmpRepr.TheVariants.{DstUnreachable}
+use Rattle.wire_icmp.specs.declared.icmp.repr.IcmpRepr.TheVariants.{DstUnreachable, TimeExceeded}
 use Rattle.c_structs.specs.Written.{failure_code}
 use Rattle.c_structs.specs.declared.failures.Failure.TheVariants as failure
 use Rattle.c_icmp.specs.Interfaces.{WritesReplyTo, interface_of}
@@ -27,6 +28,7 @@ problem_by n =
     else if int_eq n (pos 4) then problem.NeighbourMissing
     else if int_eq n (pos 5) then problem.PortClosed
     else if int_eq n (pos 6) then problem.Prohibited
+    else if int_eq n (pos 7) then problem.FragmentMissing
     else problem.None
 
 -- the frame carries an error that tells the sender of the other frame of this problem
@@ -38,6 +40,7 @@ TellsOf ours frame problem.RouteMissing mtu header carried = Tells ours frame ro
 TellsOf ours frame problem.NeighbourMissing mtu header carried = Tells ours frame router.NoNeighbour header carried
 TellsOf ours frame problem.PortClosed mtu header carried = IsError ours frame (DstUnreachable unreachable.Port) header carried
 TellsOf ours frame problem.Prohibited mtu header carried = Tells ours frame router.Prohibited header carried
+TellsOf ours frame problem.FragmentMissing mtu header carried = IsError ours frame (TimeExceeded exceeded.Reassembly) header carried
 
 -- the interface of a struct, if it has an address of each version; errors do not depend on whether it is a router
 abbrev pub own_interface : InterfaceFields → Option Interface

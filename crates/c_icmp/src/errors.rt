@@ -4,8 +4,9 @@ ghost use Rattle.std.specs.Prelude.{◌≡◌, IfSome};
 ghost use Rattle.app_host.specs.IcmpError.{IsError};
 ghost use Rattle.app_host.specs.Message.{Gives};
 ghost use Rattle.ip_wire.specs.Reply.{unmarked};
+ghost use Rattle.wire_icmp.specs.declared.icmp.reason.Exceeded.TheVariants.{Reassembly};
 ghost use Rattle.wire_icmp.specs.declared.icmp.reason.Unreachable.TheVariants.{Port};
-ghost use Rattle.wire_icmp.specs.declared.icmp.repr.IcmpRepr.TheVariants.{DstUnreachable};
+ghost use Rattle.wire_icmp.specs.declared.icmp.repr.IcmpRepr.TheVariants.{DstUnreachable, TimeExceeded};
 ghost use Rattle.c_icmp.specs.Errors.{TellsOf, WritesError, own_interface, problem_by};
 ghost use Rattle.c_icmp.specs.Interfaces.{WritesReply};
 
@@ -13,7 +14,7 @@ use crate::interfaces::{interface, write_message};
 use crate::types::InterfaceFields;
 use app_host::{Interface, MessageFrame, icmp_error};
 use c_structs::{Failure, MAX_LEN};
-use wire_icmp::{IcmpRepr, Unreachable};
+use wire_icmp::{Exceeded, IcmpRepr, Unreachable};
 
 /// `enum lk_problem`: why a packet was dropped.
 #[derive(Clone, Copy)]
@@ -29,6 +30,8 @@ pub enum Problem {
     PortClosed,
     /// A filter rejects it.
     Prohibited,
+    /// Its other fragments did not come in time.
+    FragmentMissing,
 }
 
 impl Problem {
@@ -43,6 +46,7 @@ impl Problem {
             4 => Problem::NeighbourMissing,
             5 => Problem::PortClosed,
             6 => Problem::Prohibited,
+            7 => Problem::FragmentMissing,
             _ => Problem::None,
         }
     }
@@ -105,6 +109,7 @@ fn error<'a>(
         ),
         Problem::PortClosed => port_error(ours, frame),
         Problem::Prohibited => app_router::error(frame, ours, app_router::Problem::Prohibited),
+        Problem::FragmentMissing => fragment_error(ours, frame),
     }
 }
 
@@ -115,4 +120,13 @@ fn port_error<'a>(ours: &Interface, frame: &'a [u8]) -> Option<MessageFrame<'a>>
 {
     let reason = Unreachable::Port;
     icmp_error::error(frame, ours, IcmpRepr::DstUnreachable { reason })
+}
+
+// The error about the first fragment of a packet that is not complete.
+fn fragment_error<'a>(ours: &Interface, frame: &'a [u8]) -> Option<MessageFrame<'a>>
+    ensures error { Gives (IsError ours.now frame.now (TimeExceeded Reassembly)) result }
+    ensures unmarked { IfSome result (λ error. error.dscp ≡ 0) }
+{
+    let reason = Exceeded::Reassembly;
+    icmp_error::error(frame, ours, IcmpRepr::TimeExceeded { reason })
 }

@@ -20,3 +20,6 @@ returns-in-PortClosed-clause-error c = subst (λ p. Gives (TellsOf c.args.ours.n
 
 pub returns-in-Prohibited-clause-error : goal.returns-in-Prohibited-clause-error
 returns-in-Prohibited-clause-error c = subst (λ p. Gives (TellsOf c.args.ours.now c.args.frame.now p c.args.mtu) c.error-in-Prohibited.result) (sym c.in-Prohibited.is) c.error-in-Prohibited.ensures.error
+
+pub returns-in-FragmentMissing-clause-error : goal.returns-in-FragmentMissing-clause-error
+returns-in-FragmentMissing-clause-error c = subst (λ p. Gives (TellsOf c.args.ours.now c.args.frame.now p c.args.mtu) c.fragment_error.result) (sym c.in-FragmentMissing.is) c.fragment_error.ensures.error
