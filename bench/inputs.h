@@ -25,7 +25,7 @@ enum {
     X(update_udp_checksum) X(update_udp_checksum_addr) X(update_checksum_bytes)                        \
     X(update_udp_checksum_bytes) X(emit_icmp_error) X(clamp_mss) X(read_link) X(read_linktype)         \
     X(print_frame) X(set_hop_limit) X(set_dscp) X(set_addr) X(set_port) X(set_bytes) X(fill_checksum)  \
-    X(make_route_table) X(choose_route_by_table) X(check_source_by_table) X(fragment)
+    X(make_route_table) X(choose_route_by_table) X(check_source_by_table) X(fragment) X(reassemble)
 #define CALL(name) __typeof__(lk_##name) *name;
 
 struct library {

@@ -128,6 +128,46 @@ REPEAT(call_answer, answer, &host, bytes, frame_len, OUT)
 REPEAT(call_emit_icmp_error, emit_icmp_error, &host_interface, LK_PORT_CLOSED, 0, bytes, frame_len, OUT)
 /* The first fragment, or the whole packet. */
 REPEAT(call_fragment, fragment, bytes, frame_len, 576, 1, 0, OUT)
+
+/* A packet in two fragments. */
+static struct lk_partial partials[16];
+static uint8_t partial_memory[16 * LK_PARTIAL_MEMORY];
+static uint8_t parts[2][1600];
+static size_t part_lens[2];
+
+static void prepare_parts(const struct row *row)
+{
+    size_t mtu = 20 + (8 + row->size + 15) / 16 * 8;
+    prepare_udp_ipv4(row);
+    for (size_t n = 0; n < 2; n++)
+        part_lens[n] = (size_t)lk_fragment(bytes, frame_len, mtu, 1, n, parts[n], sizeof parts[n]);
+}
+
+/* In each turn the packet is a new one. */
+static uint64_t take_parts(const struct library *library, size_t count, uint64_t times)
+{
+    uint64_t answers = 0;
+    for (uint64_t i = 0; i < times; i++) {
+        partials[0].expires = 0;
+        for (size_t n = 0; n < count; n++)
+            answers += (uint64_t)library->reassemble(partials, COUNT(partials), partial_memory, sizeof partial_memory, 1,
+                                                     parts[n], part_lens[n], OUT);
+    }
+    return answers;
+}
+
+static uint64_t call_reassemble_first(const struct library *library, const struct row *row, uint64_t times)
+{
+    (void)row;
+    return take_parts(library, 1, times);
+}
+
+static uint64_t call_reassemble_both(const struct library *library, const struct row *row, uint64_t times)
+{
+    (void)row;
+    return take_parts(library, 2, times);
+}
+
 REPEAT(call_read_ndisc, read_ndisc, bytes, frame_len, &out.ndisc)
 REPEAT(call_emit_ndisc_frame, emit_ndisc_frame, &solicitation_headers, &solicitation, OUT)
 
@@ -223,7 +263,11 @@ static const struct call message_rows[] = {
     {"emit ICMP error/IPv6", prepare_closed_ipv6, call_emit_icmp_error},
 };
 static const size_t message_sizes[] = {64, MOST_PAYLOAD};
-static const struct call fragment_rows[] = {{"fragment UDP/IPv4", prepare_udp_ipv4, call_fragment}};
+static const struct call fragment_rows[] = {
+    {"fragment UDP/IPv4", prepare_udp_ipv4, call_fragment},
+    {"reassemble UDP/IPv4, first part", prepare_parts, call_reassemble_first},
+    {"reassemble UDP/IPv4, two parts", prepare_parts, call_reassemble_both},
+};
 static const struct call ndisc_rows[] = {
     {"read solicitation", prepare_solicitation, call_read_ndisc},
     {"emit frame solicitation", prepare_solicitation, call_emit_ndisc_frame},

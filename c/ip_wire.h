@@ -11,9 +11,9 @@
  * - A call that writes to `out` returns the length of its result, which begins at `out[0]`, or a failure, which is
  *   negative. After a failure `out` is unchanged.
  * - A length above LK_MAX_LEN is never used: a payload of that length is too long, an output has no room, and any other
- *   input counts as empty. The counts of routes, nodes, cells and mappings are such lengths too. Where an empty input is
- *   no failure (lk_answer, lk_emit_icmp_error, lk_index_routes, lk_make_route_table, lk_set_bytes), one of that length
- *   is a failure.
+ *   input counts as empty. The counts of routes, nodes, cells, mappings and partials are such lengths too. Where an empty
+ *   input is no failure (lk_answer, lk_emit_icmp_error, lk_index_routes, lk_make_route_table, lk_set_bytes), one of that
+ *   length is a failure.
  * - lk_is_.., lk_contains and lk_cpu_supported return 1 for yes and 0 for no.
  * - Fields that an initializer leaves out are 0. A 0 in `version`, in a field `has_..` or in a count means
  *   that there is no such value. A hop limit of 0 is a failure, and so is a port of 0 where receivers reject
@@ -74,11 +74,15 @@ int lk_cpu_supported(void);
                                            * identification or MTU of lk_fragment */
 #define LK_TWO_CONTROLS LK_FAILURE(7)     /* more than one of SYN, FIN and RST */
 #define LK_OPTIONS_TOO_LONG LK_FAILURE(8) /* TCP options of more than 40 bytes, or more than 4 SACK ranges */
-#define LK_PAYLOAD_TOO_LONG LK_FAILURE(9) /* the payload is longer than the length field can say */
-#define LK_NO_HEADER LK_FAILURE(10)       /* no frame: a length above LK_MAX_LEN, for lk_rebuild below 14, or for
-                                           * lk_fragment without a valid IPv4 header */
+#define LK_PAYLOAD_TOO_LONG LK_FAILURE(9) /* the payload is longer than the length field can say, or than the memory of
+                                           * lk_reassemble */
+#define LK_NO_HEADER LK_FAILURE(10)       /* no frame: a length above LK_MAX_LEN, for lk_rebuild below 14; for
+                                           * lk_fragment without a valid IP header, for lk_reassemble without a
+                                           * valid fragment */
 #define LK_NO_ROOM LK_FAILURE(11)         /* the result is longer than `cap` */
-#define LK_DONT_FRAGMENT LK_FAILURE(12)   /* lk_fragment: the packet is longer than the MTU, and has DF */
+#define LK_DONT_FRAGMENT LK_FAILURE(12)   /* lk_fragment: the packet is longer than the MTU, and has DF or is
+                                           * a forwarded IPv6 packet */
+#define LK_DROPPED LK_FAILURE(13)         /* lk_reassemble: the fragments of the packet contradict each other */
 
 /* Returns the name of a failure, as "LK_NO_ROOM", or "no failure", also for the sum of a failure and a length. The text
  * is constant. */
@@ -204,7 +208,8 @@ struct lk_ip {
     uint32_t ident;           /* IPv4: 16 bits; IPv6: of the fragment header */
     uint32_t flow_label;      /* IPv6: 20 bits */
     uint16_t fragment_offset; /* in bytes, a multiple of 8 */
-    uint8_t protocol;         /* 1: ICMP, 6: TCP, 17: UDP, 44: an IPv6 fragment header, 58: ICMPv6 */
+    uint8_t protocol;         /* 1: ICMP, 6: TCP, 17: UDP, 44: an IPv6 fragment header, 58: ICMPv6; of IPv6 the number of
+                               * the header that follows directly */
     uint8_t hop_limit;        /* 64 is usual; 0 is read, and cannot be written */
     uint8_t dscp;             /* 6 bits; of IPv6 those of the traffic class */
     uint8_t ecn;              /* 2 bits */
@@ -292,7 +297,9 @@ enum lk_reason {
     LK_BAD_FLAGS,    /* TCP: more than one of SYN, FIN and RST */
     LK_BAD_OPTIONS,  /* TCP: a malformed option before the end mark */
     LK_HEADER_CUT,   /* the header was not captured as a whole */
-    LK_UNKNOWN_LINK  /* lk_read_link does not know the link type */
+    LK_UNKNOWN_LINK, /* lk_read_link does not know the link type */
+    LK_HOPS_LEFT,    /* IPv6: a routing header with segments left (RFC 8200, section 4.4) */
+    LK_BAD_ORDER     /* IPv6: hop-by-hop options that do not follow the IPv6 header directly (RFC 8200, section 4.1) */
 };
 
 /* Returns the name of a reason, as "LK_PORT_ZERO", or "no reason". The text is constant. */
@@ -328,7 +335,8 @@ struct lk_frame {
     uint8_t is_fragment;        /* 1: a part of an IP packet, so its payload is not parsed */
     uint8_t ipv4_checksum;      /* an `lk_verdict` */
     uint8_t transport_checksum; /* an `lk_verdict` */
-    uint8_t unused[5];          /* 0 */
+    uint8_t protocol;           /* the number of the transport header or the payload, after IPv6 extension headers */
+    uint8_t unused[4];          /* 0 */
     struct lk_icmp icmp;
 };
 
@@ -343,8 +351,11 @@ struct lk_frame {
  * - The fields of a rejected UDP or TCP header are stored too, unless it is too short: `rejected` names it. RFC
  *   9293 needs them for RST. For a UDP header that is rejected as LK_BAD_LENGTH the verdict is
  *   LK_NO_CHECKSUM, because it does not say which bytes are summed.
- * - After an unknown EtherType or protocol all bytes are payload, and so are IPv6 extension headers. A length of IEEE
- *   802.3 counts as an unknown EtherType: the payload has the padding too. IPv4 options are skipped.
+ * - After an unknown EtherType or protocol all bytes are payload. A length of IEEE 802.3 counts as an unknown EtherType:
+ *   the payload has the padding too. IPv4 options are skipped.
+ * - IPv6 extension headers are stepped through: hop-by-hop options (0), routing (43), fragment (44), authentication (51)
+ *   and destination options (60). `protocol` is the number of what follows them, and `ip.protocol` that in the IPv6
+ *   header. No authentication is verified. At a header that is rejected `protocol` is its own number.
  * - The checksum of UDP or TCP is compared with the destination in the header. If an IPv4 source route has hops left
  *   (RFC 791), that is the next hop: the right checksum gets LK_WRONG, because it covers the last address of the route,
  *   and one over the next hop gets LK_RIGHT.
@@ -352,9 +363,9 @@ struct lk_frame {
  *   after these 8 bytes: it is the data of an echo, or the packet that an error quotes. No type or code is rejected,
  *   and the checksum is LK_RIGHT or LK_WRONG. A shorter message has no transport: all of it is payload. A packet that is
  *   quoted is a beginning: lk_read_captured_packet reads it, with LK_MAX_LEN as `len`.
- * - If an IPv6 fragment header follows the IPv6 header directly and is there as a whole, its values are stored.
- *   The payload begins at it. `is_fragment` is 0 if it is of an atomic fragment, which is a whole packet
- *   (RFC 6946), but what follows the fragment header is not parsed either.
+ * - The values of an IPv6 fragment header are stored. If it is that of a fragment, `is_fragment` is 1, `protocol` is 44,
+ *   and the payload begins at it. That of an atomic fragment, which is a whole packet (RFC 6946), is stepped through.
+ * - An extension header that does not end within the packet is rejected with LK_TOO_SHORT.
  *
  * A loop over many short frames that are not in the caches, each in a buffer of its own, is faster if it
  * prefetches the first 128 bytes of the frame 8 places ahead (EXAMPLES in ip_wire(3)). */
@@ -376,7 +387,7 @@ int lk_read_packet(const uint8_t *ptr, size_t len, struct lk_frame *frame);
  * - IPv4 options that were cut give LK_HEADER_CUT after the tests of version and lengths; nothing of the header is
  *   stored. TCP options that were cut give it after the tests of lengths, ports and flags; the fields are stored, and
  *   `rejected` is LK_TCP.
- * - An IPv6 fragment header that was cut gives LK_HEADER_CUT, and the fields of the IPv6 header are stored.
+ * - An IPv6 extension header that was cut gives LK_HEADER_CUT, and the fields of the headers before it are stored.
  * - If a TCP, UDP or ICMP checksum covers bytes that were not captured, its verdict is LK_CHECKSUM_CUT. But a UDP
  *   checksum of 0 is LK_LEFT_OUT, or LK_WRONG over IPv6.
  * - An ICMP message of which fewer than 8 bytes were captured has no transport, and no header is rejected.
@@ -445,7 +456,7 @@ int lk_read_linktype(uint32_t link_type, const uint8_t *ptr, size_t captured, si
  * - The sender is before the receiver. There are ports if a UDP or TCP header is stored, also a rejected one. If no ARP
  *   or IP header was read, the line has `ethernet`: the addresses, which are 0 for other links, and the type.
  * - A UDP or TCP header that is rejected, but is stored, is printed as one that was read. Another protocol, a fragment and
- *   a header that is not stored have `proto`, the number in the IP header.
+ *   a header that is not stored have `proto`, which is `protocol`.
  * - Of the TCP flags `syn`, `fin`, `rst`, `psh`, `ece` and `cwr` are printed. If ACK is set, `ack` follows `seq`; if URG
  *   is set, `urg`, the urgent pointer, follows `win`.
  * - `hardware` is that of the sender. `fragment` is the offset in bytes, with `+` if more fragments follow.
@@ -472,14 +483,15 @@ struct lk_ipv6_header {
 };
 
 /* Steps to the next header of an IPv6 packet, and returns 1: first to the IPv6 header, then to its extension headers
- * (RFC 8200, section 4): hop-by-hop options (0), routing (43), fragment (44), destination options (60). `ptr` is the
- * first byte of the packet. Begin with a struct of zeros. Returns 0 if no extension header follows, or -1 if the IPv6
- * header is not there as a whole or has another version, or if the next header does not end within the packet and its
- * `len` captured bytes; then `header` is unchanged.
+ * (RFC 8200, section 4; RFC 4302): hop-by-hop options (0), routing (43), fragment (44), authentication (51), destination
+ * options (60). `ptr` is the first byte of the packet. Begin with a struct of zeros. Returns 0 if no extension header
+ * follows, or -1 if the IPv6 header is not there as a whole or has another version, or if the next header does not end
+ * within the packet and its `len` captured bytes; then `header` is unchanged.
  *
  * After 0 the packet of protocol `next` begins at `offset + len`. After the header of a fragment that is not the first
  * `next` is 59, because there the payload begins in the middle of the packet. Hop-by-hop options that do not follow the
- * IPv6 header directly are a header as the others; a host drops such a packet (RFC 8200, section 4).
+ * IPv6 header directly are a header as the others, and so is a routing header with segments left: lk_read_packet rejects
+ * both.
  *
  *     struct lk_ipv6_header header = {0, 0, 0, 0};
  *     int found;
@@ -914,32 +926,120 @@ int lk_clamp_mss_as(uint8_t *frame, size_t len, uint16_t max_seg_size, int offlo
 
 /* ---- fragments ---- */
 
-/* For lk_fragment: the packet keeps its identification. */
+/* For lk_fragment: the packet is forwarded, and an IPv4 packet keeps its identification. */
 #define LK_FORWARDED (-1)
 
-/* Writes one of the fragments into which an IPv4 packet is cut for a link with this MTU, in bytes (RFC 791, section
- * 3.2). `frame` is an Ethernet frame, and so is each fragment, with the same Ethernet header. `number` counts the
- * fragments from 0. Returns 0 if there are no more, and otherwise the length of the frame:
+/* Writes one of the fragments into which an IP packet is cut for a link with this MTU, in bytes (RFC 791, section
+ * 3.2; RFC 8200, section 4.5). `frame` is an Ethernet frame, and so is each fragment, with the same Ethernet header.
+ * `number` counts the fragments from 0. Returns 0 if there are no more, and otherwise the length of the frame:
  *
  *     ptrdiff_t n;
  *     for (size_t i = 0; (n = lk_fragment(frame, len, mtu, LK_FORWARDED, i, out, sizeof out)) > 0; i++)
  *         send(out, (size_t)n);
  *
- * A packet that fits is its only fragment. Padding is left out. A fragment is cut into fragments of its packet.
+ * A packet that fits is its only fragment. Padding is left out.
  *
- * - A router passes LK_FORWARDED as `ident`: the identification stays, and the packet may be cut only if DF is clear.
- * - A sender passes an identification up to 65535. Its DF is cleared, as lk_emit_.. sets it. No other packet of this
- *   protocol between these addresses may have the same identification for two minutes (RFC 6864).
+ * - A router passes LK_FORWARDED as `ident`. An IPv4 packet keeps its identification, and may be cut only if DF is clear.
+ *   A fragment is cut into fragments of its packet. An IPv6 packet is never cut.
+ * - A sender passes an identification: up to 65535 over IPv4, up to 4294967295 over IPv6. DF of an IPv4 packet is
+ *   cleared, as lk_emit_.. sets it. No other packet between these addresses, over IPv4 of the same protocol, may have
+ *   the same identification for two minutes (RFC 6864; RFC 8200, section 4.5).
  *
- * Options that only the first fragment may have are no-operations in the others (RFC 791, section 3.1), so that all
- * headers have one length. Complete a checksum that is left to the device before the call (lk_fill_checksum).
+ * IPv4 options that only the first fragment may have are no-operations in the others (RFC 791, section 3.1), so that all
+ * headers have one length. Each IPv6 fragment gets a fragment header of 8 bytes. An IPv6 packet that fits stays as it is,
+ * without one. Complete a checksum that is left to the device before the call (lk_fill_checksum).
  *
- * Fails with LK_BAD_FIELD if `ident` is above 65535 or below -1, or if the packet does not fit and the MTU is less than
- * its header and 8 bytes; with LK_PAYLOAD_TOO_LONG for a fragment that ends after byte 65535 of its packet; with
- * LK_NO_HEADER if the frame has no IPv4 packet with a valid header, or if the packet is a fragment and `ident` is not
- * LK_FORWARDED; with LK_DONT_FRAGMENT, and with LK_NO_ROOM. */
-ptrdiff_t lk_fragment(const uint8_t *frame, size_t len, size_t mtu, int32_t ident, size_t number, uint8_t *out,
+ * Not supported: an IPv6 packet that has to be cut, and has hop-by-hop options, a routing header or destination options
+ * directly after the IPv6 header.
+ *
+ * Fails with LK_BAD_FIELD if `ident` is below -1, or above the limit for the packet's version, or if the packet does not
+ * fit and the MTU is less than its header and 8 bytes, 56 bytes over IPv6; with LK_PAYLOAD_TOO_LONG for an IPv4 fragment
+ * that ends after byte 65535 of its packet; with LK_NO_HEADER if the frame has no IPv4 or IPv6 packet with a valid
+ * header, or if `ident` is not LK_FORWARDED and the packet is a fragment, over IPv6 one that does not fit, or is not
+ * supported; with LK_DONT_FRAGMENT, and with LK_NO_ROOM. */
+ptrdiff_t lk_fragment(const uint8_t *frame, size_t len, size_t mtu, int64_t ident, size_t number, uint8_t *out,
                       size_t cap);
+
+/* A packet of which fragments were received. Only lk_reassemble and lk_expire write it, but the caller may free one with
+ * zeros. The fields from `expires` to `dst` may be read, and the others are private. */
+struct lk_partial {
+    uint64_t expires; /* its fragments are kept before this time, in milliseconds; 0: it is not in use */
+    uint32_t ident;   /* the identification */
+    uint8_t version;  /* 4 or 6 */
+    uint8_t protocol; /* over IPv4 */
+    uint8_t unused1[2];
+    uint8_t src[16];  /* in network byte order; of IPv4 the first 4, and the others are 0 */
+    uint8_t dst[16];
+    size_t len;
+    size_t high;
+    uint8_t header[60];
+    uint8_t not_ect;
+    uint8_t ce;
+    uint8_t unused2[2];
+    uint8_t dropped;
+    uint8_t link[14];
+    uint8_t unused3;
+};
+
+/* The memory of a packet, in bytes, that suffices for the longest. Each 8 bytes of payload take 9. */
+#define LK_PARTIAL_MEMORY 73728
+
+/* Puts the IPv4 or IPv6 packet in an Ethernet frame together with its other fragments (RFC 791, section 3.2; RFC 8200,
+ * section 4.5). Returns 0 if a part of the packet is missing, else the length of the frame with the whole packet:
+ *
+ *     enum { COUNT = 64 };
+ *     static struct lk_partial partials[COUNT];
+ *     static uint8_t memory[COUNT * LK_PARTIAL_MEMORY];
+ *
+ *     n = lk_reassemble(partials, COUNT, memory, sizeof memory, milliseconds(), frame, len, out, sizeof out);
+ *     if (n > 0)
+ *         take(out, (size_t)n);
+ *
+ * Fragments may come in any order, and more than once. A `cap` of 65589 always suffices.
+ *
+ * - `partials` are zeros at first. Each has an equal part of `memory`, of memory_len / count bytes, which may have any
+ *   contents at first. The caller passes the same `count` and `memory_len` as long as fragments are kept.
+ * - `now` is a clock in milliseconds that never goes back. Fragments are kept for 60 seconds after the one of their
+ *   packet that came first (RFC 1122, section 3.3.2; RFC 8200, section 4.5).
+ * - Fragments belong to one packet if they agree in version, addresses and identification, over IPv4 also in protocol.
+ * - If all `partials` are in use, one that has expired makes room for a new packet, else the one that expires first; of
+ *   several the first.
+ * - A packet that is not fragmented is returned at once: of IPv4 each, of IPv6 one with an atomic fragment header (RFC
+ *   6946). Neither `partials` nor `memory` are used.
+ * - The packet has the header of the fragment with offset 0, with a new length, and over IPv4 with MF clear and a new
+ *   checksum. Over IPv6 the fragment header is left out. If a fragment has the codepoint CE, the packet has it (RFC
+ *   3168, section 5.3). The Ethernet header is that of `frame`. Padding is left out.
+ * - IPv6: the fragment header must follow the fixed header directly. Messages of neighbour discovery must not come in
+ *   fragments (RFC 6980): drop a whole packet with one.
+ *
+ * Fails with one of these:
+ *
+ * - LK_PAYLOAD_TOO_LONG: the fragment ends after what the memory of its packet can keep, or `count` is 0.
+ * - LK_NO_HEADER: there is no valid fragment. A length, the version or the IPv4 header checksum is wrong, an IPv6 packet
+ *   has no fragment header, or the fragment has no payload, or one of no multiple of 8 bytes though more fragments
+ *   follow.
+ * - LK_NO_ROOM: the packet is complete, but does not fit in `out`. Its fragments are kept, so that any of them gives it
+ *   again.
+ * - LK_DROPPED: two fragments of the packet overlap, but not with all of the same bytes (RFC 5722; RFC 8200, section
+ *   4.5), or contradict each other about its end; one has CE and one Not-ECT (RFC 3168, section 5.3); or its end and its
+ *   header make more bytes than a length field can say. This fragment and those that come until the packet expires
+ *   are dropped.
+ *
+ * After LK_PAYLOAD_TOO_LONG and LK_NO_HEADER `partials` and `memory` are unchanged too. */
+ptrdiff_t lk_reassemble(struct lk_partial *partials, size_t count, uint8_t *memory, size_t memory_len, uint64_t now,
+                        const uint8_t *frame, size_t len, uint8_t *out, size_t cap);
+
+/* Frees packets whose time is over, up to one whose fragment with offset 0 was received. Writes the frame with this
+ * fragment, and returns its length; 0: there is no such packet. An ICMP error tells its sender: time exceeded, code 1
+ * (RFC 792; RFC 4443, section 3.3). Call it until it returns 0:
+ *
+ *     while ((n = lk_expire(partials, COUNT, memory, sizeof memory, milliseconds(), out, sizeof out)) > 0)
+ *         send_time_exceeded(out, n);
+ *
+ * The frame has the Ethernet header of the fragment that came first. A packet that got LK_DROPPED, or that made room
+ * for another one, gives no frame, and so does one that does not fit in `out`. A `cap` of 65589 always suffices. */
+size_t lk_expire(struct lk_partial *partials, size_t count, const uint8_t *memory, size_t memory_len, uint64_t now,
+                 uint8_t *out, size_t cap);
 
 /* ---- edits in place ---- */
 

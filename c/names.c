@@ -6,6 +6,7 @@ const char *lk_reason_name(int reason)
     static const char *const names[] = {
         "LK_READ",      "LK_TOO_SHORT", "LK_BAD_VERSION", "LK_BAD_LENGTH", "LK_OTHER_ARP",
         "LK_PORT_ZERO", "LK_BAD_FLAGS", "LK_BAD_OPTIONS", "LK_HEADER_CUT", "LK_UNKNOWN_LINK",
+        "LK_HOPS_LEFT", "LK_BAD_ORDER",
     };
     const int count = sizeof names / sizeof names[0];
     return reason >= 0 && reason < count ? names[reason] : "no reason";
@@ -16,7 +17,7 @@ const char *lk_failure_name(ptrdiff_t failure)
     static const char *const names[] = {
         "LK_NO_VERSION", "LK_TWO_VERSIONS", "LK_BAD_PREFIX",       "LK_NO_PORT",          "LK_NO_HOP_LIMIT", "LK_BAD_FIELD",
         "LK_TWO_CONTROLS", "LK_OPTIONS_TOO_LONG", "LK_PAYLOAD_TOO_LONG", "LK_NO_HEADER", "LK_NO_ROOM",
-        "LK_DONT_FRAGMENT",
+        "LK_DONT_FRAGMENT", "LK_DROPPED",
     };
     const int count = sizeof names / sizeof names[0];
     for (int i = 0; i < count; i++)

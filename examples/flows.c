@@ -108,8 +108,8 @@ static void resize(struct table *table, size_t size)
 /* The flow of a packet. `side` says which end sent it. */
 static struct flow *flow_of(struct table *table, const struct lk_frame *frame, int64_t now, int *side)
 {
-    struct key key = {{frame->src, frame->dst}, frame->ip.protocol};
-    struct key back = {{frame->dst, frame->src}, frame->ip.protocol};
+    struct key key = {{frame->src, frame->dst}, frame->protocol};
+    struct key back = {{frame->dst, frame->src}, frame->protocol};
     if (2 * table->used >= table->size)
         resize(table, 2 * table->size);
     uint32_t *place = find(table, &key), *other = *place != 0 ? place : find(table, &back);

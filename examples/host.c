@@ -5,13 +5,14 @@
  * Makes the device, unless it exists, and prints "ready". SIGINT and SIGTERM end it: then it prints counts. It
  * ends with status 1 if the device is deleted. While the device is down, it waits.
  *
- * Not supported: reassembly of IP fragments, and ICMP errors that come in, but for "packet too big". */
+ * Packets in fragments are put together. Long answers leave in fragments.
+ *
+ * Not supported: ICMP errors that come in, but for "packet too big". */
 #define _GNU_SOURCE
 #include "error_limit.h"
 #include "host_tcp.h"
 #include "process.h"
 #include "tap.h"
-#include <sys/socket.h>
 
 static const char help[] =
     "usage: host DEVICE HARDWARE_ADDRESS IPV4_ADDRESS IPV6_ADDRESS\n"
@@ -27,15 +28,16 @@ enum { LONGEST_IP_HEADER = 60, TCP_HEADER = 20 };
 size_t mtu;
 static struct lk_host own = {.echo_port = ECHO_PORT};
 static struct error_limit limit;
+static struct fragments fragments;
 static int device;
-static uint8_t out[LONGEST_FRAME];
+static uint8_t out[LONGEST_WHOLE];
 static unsigned long frames_in, frames_out, rejected, wrong_checksums;
 
 /* Sends the frame in `out`, if it could be written. A frame is lost while the device is down. */
 static void send_out(ptrdiff_t len)
 {
-    if (len > 0 && write(device, out, (size_t)len) == len)
-        frames_out++;
+    if (len > 0)
+        frames_out += write_packet(device, &fragments, out, (size_t)len);
 }
 
 struct lk_frame headers_to(const struct lk_frame *in)
@@ -53,6 +55,18 @@ static void answer(const uint8_t *frame, size_t len)
     ptrdiff_t answer_len = lk_answer(&own, frame, len, out, sizeof out);
     if (answer_len > 0 && may_send(&limit, milliseconds(), out, (size_t)answer_len))
         send_out(answer_len);
+}
+
+/* Tells the senders of fragments that the others did not come. */
+static void expire_fragments(void)
+{
+    struct lk_interface interface = {.ipv4 = own.ipv4, .ipv6 = own.ipv6};
+    memcpy(interface.hardware, own.hardware, 6);
+    for (size_t len; (len = expire(&fragments, milliseconds())) > 0;) {
+        ptrdiff_t error = lk_emit_icmp_error(&interface, LK_FRAGMENT_MISSING, 0, fragments.whole, len, out, sizeof out);
+        if (error > 0 && may_send(&limit, milliseconds(), out, (size_t)error))
+            send_out(error);
+    }
 }
 
 void send_tcp(const struct lk_frame *headers, const struct lk_tcp_options *options, const uint8_t *ptr, size_t len)
@@ -98,11 +112,18 @@ static int has_wrong_checksum(const struct lk_frame *in)
     return in->ipv4_checksum == LK_WRONG || verdict == LK_WRONG || verdict == LK_LEFT_TO_DEVICE;
 }
 
-static void on_frame(const uint8_t *frame, size_t len)
+/* `is_whole`: the frame was put together from fragments. */
+static void on_frame(const uint8_t *frame, size_t len, int is_whole)
 {
     struct lk_frame in;
     struct lk_tcp_options options;
     int reason = lk_read_frame_options(frame, len, &in, &options);
+    if (!is_whole && is_fragment_for(&own, &in)) {
+        ptrdiff_t whole_len = reassemble(&fragments, milliseconds(), frame, len);
+        if (whole_len > 0)
+            on_frame(fragments.whole, (size_t)whole_len, 1);
+        return;
+    }
     if (reason != LK_READ)
         rejected++;
     if (has_wrong_checksum(&in))
@@ -117,20 +138,6 @@ static void on_frame(const uint8_t *frame, size_t len)
         on_tcp(&in, &options, frame);
 }
 
-/* Reads the MTU of the device. */
-static int read_mtu(const char *name)
-{
-    struct ifreq request = {.ifr_flags = 0};
-    int any = socket(AF_INET, SOCK_DGRAM | SOCK_CLOEXEC, 0);
-    strcpy(request.ifr_name, name);
-    int is_read = any >= 0 && ioctl(any, SIOCGIFMTU, &request) == 0;
-    mtu = is_read ? (size_t)request.ifr_mtu : 0;
-    if (!is_read)
-        fprintf(stderr, "host: %s: %s\n", name, strerror(errno));
-    close(any);
-    return is_read;
-}
-
 /* Reads some frames, so that signals and timers have their turn. Returns 0 if the device has been deleted. */
 static int read_frames(void)
 {
@@ -140,7 +147,7 @@ static int read_frames(void)
         if (len < 0)
             return is_there();
         frames_in++;
-        on_frame(frame, (size_t)len);
+        on_frame(frame, (size_t)len, 0);
     }
     return 1;
 }
@@ -151,7 +158,9 @@ static int serve(const char *name, int signals)
     struct output errors = open_output(STDERR_FILENO);
     struct pollfd fds[2] = {{.fd = signals, .events = POLLIN}, {.fd = device, .events = POLLIN}};
     for (;;) {
-        poll(fds, 2, run_timers());
+        int timer = run_timers(), other = until_expire(&fragments);
+        poll(fds, 2, timer < 0 || (other >= 0 && other < timer) ? other : timer);
+        expire_fragments();
         if (fds[0].revents != 0)
             return 0;
         if ((fds[1].revents & (POLLERR | POLLHUP | POLLNVAL)) || !read_frames()) {
@@ -174,8 +183,13 @@ int main(int argc, char **argv)
     if (!read_host("host", argv + 2, &own))
         return 2;
     device = open_tap("host", argv[1]);
-    if (device < 0 || !read_mtu(argv[1]))
+    if (device < 0)
         return 1;
+    mtu = mtu_of(device);
+    if (mtu == 0 || !make_fragments(&fragments)) {
+        perror("host");
+        return 1;
+    }
     struct output output = open_output(STDOUT_FILENO);
     int signals = open_signals(no_others);
     if (signals < 0) {

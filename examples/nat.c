@@ -2,8 +2,9 @@
  *     nat [-m COUNT] FILE OUTSIDE INSIDE..
  * The interfaces and FILE are those of router.c. Packets to OUTSIDE get its first IPv4 address, and ports of this
  * address lead back to the hosts inside. Between inside interfaces packets are routed as they are. Only UDP, TCP, ping
- * and ICMP errors over IPv4 pass OUTSIDE: fragments, other ICMP messages and IPv6 are dropped. -m: the most ports and
- * echo identifiers that one inside address has at a time (RFC 6888, REQ-4). */
+ * and ICMP errors over IPv4 pass OUTSIDE: other ICMP messages and IPv6 are dropped. Fragments are put together, in any
+ * order, and the packet leaves in fragments again. -m: the most ports and echo identifiers that one inside address has
+ * at a time (RFC 6888, REQ-4). */
 #define _GNU_SOURCE
 #include "routing/router.h"
 
@@ -88,6 +89,14 @@ static int before_route(struct router *router, uint16_t from, const struct lk_fr
     return rejection;
 }
 
+/* A packet is translated as a whole, because only its first fragment has ports. */
+static enum table table_of(uint16_t from, uint16_t to, const struct lk_addr *dst)
+{
+    if (from == OUTSIDE)
+        return is_outside_address(dst) ? FROM_OUTSIDE : NO_TABLE;
+    return to == OUTSIDE || is_outside_address(dst) ? FROM_INSIDE : NO_TABLE;
+}
+
 static int before_send(struct router *router, uint16_t from, uint16_t to, struct packet *packet)
 {
     if (from == OUTSIDE)
@@ -139,7 +148,8 @@ static size_t read_count(const char *word)
 int main(int argc, char **argv)
 {
     static struct router router = {.name = "nat", .before_route = before_route, .before_send = before_send,
-                                   .before_error = before_error, .on_config = find_outside_address};
+                                   .before_error = before_error, .table_of = table_of,
+                                   .on_config = find_outside_address};
     size_t most = MOST_OF_ONE;
     prepare();
     opterr = 0;
@@ -160,5 +170,6 @@ int main(int argc, char **argv)
     }
     if (!start(&router, argv[optind], argv + optind + 1, (size_t)(argc - optind - 1)))
         return 1;
+    router.interfaces[OUTSIDE].renumbers = 1;
     return serve(&router);
 }

@@ -1,12 +1,13 @@
 /* The proved host on a TAP device (Linux). lk_answer writes each answer, so this program has no byte of
- * a packet: it reads frames, and sends what it gets for them.
+ * a packet: it reads frames, and sends what it gets for them. Packets in fragments are put together, and long answers
+ * leave in fragments.
  *     proved_host DEVICE HARDWARE_ADDRESS IPV4_ADDRESS IPV6_ADDRESS [TCP_PORT..]
  * Makes the device, unless it exists, and prints "ready". It answers ARP, neighbour solicitations and ping for its
  * addresses, echoes what comes to port 7 by UDP, answers a SYN to one of the TCP ports, and rejects all else that
  * comes by UDP and TCP. SIGINT and SIGTERM end it. It ends with status 1 if the device is deleted. While the device is
  * down, it waits.
  *
- * Not supported: TCP connections (host.c has them), and reassembly of IP fragments. */
+ * Not supported: TCP connections (host.c has them). */
 #define _GNU_SOURCE
 #include "error_limit.h"
 #include "process.h"
@@ -15,6 +16,8 @@
 #include <sys/random.h>
 
 enum { MOST_PORTS = 16 };
+
+static struct fragments fragments;
 
 static const char help[] =
     "usage: proved_host DEVICE HARDWARE_ADDRESS IPV4_ADDRESS IPV6_ADDRESS [TCP_PORT..]\n"
@@ -48,23 +51,57 @@ static int renew(struct lk_host *host)
     return getrandom(&host->seq_number, sizeof host->seq_number, 0) == (ssize_t)sizeof host->seq_number;
 }
 
+/* Sends an answer, in fragments if it is too long. It is lost while the device is down. */
+static void send_answer(int device, const uint8_t *answer, size_t len)
+{
+    static struct error_limit limit;
+    if (may_send(&limit, milliseconds(), answer, len))
+        write_packet(device, &fragments, answer, len);
+}
+
+/* Returns the length of the frame to answer, at `*frame`: one that came in, or if it has a fragment the whole packet. 0:
+ * there is none. */
+static size_t whole_frame(const struct lk_host *host, const uint8_t **frame, size_t len)
+{
+    struct lk_frame in;
+    lk_read_frame(*frame, len, &in);
+    if (!is_fragment_for(host, &in))
+        return len;
+    ptrdiff_t whole_len = reassemble(&fragments, milliseconds(), *frame, len);
+    *frame = fragments.whole;
+    return whole_len > 0 ? (size_t)whole_len : 0;
+}
+
 /* Answers some frames. Returns 0 if the device has been deleted. */
 static int answer_frames(int device, struct lk_host *host)
 {
-    static uint8_t frame[LONGEST_FRAME], out[LONGEST_FRAME];
-    static struct error_limit limit;
+    static uint8_t in[LONGEST_FRAME], out[LONGEST_WHOLE];
     for (int count = 0; count < FRAMES_AT_ONCE; count++) {
-        ssize_t len = read(device, frame, sizeof frame);
+        const uint8_t *frame = in;
+        ssize_t len = read(device, in, sizeof in);
         if (len < 0)
             return is_there();
-        if (!renew(host))
+        size_t whole_len = whole_frame(host, &frame, (size_t)len);
+        if (whole_len == 0 || !renew(host))
             continue;
-        ptrdiff_t answer = lk_answer(host, frame, (size_t)len, out, sizeof out);
-        if (answer > 0 && may_send(&limit, milliseconds(), out, (size_t)answer)
-            && write(device, out, (size_t)answer) < 0)
-            continue; /* the device is down, so the answer is lost */
+        ptrdiff_t answer = lk_answer(host, frame, whole_len, out, sizeof out);
+        if (answer > 0)
+            send_answer(device, out, (size_t)answer);
     }
     return 1;
+}
+
+/* Tells the senders of fragments that the others did not come. */
+static void expire_fragments(int device, const struct lk_host *host)
+{
+    static uint8_t out[LONGEST_WHOLE];
+    struct lk_interface interface = {.ipv4 = host->ipv4, .ipv6 = host->ipv6};
+    memcpy(interface.hardware, host->hardware, 6);
+    for (size_t len; (len = expire(&fragments, milliseconds())) > 0;) {
+        ptrdiff_t error = lk_emit_icmp_error(&interface, LK_FRAGMENT_MISSING, 0, fragments.whole, len, out, sizeof out);
+        if (error > 0)
+            send_answer(device, out, (size_t)error);
+    }
 }
 
 /* Returns the status of the program. */
@@ -73,7 +110,8 @@ static int serve(const char *name, int device, int signals, struct lk_host *host
     struct output errors = open_output(STDERR_FILENO);
     struct pollfd files[2] = {{.fd = signals, .events = POLLIN}, {.fd = device, .events = POLLIN}};
     for (;;) {
-        poll(files, 2, -1);
+        poll(files, 2, until_expire(&fragments));
+        expire_fragments(device, host);
         if (files[0].revents != 0)
             return 0;
         if ((files[1].revents & (POLLERR | POLLHUP | POLLNVAL)) || !answer_frames(device, host)) {
@@ -103,6 +141,10 @@ int main(int argc, char **argv)
     int device = open_tap("proved_host", argv[1]);
     if (device < 0)
         return 1;
+    if (!make_fragments(&fragments)) {
+        perror("proved_host");
+        return 1;
+    }
     struct output output = open_output(STDOUT_FILENO);
     int signals = open_signals(no_others);
     if (signals < 0) {

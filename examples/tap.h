@@ -2,6 +2,7 @@
 #ifndef TAP_H
 #define TAP_H
 
+#include "fragments.h"
 #include <errno.h>
 #include <fcntl.h>
 #include <ip_wire.h>
@@ -10,9 +11,10 @@
 #include <stdio.h>
 #include <string.h>
 #include <sys/ioctl.h>
+#include <sys/socket.h>
 #include <unistd.h>
 
-/* The longest frame, in bytes, and how many are read before signals and timers have their turn. */
+/* The longest frame that a device has, in bytes, and how many are read before signals and timers have their turn. */
 enum { LONGEST_FRAME = 65535 + 18, FRAMES_AT_ONCE = 64 };
 
 /* Opens a TAP device, and makes it unless it exists. Returns -1 if that fails, with a message. */
@@ -32,6 +34,34 @@ static inline int open_tap(const char *program, const char *name)
     if (device >= 0)
         close(device);
     return -1;
+}
+
+/* The MTU of a device, in bytes, or 0 if it cannot be read. */
+static inline size_t mtu_of(int device)
+{
+    static int any = -1;
+    struct ifreq request = {.ifr_flags = 0};
+    if (any < 0)
+        any = socket(AF_INET, SOCK_DGRAM | SOCK_CLOEXEC, 0);
+    int is_read = ioctl(device, TUNGETIFF, &request) == 0 && ioctl(any, SIOCGIFMTU, &request) == 0;
+    return is_read ? (size_t)request.ifr_mtu : 0;
+}
+
+/* Writes a frame to a device. A packet that is longer than the MTU is written in fragments. Returns the number of frames
+ * that the device took. */
+static inline unsigned long write_packet(int device, struct fragments *fragments, const uint8_t *frame, size_t len)
+{
+    enum { FITS = 14 + 576 };
+    static uint8_t out[LONGEST_WHOLE];
+    size_t mtu = len <= FITS ? 0 : mtu_of(device);
+    unsigned long count = 0;
+    ptrdiff_t n;
+    if (mtu == 0 || len <= 14 + mtu)
+        return write(device, frame, len) == (ssize_t)len;
+    const int64_t ident = next_ident(fragments, frame);
+    for (size_t i = 0; (n = lk_fragment(frame, len, mtu, ident, i, out, sizeof out)) > 0; i++)
+        count += write(device, out, (size_t)n) == n;
+    return count;
 }
 
 /* Whether a device is there after a read that failed: it has no frame, or is down. */

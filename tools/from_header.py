@@ -28,7 +28,7 @@ NOT_IN_PYTHON = {
     "lk_set_bytes": "lk_set_bytes_as", "lk_make_route_table": "", "lk_choose_route_by_table": "lk_choose_route",
     "lk_check_source_by_table": "lk_check_source",
 }
-RUST = {"uint8_t": "u8", "uint16_t": "u16", "uint32_t": "u32", "uint64_t": "u64", "int32_t": "i32", "size_t": "usize",
+RUST = {"uint8_t": "u8", "uint16_t": "u16", "uint32_t": "u32", "uint64_t": "u64", "int32_t": "i32", "int64_t": "i64", "size_t": "usize",
         "ptrdiff_t": "isize", "int": "c_int", "char": "c_char"}
 PYTHON = {"void": "None", "ptrdiff_t": "c_ssize_t", "size_t": "c_size_t", "int": "c_int"}
 WIDTH = 120
@@ -130,8 +130,9 @@ def rust(header):
     yield f"#[allow(dead_code)]\npub const VERSION: (u32, u32) = ({', '.join(version_of(header)[:2])});\n\nstructs! {{"
     for name, fields in structs_of(header):
         if name not in ONLY_C:
-            has_pointers = any(kind.endswith("*") for kind, _, _ in fields)
-            yield from [] if has_pointers else ["    #[derive(Default)]"]
+            # Rust has no default of pointers and of longer arrays.
+            has_default = not any(kind.endswith("*") or int(length or 0) > 32 for kind, _, length in fields)
+            yield from ["    #[derive(Default)]"] if has_default else []
             yield f"    struct {camel(name)} {{"
             yield from (rust_field(*field) for field in fields)
             yield "    }\n"
@@ -178,7 +179,8 @@ def python_parameters(given):
 def python(header):
     yield '"""The structs and calls of ip_wire.h, written by tools/from_header.py."""'
     yield "import ctypes"
-    yield "from ctypes import POINTER, c_char_p, c_int, c_int32, c_size_t, c_ssize_t, c_uint8, c_uint16, c_uint32, c_uint64, c_void_p"
+    yield "from ctypes import POINTER, c_char_p, c_int, c_int32, c_int64, c_size_t, c_ssize_t"
+    yield "from ctypes import c_uint8, c_uint16, c_uint32, c_uint64, c_void_p"
     yield "from typing import Any, Dict, Tuple\n\n"
     yield "def _declare(name: str, **fields: Any) -> Any:"
     yield '    return type(name, (ctypes.Structure,), {"_fields_": list(fields.items())})\n\n'

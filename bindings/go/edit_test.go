@@ -66,19 +66,30 @@ func TestEdits(t *testing.T) {
 // Scapy packed the fragments.
 func TestFragment(t *testing.T) {
 	const ping = ethernet + "450000202160400040119569c0000201c0000202" + "a1670007000cfb92" + "70696e67"
+	const toIPv6 = "020000000002020000000001" + "86dd"
+	const addrs = "20010db800000000000000000000000120010db8000000000000000000000002"
+	const esp = toIPv6 + "6000000000183240" + addrs + "0001020304050607" + "08090a0b0c0d0e0f" + "1011121314151617"
 	for _, it := range []struct {
-		mtu, ident, number int
-		fragment           string
-		failure            error
+		packet   string
+		mtu      int
+		ident    int64
+		number   int
+		fragment string
+		failure  error
 	}{
-		{28, 0x1234, 0, ethernet + "4500001c123420004011c499c0000201c0000202" + ping[68:84], nil},
-		{28, 0x1234, 1, ethernet + "45000018123400014011e49cc0000201c0000202" + ping[84:], nil},
-		{28, 0x1234, 2, "", nil},
-		{32, Forwarded, 0, ping, nil},
-		{31, Forwarded, 0, "", DontFragment},
-		{27, 0x1234, 0, "", BadField},
+		{esp, 63, 0xffffffff, 0, toIPv6 + "6000000000102c40" + addrs + "32000001ffffffff" + "0001020304050607", nil},
+		{esp, 63, 0xffffffff, 2, toIPv6 + "6000000000102c40" + addrs + "32000010ffffffff" + "1011121314151617", nil},
+		{esp, 64, 1, 0, esp, nil},
+		{esp, 63, Forwarded, 0, "", DontFragment},
+		{ping, 28, 0x10000, 0, "", BadField},
+		{ping, 28, 0x1234, 0, ethernet + "4500001c123420004011c499c0000201c0000202" + ping[68:84], nil},
+		{ping, 28, 0x1234, 1, ethernet + "45000018123400014011e49cc0000201c0000202" + ping[84:], nil},
+		{ping, 28, 0x1234, 2, "", nil},
+		{ping, 32, Forwarded, 0, ping, nil},
+		{ping, 31, Forwarded, 0, "", DontFragment},
+		{ping, 27, 0x1234, 0, "", BadField},
 	} {
-		fragment, err := Fragment(unhex(t, ping), it.mtu, it.ident, it.number, make([]byte, 64))
+		fragment, err := Fragment(unhex(t, it.packet), it.mtu, it.ident, it.number, make([]byte, 78))
 		if hex.EncodeToString(fragment) != it.fragment || err != it.failure {
 			t.Errorf("Fragment(%d, %d, %d): %x, %v", it.mtu, it.ident, it.number, fragment, err)
 		}

@@ -50,19 +50,20 @@ func Rebuild(frame, out []byte) ([]byte, error) {
 	return written(out, C.lk_rebuild(ptr, length, to, room))
 }
 
-// Forwarded is the identification of Fragment for a packet that keeps its own.
+// Forwarded is the identification of Fragment for a packet that is forwarded.
 const Forwarded = C.LK_FORWARDED
 
-// Fragment writes one of the fragments into which an IPv4 packet is cut for a link with this MTU (RFC 791, section 3.2)
-// to the beginning of out, and returns this part of it. Packet and fragment are in Ethernet frames with the same header.
-// Number counts the fragments from 0. After the last one nothing is written, and the part is empty. A packet that fits is
-// its only fragment.
+// Fragment writes one of the fragments into which an IP packet is cut for a link with this MTU (RFC 791, section 3.2; RFC
+// 8200, section 4.5) to the beginning of out, and returns this part of it. Packet and fragment are in Ethernet frames with
+// the same header. Number counts the fragments from 0. After the last one nothing is written, and the part is empty. A
+// packet that fits is its only fragment.
 //
-// A router passes Forwarded as ident: the packet keeps its identification, and is cut only if DF is clear. A sender passes
-// an identification, and DF is cleared: no other packet of this protocol between these addresses may have the same
-// identification for two minutes (RFC 6864).
-func Fragment(frame []byte, mtu, ident, number int, out []byte) ([]byte, error) {
+// A router passes Forwarded as ident: an IPv4 packet keeps its identification, and is cut only if DF is clear; an IPv6
+// packet is not cut. A sender passes an identification, over IPv4 of 16 bits and over IPv6 of 32, and DF is cleared. No
+// other packet between these addresses, over IPv4 of the same protocol, may have the same identification for two minutes
+// (RFC 6864).
+func Fragment(frame []byte, mtu int, ident int64, number int, out []byte) ([]byte, error) {
 	ptr, length := memory(frame)
 	to, room := memory(out)
-	return written(out, C.lk_fragment(ptr, length, C.size_t(mtu), C.int32_t(ident), C.size_t(number), to, room))
+	return written(out, C.lk_fragment(ptr, length, C.size_t(mtu), C.int64_t(ident), C.size_t(number), to, room))
 }

@@ -40,6 +40,8 @@ const (
 	BadOptions  Reason = C.LK_BAD_OPTIONS  // TCP: a malformed option before the end mark
 	HeaderCut   Reason = C.LK_HEADER_CUT   // the header was not captured as a whole
 	UnknownLink Reason = C.LK_UNKNOWN_LINK // ReadLink does not know the link type
+	HopsLeft    Reason = C.LK_HOPS_LEFT    // IPv6: a routing header with segments left
+	BadOrder    Reason = C.LK_BAD_ORDER    // IPv6: hop-by-hop options that do not follow the IPv6 header directly
 )
 
 // Error returns the name of the reason in ip_wire.h, as "ipwire: LK_PORT_ZERO".
@@ -67,6 +69,7 @@ type Frame struct {
 	Network           Network   // the header that was read
 	Transport         Transport // the header that was read
 	Rejected          Transport // the header that was rejected, but whose fields are in Headers
+	Protocol          uint8     // the number of the transport or the payload of an IP packet, after IPv6 extension headers
 	IsFragment        bool      // a part of an IP packet, so its payload is not parsed
 	IPv4Checksum      Verdict
 	TransportChecksum Verdict
@@ -139,6 +142,7 @@ func frameOf(data []byte, f *C.struct_lk_frame) Frame {
 		Network:           Network(f.network),
 		Transport:         Transport(f.transport),
 		Rejected:          Transport(f.rejected),
+		Protocol:          uint8(f.protocol),
 		IsFragment:        f.is_fragment != 0,
 		IPv4Checksum:      Verdict(f.ipv4_checksum),
 		TransportChecksum: Verdict(f.transport_checksum),
@@ -183,6 +187,7 @@ func (f Frame) String() string {
 	value.network = C.uint8_t(f.Network)
 	value.transport = C.uint8_t(f.Transport)
 	value.rejected = C.uint8_t(f.Rejected)
+	value.protocol = C.uint8_t(f.Protocol)
 	value.is_fragment = flag(f.IsFragment)
 	value.ipv4_checksum = C.uint8_t(f.IPv4Checksum)
 	value.transport_checksum = C.uint8_t(f.TransportChecksum)

@@ -34,10 +34,11 @@ const (
 	BadField       Failure = C.LK_BAD_FIELD        // a field of IP that this header has no place for
 	TwoControls    Failure = C.LK_TWO_CONTROLS     // more than one of SYN, FIN and RST
 	OptionsTooLong Failure = C.LK_OPTIONS_TOO_LONG // TCP options of more than 40 bytes, or more than 4 SACK ranges
-	PayloadTooLong Failure = C.LK_PAYLOAD_TOO_LONG // the payload is longer than the length field can say
-	NoHeader       Failure = C.LK_NO_HEADER        // the frame to be rebuilt is below 14 bytes, or the one to be cut has no IPv4 packet
+	PayloadTooLong Failure = C.LK_PAYLOAD_TOO_LONG // the payload is longer than the length field can say, or than the memory of a packet
+	NoHeader       Failure = C.LK_NO_HEADER        // the frame has no valid header: the one to be rebuilt, cut or put together
 	NoRoom         Failure = C.LK_NO_ROOM          // the result is longer than the slice that is written
 	DontFragment   Failure = C.LK_DONT_FRAGMENT    // the packet is longer than the MTU, and has DF
+	Dropped        Failure = C.LK_DROPPED          // the fragments of the packet contradict each other
 )
 
 // Error returns the name of the failure in ip_wire.h, as "ipwire: LK_NO_ROOM".

@@ -143,6 +143,23 @@ func TestReading(t *testing.T) {
 	}
 }
 
+// Scapy packed the packet: hop-by-hop options, and UDP with the payload f1f2f3.
+func TestExtensionHeaders(t *testing.T) {
+	packet := unhex(t, "6becdef10013003e20010db800000000000000000000000120010db8000000000000000000000002"+
+		"110005020000010031324142000b4cfbf1f2f3")
+	frame := ReadPacket(packet)
+	if frame.Check() != nil || frame.IP.Protocol != 0 || frame.Protocol != 17 || frame.TransportOffset != 48 {
+		t.Errorf("%+v", frame)
+	}
+	if line := fmt.Sprint(frame); line != "IPv6 [2001:db8::1]:12594 > [2001:db8::2]:16706 UDP len=3" {
+		t.Error(line)
+	}
+	packet[6], packet[43] = 43, 1
+	if frame = ReadPacket(packet); frame.Check() != HopsLeft || frame.Protocol != 43 {
+		t.Errorf("%+v", frame)
+	}
+}
+
 func TestLines(t *testing.T) {
 	const hosts = "Ethernet 02-00-00-00-00-01 > 02-00-00-00-00-02 "
 	const ends = "IPv4 192.0.2.1:46563 > 192.0.2.2:5353 UDP "

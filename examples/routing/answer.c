@@ -7,10 +7,12 @@ static const struct virtio_net_hdr no_offload;
 void send_own(struct router *router, uint16_t to, uint8_t *frame, size_t len)
 {
     struct interface *interface = &router->interfaces[to];
-    if (may_send(&interface->limit, router->now, frame, len))
-        send_now(interface, &no_offload, frame, interface->is_tap ? len : pad(frame, len));
-    else
+    if (!may_send(&interface->limit, router->now, frame, len))
         router->withheld++;
+    else if (len <= ETHERNET_LEN + interface->mtu)
+        send_now(interface, &no_offload, frame, interface->is_tap ? len : pad(frame, len));
+    else if (send_fragments(interface, frame, len, 1) == 0)
+        drop(router, TOO_LONG);
 }
 
 int answer(struct router *router, uint16_t from, const struct lk_addr *own, struct packet *packet)

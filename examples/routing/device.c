@@ -312,7 +312,7 @@ void uncomplete_checksum(struct packet *packet)
     lk_read_captured(packet->frame, packet->offload.csum_start, packet->len, &f);
     memcpy(pseudo, f.src.addr.octets, 16);
     memcpy(pseudo + 16, f.dst.addr.octets, 16);
-    store_word(pseudo + 32, f.ip.protocol);
+    store_word(pseudo + 32, f.protocol);
     store_word(pseudo + 34, (uint16_t)(packet->len - packet->offload.csum_start));
     store_word(place, lk_checksum(pseudo, sizeof pseudo));
 }

@@ -1,5 +1,6 @@
 /* The way of a packet through a router (RFC 1812, section 5.2.1). */
 #define _GNU_SOURCE
+#include "../fragments.h"
 #include "router.h"
 
 /* The longest IP header and 8 bytes, with the Ethernet header before them. Nothing after them is parsed, so no
@@ -104,16 +105,12 @@ static int may_fragment(const struct packet *packet)
     return header[0] >> 4 == 4 && (header[6] & 0x40) == 0 && packet->offload.gso_type == VIRTIO_NET_HDR_GSO_NONE;
 }
 
-/* Sends the fragments of a packet, after the packets that wait in the queues. */
-static void send_fragments(struct router *router, struct interface *interface, struct packet *packet)
+/* Sends a packet in fragments, after the packets that wait in the queues. */
+static void send_cut(struct router *router, struct interface *interface, struct packet *packet)
 {
-    static uint8_t out[LONGEST_FRAME];
-    const size_t mtu = interface->mtu;
-    ptrdiff_t len;
     complete_checksum(packet);
     flush_all(router);
-    for (size_t i = 0; (len = lk_fragment(packet->frame, packet->len, mtu, LK_FORWARDED, i, out, sizeof out)) > 0; i++)
-        send_now(interface, &packet->offload, out, interface->is_tap ? (size_t)len : pad(out, (size_t)len));
+    send_fragments(interface, packet->frame, packet->len, interface->renumbers);
 }
 
 static int hop_limit(const struct packet *packet)
@@ -154,7 +151,7 @@ static void send_by(struct router *router, uint16_t from, const struct lk_route 
         packet->len = pad(packet->frame, packet->len);
     router->forwarded++;
     if (is_too_long)
-        send_fragments(router, interface, packet);
+        send_cut(router, interface, packet);
     else
         send_later(interface, packet);
 }
@@ -181,11 +178,45 @@ static int is_ip_type(uint16_t type)
     return type == 0x0800 || type == 0x86dd;
 }
 
+static int read_headers(const struct packet *packet, struct lk_frame *in)
+{
+    size_t captured = packet->len < LONGEST_HEADERS ? packet->len : LONGEST_HEADERS;
+    return lk_read_captured(packet->frame, captured, packet->len, in);
+}
+
+/* The table in which a fragment is put together with others, or NO_TABLE: it is forwarded as it is. */
+static enum table table_of(const struct router *router, uint16_t from, const struct lk_frame *in)
+{
+    const struct lk_route *route = is_fragment(in) ? route_to(router, &in->dst.addr) : NULL;
+    enum table table = NO_TABLE;
+    if (route != NULL && router->table_of != NULL && in->network == LK_IPV4)
+        table = router->table_of(from, route->interface, &in->dst.addr);
+    return table == NO_TABLE && route != NULL && route->interface == TO_ROUTER ? FOR_OWN : table;
+}
+
+/* Takes an IP packet that may pass. */
+static void on_packet(struct router *router, uint16_t from, struct lk_frame *in, struct packet *packet)
+{
+    struct lk_addr dst = in->dst.addr;
+    enum table table = table_of(router, from, in);
+    int rejection = LK_NOT_REJECTED;
+    packet->len = ETHERNET_LEN + packet_len(packet->frame + ETHERNET_LEN);
+    if (table != NO_TABLE && !make_whole(router, table, in, packet))
+        return;
+    if (table != NO_TABLE)
+        read_headers(packet, in);
+    if (router->before_route != NULL)
+        rejection = router->before_route(router, from, in, packet, &dst);
+    if (rejection != LK_NOT_REJECTED)
+        drop(router, rejection);
+    else
+        send_on(router, from, packet, &dst);
+}
+
 void on_frame(struct router *router, uint16_t from, struct packet *packet)
 {
     struct lk_frame in;
-    size_t captured = packet->len < LONGEST_HEADERS ? packet->len : LONGEST_HEADERS;
-    int reason = lk_read_captured(packet->frame, captured, packet->len, &in);
+    int reason = read_headers(packet, &in);
     router->frames++;
     if (packet->is_tagged) {
         drop(router, TAGGED);
@@ -199,15 +230,7 @@ void on_frame(struct router *router, uint16_t from, struct packet *packet)
     } else if (in.network == LK_IPV6 && in.transport == LK_ICMP && on_ndisc(router, from, &in, packet)) {
         router->ndisc++;
     } else if (may_pass(router, from, &in)) {
-        struct lk_addr dst = in.dst.addr;
-        packet->len = ETHERNET_LEN + packet_len(packet->frame + ETHERNET_LEN);
-        int rejection = LK_NOT_REJECTED;
-        if (router->before_route != NULL)
-            rejection = router->before_route(router, from, &in, packet, &dst);
-        if (rejection != LK_NOT_REJECTED)
-            drop(router, rejection);
-        else
-            send_on(router, from, packet, &dst);
+        on_packet(router, from, &in, packet);
     }
 }
 
@@ -215,7 +238,7 @@ static const char *name_of(int why)
 {
     static const char *const names[] = {
         "other link address", "VLAN tag", "group or broadcast", "link-local",   "reserved address", "for the router",
-        "no route",           "too long", "no neighbour",      "above the limit of mappings",
+        "no route",           "too long", "no neighbour",      "above the limit of mappings", "bad fragment",
     };
     return why < OTHER_LINK ? lk_rejection_name(why) : names[why - OTHER_LINK];
 }
@@ -225,6 +248,8 @@ void print_counts(struct router *router)
     struct output *out = &router->out;
     print(out, "frames %lu, forwarded %lu, answered %lu, ARP %lu, ND %lu\n", router->frames, router->forwarded,
           router->answered, router->arp, router->ndisc);
+    if (router->fragments != 0)
+        print(out, "fragments %lu, put together %lu\n", router->fragments, router->wholes);
     if (router->withheld != 0)
         print(out, "ICMP errors above the limit %lu\n", router->withheld);
     if (router->untold != 0)

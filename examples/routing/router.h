@@ -9,7 +9,7 @@
 #include <linux/virtio_net.h>
 #include <net/if.h>
 
-enum { ETHERNET_LEN = 14, LONGEST_FRAME = ETHERNET_LEN + 65535, SHORTEST_FRAME = 60, FRAMES_AT_ONCE = 64 };
+enum { ETHERNET_LEN = 14, LONGEST_FRAME = ETHERNET_LEN + 40 + 65535, SHORTEST_FRAME = 60, FRAMES_AT_ONCE = 64 };
 
 /* A frame from a device, with what its sender left to the device. A frame with an `offload.gso_type` becomes many
  * frames on its way. One with VIRTIO_NET_HDR_F_NEEDS_CSUM has no UDP or TCP checksum yet. */
@@ -27,6 +27,7 @@ struct interface {
     unsigned index;      /* of the kernel's interface */
     size_t mtu;          /* in bytes */
     int clamps;          /* the MTU limits the segments of TCP connections over it */
+    int renumbers;       /* packets that leave in fragments get an identification of the router (RFC 6864, section 5.3) */
     struct lk_interface own;  /* its Ethernet address, and the addresses from which ICMP errors come */
     struct error_limit limit; /* for the errors that it sends */
     struct packet *queue[FRAMES_AT_ONCE]; /* in a buffer of the caller of `send_later` */
@@ -87,8 +88,13 @@ enum drop {
     TOO_LONG,                            /* longer than the MTU of the next link, and must not be fragmented */
     NO_NEIGHBOUR,                        /* the next hop does not reply to ARP or neighbour solicitations */
     ABOVE_LIMIT,                         /* it needs a mapping, and its sender has as many as it may have */
+    BAD_FRAGMENT,                        /* a fragment that lk_reassemble rejects, or of one packet more than its sender
+                                          * may have */
     DROPS
 };
+
+/* The tables of packets that are put together from their fragments. */
+enum table { FOR_OWN, FROM_INSIDE, FROM_OUTSIDE, TABLES, NO_TABLE = TABLES };
 
 struct router {
     const char *name; /* of the program */
@@ -101,6 +107,8 @@ struct router {
     int64_t now;       /* in milliseconds */
     int takes_any_way; /* a packet may come from elsewhere than the route back to its source leads */
     unsigned long frames, forwarded, answered, arp, ndisc;
+    unsigned long fragments; /* taken to be put together */
+    unsigned long wholes;    /* packets that were put together */
     unsigned long withheld; /* ICMP errors above the limit */
     unsigned long untold;   /* packets that are dropped, but may get no ICMP error */
     unsigned long drops[DROPS];
@@ -110,6 +118,8 @@ struct router {
                         struct lk_addr *dst);
     int (*before_send)(struct router *router, uint16_t from, uint16_t to, struct packet *packet);
     int (*before_error)(struct router *router, uint16_t to, struct packet *error);
+    /* The table for the fragments of a packet over IPv4 whose route leads to the interface `to`. */
+    enum table (*table_of)(uint16_t from, uint16_t to, const struct lk_addr *dst);
     /* Takes a file that is right otherwise. Returns what is wrong with it, or null. */
     const char *(*on_config)(const struct router *router, const struct config *config);
 };
@@ -177,9 +187,21 @@ int is_link_local(const struct lk_addr *addr);
 int is_reserved(const struct lk_addr *addr);
 void print_counts(struct router *router);
 
+/* ---- fragments.c ---- */
+
+/* Returns 0 if there is no memory. */
+int make_tables(void);
+/* Takes a fragment. Returns 1 if its packet is complete: then it is in `packet`. `in` is the fragment as it was read. */
+int make_whole(struct router *router, enum table place, const struct lk_frame *in, struct packet *packet);
+/* Drops fragments whose time is over, and tells their senders. To be called once a second. */
+void expire_fragments(struct router *router);
+/* Sends a packet over IPv4 in fragments, and returns their number. `is_own`: they get an identification of the router. */
+size_t send_fragments(struct interface *interface, const uint8_t *frame, size_t len, int is_own);
+
 /* ---- answer.c ---- */
 
-/* Sends a frame of the router itself, but an ICMP error only within the limit. There must be room for padding. */
+/* Sends a frame of the router itself, but an ICMP error only within the limit. A packet that is too long leaves in
+ * fragments. There must be room for padding. */
 void send_own(struct router *router, uint16_t to, uint8_t *frame, size_t len);
 /* Answers a packet for this address of the router. Returns 0 if it gets no answer. */
 int answer(struct router *router, uint16_t from, const struct lk_addr *own, struct packet *packet);

@@ -25,7 +25,7 @@ int start(struct router *router, const char *path, char **words, size_t count)
     }
     router->neighbours = make_neighbours();
     router->interfaces = calloc(count, sizeof *router->interfaces);
-    if (router->neighbours == NULL || router->interfaces == NULL) {
+    if (router->neighbours == NULL || router->interfaces == NULL || !make_tables()) {
         print(&router->errors, "%s: out of memory\n", router->name);
         return 0;
     }
@@ -106,6 +106,7 @@ int serve(struct router *router)
         if (is_failed || router->now >= next) {
             check_interfaces(router, files);
             ask_again(router);
+            expire_fragments(router);
             next = router->now + BETWEEN_CHECKS;
         }
     }

@@ -20,7 +20,7 @@ import from_header  # noqa: E402
 from from_header import ONLY_C, calls_of, read, structs_of, without_comments  # noqa: E402
 from sources import Sources  # noqa: E402
 
-NUMBERS = {"u8": "uint8_t", "u16": "uint16_t", "u32": "uint32_t", "u64": "uint64_t", "i32": "int", "usize": "size_t",
+NUMBERS = {"u8": "uint8_t", "u16": "uint16_t", "u32": "uint32_t", "u64": "uint64_t", "i32": "int", "i64": "int64_t", "usize": "size_t",
            "isize": "ptrdiff_t"}
 SAME = {"char": "uint8_t", "int32_t": "int"}
 # The field has another name in Rattle, because `type` is a keyword.
@@ -28,8 +28,10 @@ FIELDS = {"ethertype": "type", "msg_type": "type"}
 # What is in C.
 OF_C = ("/c/cpu.c", "/c/names.c")
 # The crates of the structs and calls. The first ones are used without C too, and their structs have other names there.
-OF_LIBRARY = ("wire_link", "app_router", "app_nat", "c_structs", "c_icmp", "c_routing", "c_exports")
-STRUCTS = {"Node": "struct lk_route_node", "Mapping": "struct lk_mapping", "Nat": "struct lk_nat"}
+OF_LIBRARY = ("wire_link", "app_fragment", "app_router", "app_nat", "c_structs", "c_icmp", "c_routing", "c_exports")
+STRUCTS = {"Node": "struct lk_route_node", "Mapping": "struct lk_mapping", "Nat": "struct lk_nat", "Partial": "struct lk_partial"}
+# Structs in a struct, which has their fields in C.
+PARTS = ("Datagram", "FragKey", "Ends")
 # Enums that are used without C too, and whose doc lines do not name them as C does.
 ENUMS = {"Side": "lk_side", "Offload": "lk_offload"}
 # The flags of a TCP header, from bit 0 on (RFC 9293, section 3.1).
@@ -101,9 +103,16 @@ class Library:
 
     def structs(self):
         for item in self.items:
-            if item.kind == "struct" and "repr(C)" in item.attributes:
-                fields = [field for member in item.members for field in self.fields(member.text)]
-                yield re.sub("^struct ", "", self.name(item.name)), fields
+            if item.kind == "struct" and "repr(C)" in item.attributes and item.name not in PARTS:
+                yield re.sub("^struct ", "", self.name(item.name)), numbered(list(self.fields_of(item)))
+
+    def fields_of(self, struct):
+        for member in struct.members:
+            kind = member.text.rpartition(": ")[2]
+            if kind in PARTS:
+                yield from self.fields_of(next(item for item in self.items if item.name == kind and item.kind == "struct"))
+            else:
+                yield from self.fields(member.text)
 
     def enums(self):
         yield "lk_tcp_flag", {"LK_" + flag: 1 << bit for bit, flag in enumerate(TCP_FLAGS)}
@@ -124,7 +133,7 @@ class Library:
 
     def fields(self, member):
         """The fields in C of a field: a slice is a pointer and a count."""
-        declared = re.fullmatch(r"(?:pub )?(\w+): (?:\[(\w+); (\w+)\]|&'\w+ \[(\w+)\]|(\w+))", member)
+        declared = re.fullmatch(r"(?:pub(?:\(crate\))? )?(\w+): (?:\[(\w+); (\w+)\]|&'\w+ \[(\w+)\]|(\w+))", member)
         if declared:
             name, array, length, slice_of, plain = declared.groups("")
             if slice_of:
@@ -132,6 +141,13 @@ class Library:
                 yield "size_t", re.sub("s$", "", name) + "_count", ""
             else:
                 yield self.name(array or plain), FIELDS.get(name, name), self.constants.get(length, length)
+
+
+def numbered(fields):
+    """The fields with a number after a name that several have."""
+    names = [name for _, name, _ in fields]
+    numbers = [f"{names[: at + 1].count(name)}" if names.count(name) > 1 else "" for at, name in enumerate(names)]
+    return [(kind, name + number, length) for (kind, name, length), number in zip(fields, numbers)]
 
 
 def differences(header, sources):

@@ -99,7 +99,7 @@ WRITER(emit_icmp_error, (const struct lk_interface *own, int problem, uint32_t m
        (own, problem, mtu, frame, len, wanted, cap),
        (GIVE(own), NUMBER(problem), NUMBER(mtu), given("frame", frame, used_len(len)), NUMBER(len), OUT))
 WRITER(rebuild, (const uint8_t *ptr, size_t len, uint8_t *out, size_t cap), (ptr, len, wanted, cap), (INPUT, OUT))
-WRITER(fragment, (const uint8_t *ptr, size_t len, size_t mtu, int32_t ident, size_t number, uint8_t *out, size_t cap),
+WRITER(fragment, (const uint8_t *ptr, size_t len, size_t mtu, int64_t ident, size_t number, uint8_t *out, size_t cap),
        (ptr, len, mtu, ident, number, wanted, cap), (INPUT, NUMBER(mtu), NUMBER(ident), NUMBER(number), OUT))
 
 /* The ports of the host are arguments too. */

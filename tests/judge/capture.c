@@ -45,10 +45,35 @@ static void write_verdict(int is_there, unsigned verdict)
 
 /* ---- rows: the fields are those of tests/judge/tshark.py ---- */
 
+/* The number of extension headers of IPv6 that `counts` counts. */
+static int count_extensions(const struct lk_frame *frame, int counts(unsigned protocol, const uint8_t *ptr, size_t len))
+{
+    struct lk_ipv6_header header = {0, 0, 0, 0};
+    int count = 0;
+    while (frame->network == LK_IPV6 && lk_next_ipv6_header(made.octets + 14, made.len - 14, &header) == 1)
+        count += counts(header.protocol, made.octets + 14 + header.offset, header.len);
+    return count;
+}
+
+static int is_fragment_header(unsigned protocol, const uint8_t *ptr, size_t len)
+{
+    (void)ptr, (void)len;
+    return protocol == 44;
+}
+
+/* Options that are more than one padding, a routing header of another type than those for experiments (RFC 4727), and an
+ * authentication header without a sequence number. */
+static int is_special(unsigned protocol, const uint8_t *ptr, size_t len)
+{
+    if (protocol == 0 || protocol == 60)
+        return ptr[2] != 1 || ptr[3] != len - 4;
+    return protocol == 43 ? ptr[2] < 253 || ptr[2] == 255 : protocol == 51 && len < 12;
+}
+
 static void write_ip(const struct lk_frame *frame)
 {
     int is_ipv4 = frame->network == LK_IPV4, is_ipv6 = frame->network == LK_IPV6;
-    int has_fragment_header = is_ipv6 && frame->ip.protocol == 44;
+    int has_fragment_header = count_extensions(frame, is_fragment_header) > 0;
     write_addr(is_ipv4, &frame->src.addr);
     write_addr(is_ipv4, &frame->dst.addr);
     write_number(is_ipv4, frame->ip.dscp);
@@ -179,11 +204,12 @@ static int has_known_option(const struct lk_frame *frame)
 }
 
 /* Whether tshark dissects just the headers that lk_read_frame reads. It dissects the transport of a first fragment
- * too, and what other protocols carry. It calls a TCP or ICMP checksum bad that is 0xffff instead of 0, but by RFC 1071
+ * too, and what other protocols carry. Of several fragment headers it prints the first, and it
+ * dissects options and routes. It calls a TCP or ICMP checksum bad that is 0xffff instead of 0, but by RFC 1071
  * the sum is right. In ARP operation 7 (DRARP error, RFC 1931) it finds an error instead of the last address. */
 static int is_comparable(const struct lk_frame *frame)
 {
-    if (frame->reason != LK_READ)
+    if (frame->reason != LK_READ || count_extensions(frame, is_fragment_header) > 1 || count_extensions(frame, is_special) > 0)
         return 0;
     if (frame->transport == LK_TCP)
         return get_word(made.octets + frame->transport_offset + 16) != 0xffff;

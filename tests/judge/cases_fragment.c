@@ -44,17 +44,26 @@ static void change_header(void)
     put_word(header + 10, one_in(16) ? 1 : 0xffff - model_checksum(header, 20 + len));
 }
 
+/* Forwarded, of 16 bits, of 32 bits, or wrong. */
+static int64_t any_ident(void)
+{
+    if (one_in(3))
+        return LK_FORWARDED;
+    return one_in(16) ? (int64_t)any() : one_in(16) ? (int64_t)below(4) - 2 + (one_in(2) ? 65536 : 4294967296) :
+           one_in(3) ? (int64_t)(any() & 0xffffffff) : (int64_t)below(65536);
+}
+
 void fragment_frame(void)
 {
     size_t len, header_len, total_len, mtu, n = 0;
-    int32_t ident = one_in(2) ? LK_FORWARDED : one_in(8) ? (int32_t)any() : (int32_t)below(65536);
+    int64_t ident = any_ident();
     if (one_in(4))
         make_frame();
     else
         make_valid();
     change_header();
     len = one_in(64) ? unused_len() : made.len;
-    header_len = made.len > 14 ? (made.octets[14] & 15) * 4u : 0;
+    header_len = made.len > 14 ? made.octets[14] >> 4 == 6 ? 48 : (made.octets[14] & 15) * 4u : 0;
     total_len = made.len > 14 ? made.len - 14 : 0;
     mtu = any_mtu(header_len, total_len);
     for (; n < 8; n++) {

@@ -90,20 +90,22 @@ void read_links(void)
 /* Writes up to five extension headers after an IPv6 header, and returns the length of the packet. */
 static size_t put_extensions(uint8_t *packet)
 {
-    static const uint8_t numbers[] = {0, 43, 44, 60, 17, 59};
+    static const uint8_t numbers[] = {0, 43, 44, 60, 51, 17, 59};
     size_t len = 40, number_at = 6;
     for (size_t count = below(6); count > 0; count--) {
-        uint8_t number = numbers[below(4)];
+        uint8_t number = numbers[below(5)];
         size_t units = number == 44 ? 1 : 1 + below(3);
         packet[number_at] = number;
         number_at = len;
-        if (number != 44)
+        if (number == 51)
+            packet[len + 1] = (uint8_t)(2 * units - 2);
+        else if (number != 44)
             packet[len + 1] = (uint8_t)(units - 1);
         else if (one_in(2)) /* the first fragment */
             put_word(packet + len + 2, 1);
         len += 8 * units;
     }
-    packet[number_at] = numbers[below(6)];
+    packet[number_at] = numbers[below(7)];
     put_word(packet + 4, (unsigned)(len - 40 + (one_in(8) ? below(16) : 0)));
     return len;
 }

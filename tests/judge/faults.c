@@ -59,6 +59,15 @@ __attribute__((constructor)) static void choose(void)
         "the checksum in a first fragment of IPv6 not updated",
         "the last part of a fragment as the last fragment", "all options in each fragment", "a packet with DF cut",
         "an error about a later fragment of ICMPv6", "an error about an error after an extension header",
+        "a fragment header in an IPv6 packet that fits", "more fragments after the last one of IPv6",
+        "a forwarded IPv6 packet cut",
+        "blocks that were not received handed out", "fragments of a dropped packet accepted", "a copy of a fragment rejected",
+        "a fragment of another protocol accepted", "fragments kept for a millisecond too long",
+        "fragments kept for a millisecond too short", "the packet that expires last makes room", "CE of one fragment lost",
+        "an error about a dropped packet",
+        "the number in the IPv6 header as that after extension headers", "a route with segments left as complete",
+        "hop-by-hop options in any place", "an atomic fragment as a fragment",
+        "the length of an authentication header in units of 8 bytes",
     };
     const char *number = getenv("FAULT");
     fault = number ? (enum fault)atoi(number) : NO_FAULT;
@@ -139,6 +148,13 @@ static void spoil_frame(struct lk_frame *frame, size_t len)
         frame->icmp.word = frame->icmp.word << 16 | frame->icmp.word >> 16;
     if (fault == SHORT_MESSAGE_READ && frame->ip.protocol == 1 && frame->network == LK_IPV4 && frame->payload_len == 7)
         frame->transport = LK_ICMP;
+    if (fault == NUMBER_OF_FIRST_HEADER)
+        frame->protocol = frame->ip.protocol;
+    if ((fault == SEGMENTS_IGNORED && frame->reason == LK_HOPS_LEFT) ||
+        (fault == OPTIONS_IN_ANY_ORDER && frame->reason == LK_BAD_ORDER))
+        frame->reason = LK_READ;
+    if (fault == ATOMIC_FRAGMENT_LEFT && frame->ip.protocol == 44 && frame->reason == LK_READ)
+        frame->is_fragment = 1;
 }
 
 int __wrap_lk_read_frame(const uint8_t *ptr, size_t len, struct lk_frame *frame)
@@ -183,6 +199,8 @@ int __wrap_lk_next_ipv6_header(const uint8_t *ptr, size_t len, struct lk_ipv6_he
     int result = __real_lk_next_ipv6_header(ptr, len, header);
     if (fault == LATER_FRAGMENT_FOLLOWED && result == 1 && header->protocol == 44)
         header->next = ptr[header->offset];
+    if (fault == AUTHENTICATION_IN_8_BYTES && result == 1 && header->protocol == 51)
+        header->len = (uint16_t)(8 + 8 * ptr[header->offset + 1]);
     return result;
 }
 

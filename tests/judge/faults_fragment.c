@@ -3,7 +3,7 @@
 #include "faults.h"
 #include "ip_wire.h"
 
-ptrdiff_t __real_lk_fragment(const uint8_t *frame, size_t len, size_t mtu, int32_t ident, size_t number, uint8_t *out,
+ptrdiff_t __real_lk_fragment(const uint8_t *frame, size_t len, size_t mtu, int64_t ident, size_t number, uint8_t *out,
                              size_t cap);
 
 /* Fills in the checksum of the header, after a byte of it changed. */
@@ -16,7 +16,22 @@ static void sum(uint8_t *header)
     header[11] = (uint8_t)checksum;
 }
 
-static ptrdiff_t without_dont_fragment(const uint8_t *frame, size_t len, size_t mtu, int32_t ident, size_t number,
+/* Adds an atomic fragment header to an IPv6 packet that fits. */
+static ptrdiff_t as_atomic(uint8_t *out, size_t len, size_t cap)
+{
+    const uint8_t header[] = {out[20], 0, 0, 0, 0, 0, 0, 1};
+    unsigned payload_len = ((unsigned)out[18] << 8 | out[19]) + 8;
+    if (len + 8 > cap || payload_len > 65535)
+        return (ptrdiff_t)len;
+    memmove(out + 62, out + 54, len - 54);
+    memcpy(out + 54, header, 8);
+    out[18] = (uint8_t)(payload_len >> 8);
+    out[19] = (uint8_t)payload_len;
+    out[20] = 44;
+    return (ptrdiff_t)len + 8;
+}
+
+static ptrdiff_t without_dont_fragment(const uint8_t *frame, size_t len, size_t mtu, int64_t ident, size_t number,
                                        uint8_t *out, size_t cap)
 {
     static uint8_t copy[0x20000];
@@ -26,14 +41,21 @@ static ptrdiff_t without_dont_fragment(const uint8_t *frame, size_t len, size_t 
     return __real_lk_fragment(copy, len, mtu, ident, number, out, cap);
 }
 
-ptrdiff_t __wrap_lk_fragment(const uint8_t *frame, size_t len, size_t mtu, int32_t ident, size_t number, uint8_t *out,
+ptrdiff_t __wrap_lk_fragment(const uint8_t *frame, size_t len, size_t mtu, int64_t ident, size_t number, uint8_t *out,
                              size_t cap)
 {
     ptrdiff_t result = __real_lk_fragment(frame, len, mtu, ident, number, out, cap);
-    if (fault == DONT_FRAGMENT_IGNORED && result == LK_DONT_FRAGMENT)
+    if (fault == IPV6_CUT_BY_A_ROUTER && result == LK_DONT_FRAGMENT && frame[12] == 0x86)
+        return __real_lk_fragment(frame, len, mtu, 0, number, out, cap);
+    if (fault == DONT_FRAGMENT_IGNORED && result == LK_DONT_FRAGMENT && frame[12] == 0x08)
         return without_dont_fragment(frame, len, mtu, ident, number, out, cap);
     if (result <= 34)
         return result;
+    if (frame[12] == 0x86 && result > 54) {
+        if (fault == MORE_AFTER_THE_LAST && out[20] == 44 && frame[20] != 44 && result > 62)
+            out[57] |= 1;
+        return fault == ATOMIC_FRAGMENT && out[20] == frame[20] ? as_atomic(out, (size_t)result, cap) : result;
+    }
     if (fault == MORE_FRAGMENTS_LOST && (frame[20] & 0x20) && number > 0) {
         out[20] &= 0xdf;
         sum(out + 14);

@@ -1,186 +1,8 @@
-/* Makes values and frames. Few addresses and ports are common, so that they often match those of a host. */
+/* Makes frames. */
 #include <string.h>
 #include "judge.h"
 
 struct made made;
-
-/* ---- values ---- */
-
-void any_hardware(uint8_t *octets)
-{
-    static const uint8_t common[][6] = {
-        {2, 0, 0, 0, 0, 1}, {2, 0, 0, 0, 0, 2}, {0xff, 0xff, 0xff, 0xff, 0xff, 0xff}, {1, 0, 0x5e, 0, 0, 1}, {0},
-    };
-    size_t pick = below(20);
-    fill(octets, 6);
-    if (pick < 19)
-        memcpy(octets, common[pick < 15 ? pick % 2 : pick - 14 < 5 ? pick - 14 : 0], 6);
-}
-
-struct lk_addr any_addr(unsigned version)
-{
-    static const char *const ipv4[] = {
-        "0.0.0.0", "0.1.2.3", "127.0.0.1", "224.0.0.1", "239.255.255.255", "240.0.0.1", "255.255.255.255", "1.0.0.0",
-    };
-    static const char *const ipv6[] = {
-        "::", "::1", "::ffff:192.0.2.1", "ff02::1", "ff00::", "fe80::1", "::2", "2001:db8:0:0:1::",
-    };
-    const char *text = version == 4 ? ipv4[below(8)] : ipv6[below(8)];
-    struct lk_addr addr = {{0}, (uint16_t)version};
-    size_t pick = below(16);
-    if (pick < 12)
-        text = version == 4 ? (pick % 2 ? "192.0.2.1" : "192.0.2.2") : pick % 2 ? "2001:db8::1" : "2001:db8::2";
-    if (addr_len(&addr) != 0)
-        model_parse_addr(text, strlen(text), &addr);
-    if (pick == 15)
-        fill(addr.octets, addr_len(&addr));
-    if (pick == 14) /* beside a special address */
-        addr.octets[one_in(2) ? 0 : addr_len(&addr) - (addr_len(&addr) != 0)] ^= (uint8_t)(1u << below(8));
-    return addr;
-}
-
-/* Mostly 4 or 6, seldom another number, or one of which only the lowest byte is 4 or 6. */
-unsigned any_version(void)
-{
-    return one_in(16) ? (unsigned)below(8) + (one_in(4) ? 256 : 0) : one_in(64) ? (unsigned)any() & 0xffff : one_in(2) ? 4 : 6;
-}
-
-unsigned any_port(void)
-{
-    static const unsigned common[] = {7, 80, 443, 5000};
-    return one_in(24) ? 0 : one_in(6) ? (unsigned)any() & 0xffff : common[below(4)];
-}
-
-struct lk_host any_host_for(const struct lk_frame *frame)
-{
-    static uint16_t ports[4], udp_ports[4];
-    struct lk_host host;
-    fill(&host, sizeof host);
-    fill(ports, sizeof ports);
-    fill(udp_ports, sizeof udp_ports);
-    host.open_ports = ports;
-    host.open_port_count = below(5);
-    host.open_udp_ports = udp_ports;
-    host.open_udp_port_count = below(5);
-    host.ipv4 = any_addr(one_in(100) ? any_version() : 4);
-    host.ipv6 = any_addr(one_in(100) ? any_version() : 6);
-    any_hardware(host.hardware);
-    host.echo_port = (uint16_t)any_port();
-    host.window_scale = (uint8_t)(one_in(8) ? any() : below(17));
-    host.is_router = (uint8_t)(one_in(2) ? 0 : one_in(2) ? 1 : any());
-    if (!one_in(8))
-        memcpy(host.hardware, frame->ethernet.dst, 6);
-    if (!one_in(8) && frame->dst.addr.version == 4)
-        host.ipv4 = frame->dst.addr;
-    if (!one_in(8) && frame->dst.addr.version == 6)
-        host.ipv6 = frame->dst.addr;
-    if (!one_in(4))
-        host.echo_port = frame->dst.port;
-    if (!one_in(4))
-        ports[below(4)] = frame->dst.port;
-    if (!one_in(3))
-        udp_ports[below(4)] = frame->dst.port;
-    if (made.target != 0 && !one_in(4))
-        memcpy(host.ipv6.octets, made.octets + made.target, 16);
-    if (made.target != 0 && host.ipv6.version == 6 && (made.octets[0] & 1) != 0 && !one_in(4))
-        memcpy(made.octets + 3, host.ipv6.octets + 13, 3);
-    return host;
-}
-
-/* ---- neighbour discovery ---- */
-
-struct lk_ndisc any_ndisc(void)
-{
-    struct lk_ndisc ndisc;
-    fill(&ndisc, sizeof ndisc);
-    ndisc.target = any_addr(one_in(48) ? any_version() : 6);
-    any_hardware(ndisc.hardware);
-    ndisc.has_hardware = (uint8_t)(one_in(2) ? 0 : one_in(2) ? 1 : any());
-    ndisc.is_advert = (uint8_t)(one_in(2) ? 0 : one_in(2) ? 1 : any());
-    ndisc.is_router = (uint8_t)(one_in(2) ? 0 : any());
-    ndisc.is_solicited = (uint8_t)(one_in(2) ? 0 : any());
-    ndisc.overrides = (uint8_t)(one_in(2) ? 0 : any());
-    return ndisc;
-}
-
-/* ---- TCP options ---- */
-
-static size_t any_option(uint8_t *out)
-{
-    static const uint8_t kinds[] = {0, 1, 2, 3, 4, 5, 8}, lens[] = {1, 1, 4, 3, 2, 10, 10};
-    size_t pick = below(20) % 8, len;
-    fill(out, 44);
-    if (pick == 0 && !one_in(4))
-        pick = 1;
-    if (pick == 7) { /* another kind */
-        out[1] = (uint8_t)(2 + below(6));
-        return out[1];
-    }
-    out[0] = kinds[pick];
-    len = lens[pick] + (out[0] == 5 ? 8 * below(4) : 0);
-    if (len > 1)
-        out[1] = (uint8_t)(one_in(100) ? below(44) : len + (one_in(100) ? 1 : 0) - (one_in(100) ? 1 : 0));
-    if (out[0] == 3 && !one_in(4))
-        out[2] %= 17;
-    return len;
-}
-
-/* The list of most segments: a timestamp after two bytes of no operation (RFC 7323, appendix A), or before two zeros.
- * Returns its length. */
-static size_t usual_options(uint8_t *out)
-{
-    static const uint8_t kinds[] = {1, 1, 8, 10};
-    size_t before = one_in(2) ? 2 : 0;
-    fill(out, 10 + before);
-    memcpy(out, kinds + 2 - before, 2 + before);
-    memset(out + 10 + before, 0, 2 - before);
-    return 12;
-}
-
-/* Puts options into at most 40 bytes, and returns their length, a multiple of 4. */
-static size_t any_options(uint8_t *out)
-{
-    uint8_t room[44 * 12];
-    size_t len = 0, most = one_in(3) ? 0 : 4 * below(11);
-    if (one_in(4))
-        return usual_options(out);
-    while (len < most)
-        len += any_option(room + len);
-    if (!one_in(16))
-        while (len > most && len > 0) { /* ends with padding, and not within an option */
-            size_t at = 0, next = 0;
-            while (next < len) {
-                at = next;
-                next += room[at] <= 1 ? 1 : room[at + 1] >= 2 ? room[at + 1] : 2;
-            }
-            len = at;
-        }
-    for (size_t i = len; i < most; i++)
-        room[i] = (uint8_t)below(2);
-    memcpy(out, room, most);
-    return most;
-}
-
-static unsigned any_flags(void)
-{
-    static const uint8_t common[] = {LK_SYN, LK_SYN, LK_SYN | LK_ACK, LK_ACK, LK_ACK | LK_PSH, LK_FIN | LK_ACK, LK_FIN,
-                                     LK_RST, LK_RST | LK_ACK, LK_PSH, LK_SYN | LK_ECE | LK_CWR, 0};
-    unsigned flags = one_in(8) ? (unsigned)any() & 0xff : common[below(12)];
-    return one_in(8) ? flags ^ 1u << below(8) : flags;
-}
-
-size_t any_tcp_header(uint8_t *out)
-{
-    size_t len = 20 + any_options(out + 20);
-    fill(out, 20);
-    put_word(out, any_port());
-    put_word(out + 2, any_port());
-    if (one_in(2))
-        put_word(out + 18, 0); /* no urgent pointer */
-    out[12] = (uint8_t)(len / 4 << 4 | (one_in(8) ? below(16) : 0));
-    out[13] = (uint8_t)any_flags();
-    return len;
-}
 
 /* ---- frames ---- */
 
@@ -284,14 +106,44 @@ static unsigned make_transport(size_t at, size_t most, int is_ipv6)
     return pick < 5 ? 17 : pick < 10 ? 6 : is_ipv6 ? 58 : 1;
 }
 
-/* A fragment header and what follows it: mostly an atomic fragment or the first of several. */
-static void make_fragment(size_t at, size_t most)
+/* An IPv6 extension header: mostly without segments left, of padding only, or of an atomic fragment or the first of
+ * several. Returns its length. */
+static size_t make_extension(uint8_t *header, uint8_t number)
 {
-    uint8_t *header = made.octets + at;
-    fill(header, 8);
-    if (!one_in(4))
-        put_word(header + 2, (unsigned)any() & 7);
-    header[0] = (uint8_t)make_transport(at + 8, most, 1);
+    size_t units = number == 44 ? 0 : one_in(64) ? below(256) : below(4), len = number == 51 ? 8 + 4 * units : 8 + 8 * units;
+    fill(header, len);
+    if (number != 44)
+        header[1] = (uint8_t)units;
+    else if (!one_in(6))
+        put_word(header + 2, (unsigned)any() & (one_in(3) ? 7 : 6));
+    if (number == 43 && !one_in(8))
+        put_word(header + 2, 253 << 8); /* a type for experiments */
+    if ((number == 0 || number == 60) && !one_in(8))
+        put_word(header + 2, (unsigned)(1 << 8 | (len - 4))); /* padding */
+    return len;
+}
+
+/* Up to four extension headers and what follows them; hop-by-hop options are mostly first. Returns the number of the
+ * first. */
+static unsigned make_extended(size_t at, size_t most)
+{
+    static const uint8_t numbers[] = {0, 44, 43, 51, 60};
+    uint8_t first = one_in(3) ? 44 : numbers[below(5)], number = first;
+    size_t count = 1 + below(4);
+    for (;;) {
+        uint8_t *header = made.octets + at;
+        at += make_extension(header, number);
+        number = numbers[one_in(24) ? 0 : 1 + below(4)];
+        if (--count > 0) {
+            header[0] = number;
+            continue;
+        }
+        made.upper = make_transport(at, most, 1);
+        header[0] = (uint8_t)(one_in(24) ? (unsigned)any() : made.upper);
+        if (one_in(24))
+            made.end = at - below(24); /* the last header ends after the packet */
+        return first;
+    }
 }
 
 /* What an IP header at `at` carries. Returns its protocol. */
@@ -299,12 +151,10 @@ static unsigned make_carried(size_t at, int is_ipv6)
 {
     static const uint8_t others[] = {0, 1, 43, 44, 50, 58, 60, 89};
     size_t pick = below(16), most = (is_ipv6 ? at : 14) + 65535, len;
-    if (pick < 14)
+    if (is_ipv6 && (pick == 13 || pick == 14))
+        return make_extended(at, most);
+    if (pick < 15)
         return make_transport(at, most, is_ipv6);
-    if (is_ipv6 && one_in(2)) {
-        make_fragment(at, most);
-        return 44;
-    }
     len = any_len(most - at);
     fill(made.octets + at, len);
     made.end = at + len;
@@ -373,7 +223,7 @@ static void make_arp(void)
 static void make_fields(void)
 {
     size_t pick = below(20);
-    made.transport = made.target = 0;
+    made.transport = made.target = made.upper = 0;
     any_hardware(made.octets);
     any_hardware(made.octets + 6);
     put_word(made.octets + 12, pick < 9 ? 0x0800 : pick < 16 ? 0x86dd : pick < 19 ? 0x0806 : (unsigned)any() & 0xffff);
@@ -439,14 +289,14 @@ static void sum_fields(void)
 {
     uint8_t *ptr = made.octets + 14, *transport = made.octets + made.transport;
     unsigned version = get_word(made.octets + 12) == 0x0800 ? 4 : 6, protocol;
-    size_t header_len = 4u * (ptr[0] & 15), len = made.end - made.transport;
+    size_t header_len = 4u * (ptr[0] & 15), len = made.end > made.transport ? made.end - made.transport : 0;
     if (version == 4 && made.len > 34 && header_len >= 20 && 14 + header_len <= made.len) {
         put_word(ptr + 10, 0);
         put_word(ptr + 10, one_in(24) ? (unsigned)any() & 0xffff : 0xffffu - model_checksum(ptr, header_len));
     }
     if (made.transport == 0 || len < 8)
         return;
-    protocol = version == 4 ? ptr[9] : ptr[6] == 44 ? ptr[40] : ptr[6];
+    protocol = version == 4 ? ptr[9] : made.upper != 0 ? made.upper : ptr[6];
     if (protocol == 6)
         sum_transport(transport, 6, len, 16, version);
     else if (protocol == (version == 4 ? 1 : 58))

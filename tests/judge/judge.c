@@ -30,6 +30,8 @@ static void run_case(uint64_t seed, uint64_t number)
         read_links();
     else if (number % 128 == 63)
         translate_frames();
+    else if (number % 128 == 95)
+        reassemble_frames();
     else
         cases[number % count]();
 }

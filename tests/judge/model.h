@@ -82,6 +82,8 @@ int model_next_tcp_option(const uint8_t *ptr, size_t len, struct lk_tcp_option *
 /* ---- model_read.c ---- */
 
 int model_read_frame(const uint8_t *ptr, size_t len, struct lk_frame *frame);
+/* As the calls that change or answer a frame read it: IPv6 extension headers are payload. */
+int model_read_plain(const uint8_t *ptr, size_t len, struct lk_frame *frame);
 int model_read_frame_options(const uint8_t *ptr, size_t len, struct lk_frame *frame, struct lk_tcp_options *options);
 int model_read_packet(const uint8_t *ptr, size_t len, struct lk_frame *frame);
 int model_read_captured(const uint8_t *ptr, size_t captured, size_t len, struct lk_frame *frame);
@@ -208,8 +210,37 @@ int model_fill_checksum(uint8_t *octets, size_t len);
 
 /* ---- model_fragment.c ---- */
 
-ptrdiff_t model_fragment(const uint8_t *octets, size_t len, size_t mtu, int32_t ident, size_t number, uint8_t *out,
+ptrdiff_t model_fragment(const uint8_t *octets, size_t len, size_t mtu, int64_t ident, size_t number, uint8_t *out,
                          size_t cap);
+
+/* ---- model_reassembly.c ---- */
+
+enum { MODEL_PARTIALS = 8, MODEL_NO_PLACE = MODEL_PARTIALS };
+
+/* A packet of which fragments were received. */
+struct model_partial {
+    uint64_t expires; /* 0: there is none */
+    int network;
+    unsigned protocol;
+    uint32_t ident;
+    struct lk_addr src, dst;
+    int is_dropped, has_ce, has_not_ect;
+    size_t len;        /* of the payload; 0: not known */
+    size_t high;       /* the greatest end of a fragment */
+    size_t header_len; /* of the first fragment, with its fragment header */
+    size_t first_len;  /* of the first fragment; 0: it was not received */
+    uint8_t link[14];  /* of the fragment that came first */
+    uint8_t first[65536 + 40], octets[65536], is_received[65536];
+};
+
+struct model_table_of_partials {
+    struct model_partial at[MODEL_PARTIALS];
+    size_t place; /* of the packet that the last call changed; MODEL_NO_PLACE: of none */
+};
+
+ptrdiff_t model_reassemble(struct model_table_of_partials *table, size_t count, size_t memory_len, uint64_t now,
+                           const uint8_t *octets, size_t len, uint8_t *out, size_t cap);
+size_t model_expire(struct model_table_of_partials *table, size_t count, uint64_t now, uint8_t *out, size_t cap);
 
 /* ---- model_nat.c ---- */
 

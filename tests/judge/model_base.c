@@ -47,9 +47,9 @@ const char *model_failure_name(ptrdiff_t failure)
     static const char *const names[] = {
         "LK_NO_VERSION", "LK_TWO_VERSIONS", "LK_BAD_PREFIX", "LK_NO_PORT", "LK_NO_HOP_LIMIT", "LK_BAD_FIELD",
         "LK_TWO_CONTROLS", "LK_OPTIONS_TOO_LONG", "LK_PAYLOAD_TOO_LONG", "LK_NO_HEADER", "LK_NO_ROOM",
-        "LK_DONT_FRAGMENT",
+        "LK_DONT_FRAGMENT", "LK_DROPPED",
     };
-    for (int number = 1; number <= 12; number++)
+    for (int number = 1; number <= 13; number++)
         if (failure == LK_FAILURE(number))
             return names[number - 1];
     return "no failure"; /* Open: a sum of a failure and lengths. */
@@ -60,8 +60,9 @@ const char *model_reason_name(int reason)
     static const char *const names[] = {
         "LK_READ", "LK_TOO_SHORT", "LK_BAD_VERSION", "LK_BAD_LENGTH", "LK_OTHER_ARP", "LK_PORT_ZERO",
         "LK_BAD_FLAGS", "LK_BAD_OPTIONS", "LK_HEADER_CUT", "LK_UNKNOWN_LINK",
+        "LK_HOPS_LEFT", "LK_BAD_ORDER",
     };
-    return reason >= LK_READ && reason <= LK_UNKNOWN_LINK ? names[reason] : "no reason"; /* Open: LK_READ. */
+    return reason >= LK_READ && reason <= LK_BAD_ORDER ? names[reason] : "no reason"; /* Open: LK_READ. */
 }
 
 const char *model_rejection_name(int rejection)

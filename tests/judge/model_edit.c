@@ -55,7 +55,7 @@ static int find_parts(const uint8_t *octets, size_t len, struct parts *parts)
 {
     struct lk_frame frame;
     unsigned place = 0; /* of a fragment: 8 bytes times offset, and the flag of more fragments */
-    model_read_frame(octets, used_len(len), &frame);
+    model_read_plain(octets, used_len(len), &frame);
     memset(parts, 0, sizeof *parts);
     if (frame.network != LK_IPV4 && frame.network != LK_IPV6)
         return 0;

@@ -121,7 +121,7 @@ ptrdiff_t model_rebuild(const uint8_t *ptr, size_t len, uint8_t *out, size_t cap
     len = used_len(len);
     if (len < 14)
         return LK_NO_HEADER;
-    model_read_frame(ptr, len, &frame);
+    model_read_plain(ptr, len, &frame);
     at = put_ethernet(&frame.ethernet, frame.ethernet.type, rebuilt);
     if (is_copied(&frame))
         at += copy(ptr + 14, len - 14, rebuilt + at);
@@ -335,7 +335,7 @@ ptrdiff_t model_answer(const struct lk_host *host, const uint8_t *ptr, size_t le
         return LK_NO_VERSION;
     if (len > LK_MAX_LEN)
         return LK_NO_HEADER;
-    if (model_read_frame(ptr, len, &frame) != LK_READ)
+    if (model_read_plain(ptr, len, &frame) != LK_READ)
         return 0;
     if (frame.network == LK_ARP)
         answer_len = answer_arp(host, &frame, answer);

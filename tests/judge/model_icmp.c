@@ -52,7 +52,7 @@ int model_read_ndisc(const uint8_t *octets, size_t len, struct lk_ndisc *ndisc)
     const uint8_t *message;
     size_t message_len;
     memset(&it, 0, sizeof it);
-    model_read_frame(octets, len, &frame);
+    model_read_plain(octets, len, &frame);
     if (frame.network != LK_IPV6 || frame.transport != LK_ICMP || frame.transport_checksum != LK_RIGHT ||
         frame.ip.hop_limit != 255 || frame.icmp.code != 0 || (frame.icmp.type != 135 && frame.icmp.type != 136))
         return 0;
@@ -217,7 +217,7 @@ size_t put_icmp_error(const struct lk_interface *own, int problem, uint32_t mtu,
     const uint8_t *packet = octets + 14;
     int is_ipv4;
     size_t packet_len, header_len, most, at;
-    model_read_frame(octets, len, &frame);
+    model_read_plain(octets, len, &frame);
     is_ipv4 = frame.network == LK_IPV4;
     if (!is_ipv4 && frame.network != LK_IPV6)
         return 0;

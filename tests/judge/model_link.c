@@ -95,7 +95,7 @@ int model_read_link(uint32_t link_type, const uint8_t *ptr, size_t captured, str
     return reason;
 }
 
-/* ---- the headers of an IPv6 packet: RFC 8200, section 4 ---- */
+/* ---- the headers of an IPv6 packet: RFC 8200, section 4; RFC 4302, section 2.2 ---- */
 
 int model_next_ipv6_header(const uint8_t *ptr, size_t len, struct lk_ipv6_header *header)
 {
@@ -106,12 +106,14 @@ int model_next_ipv6_header(const uint8_t *ptr, size_t len, struct lk_ipv6_header
         *header = (struct lk_ipv6_header){0, 40, 41, ptr[6]};
         return 1;
     }
-    if (header->next != 0 && header->next != 43 && header->next != 44 && header->next != 60)
+    if (header->next != 0 && header->next != 43 && header->next != 44 && header->next != 51 && header->next != 60)
         return 0;
     end = 40 + get_word(ptr + 4) < len ? 40 + get_word(ptr + 4) : len;
     if (end < at || end - at < 8)
         return -1;
     header_len = header->next == 44 ? 8 : 8 * (1 + (size_t)ptr[at + 1]);
+    if (header->next == 51)
+        header_len = 4 * (2 + (size_t)ptr[at + 1]);
     if (end - at < header_len)
         return -1;
     header->protocol = header->next;

@@ -1,13 +1,14 @@
-/* The model of reading: Ethernet II; ARP, RFC 826; IPv4, RFC 791; IPv6, RFC 8200; ICMP, RFC 792 and RFC 4443; UDP,
- * RFC 768; TCP, RFC 9293. */
+/* The model of reading: Ethernet II; ARP, RFC 826; IPv4, RFC 791; IPv6, RFC 8200; authentication headers, RFC 4302; ICMP,
+ * RFC 792 and RFC 4443; UDP, RFC 768; TCP, RFC 9293. */
 #include <string.h>
 #include "model.h"
 
-/* A frame of `len` bytes, of which the first `captured` are at `ptr`. */
+/* A frame of `len` bytes, of which the first `captured` are at `ptr`. If it is plain, IPv6 extension headers are payload. */
 struct capture {
     const uint8_t *ptr;
     size_t captured;
     size_t len;
+    int is_plain;
 };
 
 /* A header of a frame: `len` bytes are there for it and what it carries, and the first `known` are captured. */
@@ -51,7 +52,7 @@ static void read_addr(struct lk_addr *addr, const uint8_t *octets, uint16_t vers
  * section 8.1). Open: a sum that is right and is that of the pseudo-header too is LK_RIGHT. */
 static int verdict(const struct lk_frame *frame, struct part part, size_t covered, size_t field_at)
 {
-    unsigned field = get_word(part.ptr + field_at), protocol = frame->ip.protocol;
+    unsigned field = get_word(part.ptr + field_at), protocol = frame->protocol;
     const struct lk_addr *src = &frame->src.addr, *dst = &frame->dst.addr;
     if (protocol == 17 && field == 0)
         return frame->network == LK_IPV4 ? LK_LEFT_OUT : LK_WRONG;
@@ -168,11 +169,11 @@ static void read_icmp(const struct capture *capture, struct lk_frame *frame, siz
 
 static void read_transport(const struct capture *capture, struct lk_frame *frame, size_t at, size_t len)
 {
-    if (frame->ip.protocol == (frame->network == LK_IPV4 ? 1 : 58))
+    if (frame->protocol == (frame->network == LK_IPV4 ? 1 : 58))
         read_icmp(capture, frame, at, len);
-    if (frame->ip.protocol == 17)
+    if (frame->protocol == 17)
         read_udp(capture, frame, at, len);
-    else if (frame->ip.protocol == 6)
+    else if (frame->protocol == 6)
         read_tcp(capture, frame, at, len);
 }
 
@@ -231,7 +232,7 @@ static void read_ipv4_fields(struct lk_frame *frame, const uint8_t *ptr)
     frame->ip.more_fragments = ptr[6] >> 5 & 1;
     frame->ip.fragment_offset = (uint16_t)(8 * (get_word(ptr + 6) & 0x1fff));
     frame->ip.hop_limit = ptr[8];
-    frame->ip.protocol = ptr[9];
+    frame->ip.protocol = frame->protocol = ptr[9];
     read_addr(&frame->src.addr, ptr + 12, 4);
     read_addr(&frame->dst.addr, ptr + 16, 4);
 }
@@ -268,19 +269,73 @@ static int ipv6_reason(struct part part)
 }
 
 /* RFC 8200, section 4.5. */
-static void read_fragment_header(const struct capture *capture, struct lk_frame *frame, size_t at, size_t len)
+static void read_fragment_header(struct lk_frame *frame, struct part part)
 {
-    struct part part = part_at(capture, at, len);
-    if (part.len < 8)
-        return;
-    if (part.known < 8) {
-        reject(frame, LK_HEADER_CUT);
-        return;
-    }
     frame->ip.fragment_offset = (uint16_t)(get_word(part.ptr + 2) & 0xfff8);
     frame->ip.more_fragments = part.ptr[3] & 1;
     frame->ip.ident = get_long(part.ptr + 4);
     frame->is_fragment = frame->ip.more_fragments || frame->ip.fragment_offset != 0;
+}
+
+/* RFC 8200, sections 4.3 to 4.6; RFC 4302, section 2.2. */
+static size_t extension_len(unsigned protocol, const uint8_t *ptr)
+{
+    switch (protocol) {
+    case 0:
+    case 43:
+    case 60:
+        return 8 * (1 + (size_t)ptr[1]);
+    case 44:
+        return 8;
+    default:
+        return 4 * (2 + (size_t)ptr[1]);
+    }
+}
+
+static int is_extension(unsigned protocol)
+{
+    return protocol == 0 || protocol == 43 || protocol == 44 || protocol == 51 || protocol == 60;
+}
+
+/* RFC 8200, section 4.1: only the IPv6 header is before hop-by-hop options. Section 4.4: with segments left the packet is
+ * on its way to another destination than that of the IPv6 header. */
+static int extension_reason(const struct lk_frame *frame, struct part part, size_t at)
+{
+    size_t header_len;
+    if (part.len < 8)
+        return LK_TOO_SHORT;
+    if (part.known < 8)
+        return LK_HEADER_CUT;
+    header_len = extension_len(frame->protocol, part.ptr);
+    if (header_len > part.len)
+        return LK_TOO_SHORT;
+    if (header_len > part.known)
+        return LK_HEADER_CUT;
+    if (frame->protocol == 43 && part.ptr[3] > 0)
+        return LK_HOPS_LEFT;
+    return frame->protocol == 0 && at != frame->network_offset + 40 ? LK_BAD_ORDER : LK_READ;
+}
+
+/* Reads what the IPv6 header or an extension header names. */
+static void read_next(const struct capture *capture, struct lk_frame *frame, size_t at, size_t len)
+{
+    struct part part = part_at(capture, at, len);
+    size_t header_len;
+    if (!is_extension(frame->protocol)) {
+        read_transport(capture, frame, at, len);
+        return;
+    }
+    reject(frame, extension_reason(frame, part, at));
+    if (frame->reason != LK_READ)
+        return;
+    if (frame->protocol == 44)
+        read_fragment_header(frame, part);
+    if (frame->is_fragment)
+        return;
+    header_len = extension_len(frame->protocol, part.ptr);
+    frame->protocol = part.ptr[0];
+    carries(frame, at + header_len, len - header_len);
+    read_next(capture, frame, at + header_len, len - header_len);
 }
 
 static void read_ipv6(const struct capture *capture, struct lk_frame *frame, size_t at)
@@ -299,22 +354,24 @@ static void read_ipv6(const struct capture *capture, struct lk_frame *frame, siz
     frame->ip.dscp = (uint8_t)(traffic_class >> 2);
     frame->ip.ecn = traffic_class & 3;
     frame->ip.flow_label = get_long(part.ptr) & 0xfffff;
-    frame->ip.protocol = part.ptr[6];
+    frame->ip.protocol = frame->protocol = part.ptr[6];
     frame->ip.hop_limit = part.ptr[7];
     read_addr(&frame->src.addr, part.ptr + 8, 6);
     read_addr(&frame->dst.addr, part.ptr + 24, 6);
     carries(frame, at + 40, len);
-    if (frame->ip.protocol == 44)
-        read_fragment_header(capture, frame, at + 40, len);
-    else
+    if (!capture->is_plain)
+        read_next(capture, frame, at + 40, len);
+    else if (!is_extension(frame->protocol))
         read_transport(capture, frame, at + 40, len);
+    else if (frame->protocol == 44 && len >= 8)
+        read_fragment_header(frame, part_at(capture, at + 40, len));
 }
 
 /* ---- the calls ---- */
 
 static struct capture begin(const uint8_t *ptr, size_t captured, size_t len, struct lk_frame *frame)
 {
-    struct capture capture = {ptr, used_len(captured), used_len(len)};
+    struct capture capture = {ptr, used_len(captured), used_len(len), 0};
     if (capture.captured > capture.len)
         capture.captured = capture.len;
     memset(frame, 0, sizeof *frame);
@@ -334,18 +391,30 @@ static void read_carried(const struct capture *capture, struct lk_frame *frame, 
         read_ipv6(capture, frame, at);
 }
 
+static int read_ethernet(const struct capture *capture, struct lk_frame *frame)
+{
+    if (capture->len < 14 || capture->captured < 14) {
+        reject(frame, capture->len < 14 ? LK_TOO_SHORT : LK_HEADER_CUT);
+        return frame->reason;
+    }
+    memcpy(frame->ethernet.dst, capture->ptr, 6);
+    memcpy(frame->ethernet.src, capture->ptr + 6, 6);
+    frame->ethernet.type = (uint16_t)get_word(capture->ptr + 12);
+    read_carried(capture, frame, 14);
+    return frame->reason;
+}
+
 int model_read_captured(const uint8_t *ptr, size_t captured, size_t len, struct lk_frame *frame)
 {
     struct capture capture = begin(ptr, captured, len, frame);
-    if (capture.len < 14 || capture.captured < 14) {
-        reject(frame, capture.len < 14 ? LK_TOO_SHORT : LK_HEADER_CUT);
-        return frame->reason;
-    }
-    memcpy(frame->ethernet.dst, ptr, 6);
-    memcpy(frame->ethernet.src, ptr + 6, 6);
-    frame->ethernet.type = (uint16_t)get_word(ptr + 12);
-    read_carried(&capture, frame, 14);
-    return frame->reason;
+    return read_ethernet(&capture, frame);
+}
+
+int model_read_plain(const uint8_t *ptr, size_t len, struct lk_frame *frame)
+{
+    struct capture capture = begin(ptr, len, len, frame);
+    capture.is_plain = 1;
+    return read_ethernet(&capture, frame);
 }
 
 int model_read_linktype(uint32_t link_type, const uint8_t *ptr, size_t captured, size_t len, struct lk_frame *frame)

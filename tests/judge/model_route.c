@@ -7,7 +7,7 @@
 /* Why the IP header of a frame is rejected. The frame is parsed too. */
 static int network_rejection(const uint8_t *octets, size_t len, struct lk_frame *frame)
 {
-    model_read_frame(octets, len, frame);
+    model_read_plain(octets, len, frame);
     if (len < 14 || (frame->ethernet.type != 0x0800 && frame->ethernet.type != 0x86dd))
         return LK_NOT_IP;
     if (frame->network == LK_NO_NETWORK)
@@ -94,7 +94,7 @@ int model_clamp_mss_as(uint8_t *octets, size_t len, uint16_t max_seg_size, int o
     size_t options_len;
     uint16_t before;
     int is_left;
-    model_read_frame(octets, used_len(len), &frame);
+    model_read_plain(octets, used_len(len), &frame);
     if (frame.transport != LK_TCP || frame.ipv4_checksum == LK_WRONG || (frame.tcp.flags & LK_SYN) == 0)
         return 0;
     header = octets + frame.transport_offset;

@@ -348,7 +348,7 @@ static void write_network(const struct lk_frame *frame, char *text)
     if (frame->network == LK_ARP)
         sprintf(text, " op=%u hardware=%s", frame->arp.operation, hardware);
     if (frame->network == LK_IPV4 || frame->network == LK_IPV6)
-        sprintf(text, " proto=%u", frame->ip.protocol);
+        sprintf(text, " proto=%u", frame->protocol);
     if (frame->is_fragment && text[1] == 'p')
         sprintf(text + strlen(text), " fragment=%u%s", frame->ip.fragment_offset, frame->ip.more_fragments ? "+" : "");
 }
@@ -362,6 +362,7 @@ ptrdiff_t model_print_frame(const struct lk_frame *frame, char *out, size_t cap)
     static const char *const reasons[] = {
         "", " (too short)", " (bad version)", " (bad length)", " (other ARP)", " (port zero)",
         " (bad flags)", " (bad options)", " (header cut)", " (unknown link)",
+        " (hops left)", " (bad order)",
     };
     unsigned transport = frame->transport ? frame->transport : frame->rejected;
     char text[400], header[120] = " UDP";

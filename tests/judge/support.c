@@ -68,7 +68,7 @@ size_t unused_len(void)
     case 1:
         return LK_MAX_LEN + 1;
     case 2:
-        return (size_t)LK_FAILURE(1 + below(11)) + below(100);
+        return (size_t)LK_FAILURE(1 + below(13)) + below(100);
     default:
         return (size_t)-1 << (40 + below(24));
     }
@@ -107,7 +107,7 @@ int any_offload(void)
 
 /* ---- memory ---- */
 
-enum { SLOTS = 10, SLOT_LEN = MODEL_ROOM, GUARD_LEN = 0x10000 };
+enum { SLOTS = 12, SLOT_LEN = MODEL_ROOM, GUARD_LEN = 0x10000 };
 
 /* An argument, and what it was before the call. A room has no name. */
 static struct {
@@ -337,6 +337,7 @@ void same_frame(const struct lk_frame *wanted, const struct lk_frame *came)
         FRAME(ip.dont_fragment), FRAME(tcp.seq_number), FRAME(tcp.ack_number), FRAME(tcp.window_len),
         FRAME(tcp.urgent_at), FRAME(tcp.flags), FRAME(tcp.header_len), FRAME(arp.operation),
         FRAME(arp.src_hardware), FRAME(arp.dst_hardware), FRAME(icmp.type), FRAME(icmp.code), FRAME(icmp.word),
+        FRAME(protocol),
     };
     same_fields(fields, sizeof fields / sizeof *fields, wanted, came);
 }

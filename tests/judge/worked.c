@@ -79,6 +79,7 @@ void make_worked_calls(void)
 #include "worked_frames.inc"
 #undef FRAME
     worked_read();
+    worked_extended();
     worked_link();
     worked_options();
     worked_write();
@@ -90,6 +91,7 @@ void make_worked_calls(void)
     worked_icmp();
     worked_edit();
     worked_fragment();
+    worked_reassembly();
     worked_hosts();
     worked_summary();
 }

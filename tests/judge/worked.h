@@ -66,6 +66,7 @@ extern const struct octets nothing;
 /* ---- worked_NAME.c ---- */
 
 void worked_read(void);
+void worked_extended(void);
 void worked_link(void);
 void worked_options(void);
 void worked_write(void);
@@ -77,6 +78,7 @@ void worked_mappings(void);
 void worked_icmp(void);
 void worked_edit(void);
 void worked_fragment(void);
+void worked_reassembly(void);
 void worked_hosts(void);
 void worked_summary(void);
 

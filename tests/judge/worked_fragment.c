@@ -1,9 +1,9 @@
-/* Worked calls of lk_fragment. Scapy packed the packets and computed their checksums; which options become
- * no-operations in later fragments follows from RFC 791, section 3.1. */
+/* Worked calls of lk_fragment. Scapy packed the packets, computed their checksums, and cut those of IPv6. Which options
+ * become no-operations in later fragments follows from RFC 791, section 3.1. */
 #include <stdio.h>
 #include "worked.h"
 
-/* The IPv4 packets of these frames, in hex digits. */
+/* The packets of these frames, in hex digits. */
 static const char plain[] = "45000020216000004011d569c0000201c0000202a1670007000cfb9270696e67";
 static const char plain0[] = "4500001c216020004011b56dc0000201c0000202a1670007000cfb92";
 static const char plain1[] = "45000018216000014011d570c0000201c000020270696e67";
@@ -46,10 +46,53 @@ static const char empty[] = "45000014216000004011d575c0000201c0000202";
 static const char far[] = "4500002c21603ffd40119560c0000201c0000202000102030405060708090a0b0c0d0e0f1011121314151617";
 static const char padded[] = "45000020216000004011d569c0000201c0000202a1670007000cfb9270696e670000";
 
+/* Over IPv6. */
+static const char marks6[] =
+    "6b9123450018114020010db800000000000000000000000120010db8000000000000000000000002a16700070018ca9a0001020304050607"
+    "08090a0b0c0d0e0f";
+static const char marks60[] =
+    "6b91234500102c4020010db800000000000000000000000120010db80000000000000000000000021100000189abcdefa16700070018ca9a";
+static const char marks61[] =
+    "6b91234500102c4020010db800000000000000000000000120010db80000000000000000000000021100000989abcdef0001020304050607";
+static const char marks62[] =
+    "6b91234500102c4020010db800000000000000000000000120010db80000000000000000000000021100001089abcdef08090a0b0c0d0e0f";
+static const char tail6[] =
+    "60000000001b114020010db800000000000000000000000120010db8000000000000000000000002a1670007001ba8830001020304050607"
+    "08090a0b0c0d0e0f101112";
+static const char tail60[] =
+    "6000000000102c4020010db800000000000000000000000120010db80000000000000000000000021100000100000001a1670007001ba883";
+static const char tail61[] =
+    "6000000000102c4020010db800000000000000000000000120010db800000000000000000000000211000009000000010001020304050607";
+static const char tail62[] =
+    "6000000000132c4020010db800000000000000000000000120010db8000000000000000000000002110000100000000108090a0b0c0d0e0f"
+    "101112";
+static const char hop6[] =
+    "600000000018004020010db800000000000000000000000120010db80000000000000000000000023a000502000001008000243d00010002"
+    "0000000000000000";
+static const char route6[] =
+    "6000000000202b4020010db800000000000000000000000120010db8000000000000000000000002110200000000000020010db800000000"
+    "0000000000000003000100020008a466";
+static const char dest6[] =
+    "6000000000183c4020010db800000000000000000000000120010db80000000000000000000000021100010400000000000100020010a456"
+    "0000000000000000";
+static const char esp6[] =
+    "600000000018324020010db800000000000000000000000120010db8000000000000000000000002000102030405060708090a0b0c0d0e0f"
+    "1011121314151617";
+static const char esp60[] =
+    "6000000000102c4020010db800000000000000000000000120010db800000000000000000000000232000001ffffffff0001020304050607";
+static const char esp61[] =
+    "6000000000102c4020010db800000000000000000000000120010db800000000000000000000000232000009ffffffff08090a0b0c0d0e0f";
+static const char esp62[] =
+    "6000000000102c4020010db800000000000000000000000120010db800000000000000000000000232000010ffffffff1011121314151617";
+static const char empty6[] = "6000000000003b4020010db800000000000000000000000120010db8000000000000000000000002";
+static const char padded6[] =
+    "600000000018324020010db800000000000000000000000120010db8000000000000000000000002000102030405060708090a0b0c0d0e0f"
+    "10111213141516170000";
+
 static const struct row {
     const char *packet;
     size_t mtu;
-    int32_t ident;
+    int64_t ident;
     ptrdiff_t failure;
     const char *fragments[3];
 } rows[] = {
@@ -72,13 +115,35 @@ static const struct row {
     {plain, 27, LK_FORWARDED, LK_BAD_FIELD, {0}},
     {plain, 32, 65536, LK_BAD_FIELD, {0}},
     {plain, 32, -2, LK_BAD_FIELD, {0}},
+    {plain, 32, 4294967296, LK_BAD_FIELD, {0}},
     {frag, 100, 1, LK_NO_HEADER, {0}}, /* a fragment of one's own */
+    {marks6, 56, 0x89abcdef, 0, {marks60, marks61, marks62}}, /* traffic class and flow label */
+    {marks6, 63, 0x89abcdef, 0, {marks60, marks61, marks62}}, /* it would fit without the fragment header */
+    {marks6, 64, 0x89abcdef, 0, {marks6}}, /* no atomic fragment (RFC 8021) */
+    {marks6, 64, LK_FORWARDED, 0, {marks6}},
+    {marks6, 63, LK_FORWARDED, LK_DONT_FRAGMENT, {0}}, /* routers do not cut IPv6 */
+    {tail6, 62, 1, 0, {tail60, tail61, tail62}}, /* the last fragment is longer than the others */
+    {esp6, 63, 0xffffffff, 0, {esp60, esp61, esp62}},
+    {empty6, 40, 1, 0, {empty6}},
+    {marks60, 56, LK_FORWARDED, 0, {marks60}}, /* a fragment */
+    {marks60, 56, 1, 0, {marks60}},
+    {marks60, 55, 1, LK_BAD_FIELD, {0}},
+    {tail62, 58, LK_FORWARDED, LK_DONT_FRAGMENT, {0}},
+    {tail62, 58, 1, LK_NO_HEADER, {0}},
+    {hop6, 64, 1, 0, {hop6}}, /* extension headers */
+    {hop6, 63, 1, LK_NO_HEADER, {0}},
+    {route6, 71, 1, LK_NO_HEADER, {0}},
+    {dest6, 63, 1, LK_NO_HEADER, {0}},
+    {esp6, 55, 1, LK_BAD_FIELD, {0}},
+    {esp6, 55, LK_FORWARDED, LK_BAD_FIELD, {0}},
+    {esp6, 63, 4294967296, LK_BAD_FIELD, {0}},
+    {esp6, 64, -2, LK_BAD_FIELD, {0}},
 };
 
 static struct octets frame_of(const char *packet)
 {
     char hex[2 * ROOM];
-    snprintf(hex, sizeof hex, "0200000000020200000000010800%s", packet);
+    snprintf(hex, sizeof hex, "020000000002020000000001%s%s", packet[0] == '6' ? "86dd" : "0800", packet);
     return octets(hex);
 }
 
@@ -110,6 +175,13 @@ void worked_fragment(void)
     WRITES(first, both_fragment(frame.at, frame.len, 28, LK_FORWARDED, 0, out, cap));
     frame = changed(frame, 24, 0); /* a wrong header checksum */
     FAILS(LK_NO_HEADER, both_fragment(frame.at, frame.len, 28, LK_FORWARDED, 0, out, ROOM));
-    FAILS(LK_NO_HEADER, both_fragment(ping6.at, ping6.len, 1500, LK_FORWARDED, 0, out, ROOM));
+    frame = frame_of(padded6); /* padding after a packet that fits, and one that is cut */
+    first = frame_of(esp6);
+    WRITES(first, both_fragment(frame.at, frame.len, 64, LK_FORWARDED, 0, out, cap));
+    first = frame_of(esp62);
+    WRITES(first, both_fragment(frame.at, frame.len, 56, 0xffffffff, 2, out, cap));
+    FAILS(LK_NO_HEADER, both_fragment(frame.at, 77, 1500, LK_FORWARDED, 0, out, ROOM)); /* cut off */
+    frame = changed(frame, 14, 0x50); /* another version */
+    FAILS(LK_NO_HEADER, both_fragment(frame.at, frame.len, 1500, LK_FORWARDED, 0, out, ROOM));
     FAILS(LK_NO_HEADER, both_fragment(arp4.at, arp4.len, 1500, 0, 0, out, ROOM));
 }

@@ -144,7 +144,8 @@ static int steps(const struct octets *packet, size_t len, char *text)
     return result;
 }
 
-/* By hand, from RFC 8200, sections 4.3 to 4.6, and RFC 6564 for a length of more than one unit. */
+/* By hand, from RFC 8200, sections 4.3 to 4.6, and RFC 6564 for a length of more than one unit. Scapy packed the first
+ * authentication header. */
 static void steps_through_ipv6_headers(void)
 {
 #define ENDS "20010db800000000000000000000000120010db8000000000000000000000002"
@@ -166,7 +167,10 @@ static void steps_through_ipv6_headers(void)
         {"6000000000103c40" ENDS "1101000000000000" "0000000000000000", "41@0+40:60 ", -1, 55},
         {"6000000000103c40" ENDS "1102000000000000" "0000000000000000" "0000000000000000", "41@0+40:60 ", -1, 0},
         {"6000000000073c40" ENDS "1100000000000000", "41@0+40:60 ", -1, 0},
-        {"6000000000103340" ENDS "1100000000000000" "0000000000000000", "41@0+40:51 ", 0, 0},
+        {"6000000000203340" ENDS "3a0400000000010100000007aaaaaaaaaaaaaaaaaaaaaaaa" "80002d1c12340001",
+         "41@0+40:51 51@40+24:58 ", 0, 0},
+        {"6000000000103340" ENDS "1101000000000000" "00000000d5cb14e9", "41@0+40:51 51@40+12:17 ", 0, 0},
+        {"6000000000083240" ENDS "1100000000000000", "41@0+40:50 ", 0, 0},
         {"4000000000103c40" ENDS "1100000000000000" "0000000000000000", "", -1, 0},
         {IPV6, "", -1, 39},
     };

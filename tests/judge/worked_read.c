@@ -61,7 +61,7 @@ static struct lk_frame ipv4(uint8_t protocol, size_t header_len, size_t payload_
     frame.src.addr = counted(4, 0x1a);
     frame.dst.addr = counted(4, 0x2a);
     frame.ip.ident = 0x6162;
-    frame.ip.protocol = protocol;
+    frame.ip.protocol = frame.protocol = protocol;
     frame.ip.hop_limit = 0x3d;
     frame.ip.dscp = 0x2e;
     frame.ip.ecn = 1;
@@ -79,7 +79,7 @@ static struct lk_frame ipv6(uint8_t protocol, size_t payload_len)
     frame.src.addr = counted(6, 0x20);
     frame.dst.addr = counted(6, 0x30);
     frame.ip.flow_label = 0xcdef1;
-    frame.ip.protocol = protocol;
+    frame.ip.protocol = frame.protocol = protocol;
     frame.ip.hop_limit = 0x3e;
     frame.ip.dscp = 0x2f;
     frame.ip.ecn = 2;
@@ -225,8 +225,7 @@ static void reads_fragments(void)
     READS(fragment6_first, fragment6(0, 1));
     READS(fragment6_middle, fragment6(0x918, 1));
     READS(fragment6_last, fragment6(0xfff8, 0));
-    READS(only_fragment6, fragment6(0, 0));
-    READS(fragment6_short, ipv6(44, 7));
+    READS(fragment6_short, rejected(ipv6(44, 7), LK_TOO_SHORT));
 }
 
 static void reads_checksums(void)
@@ -433,7 +432,7 @@ static const struct {
     {"4f000064", 24, 100, LK_HEADER_CUT},     /* one of 60 bytes */
     {"4f000028", 24, 100, LK_BAD_LENGTH},     /* the same in a packet of 40 bytes */
     {"45000064", 24, 99, LK_BAD_LENGTH},      /* a packet of 100 bytes in a frame with 99 */
-    {"600000000014", 40, 60, LK_READ},        /* 20 bytes of payload */
+    {"6000000000143b", 40, 60, LK_READ},      /* 20 bytes of payload */
     {"600000000014", 40, 59, LK_BAD_LENGTH},
 };
 
@@ -457,8 +456,18 @@ static void reads_fragment_headers(void)
     struct lk_frame expected = fragment6(0x918, 1);
     expected.payload_len = 8;
     READS(whole, expected);
-    READS(cut_off, ipv6(44, 7));
-    READS(other, ipv6(43, 8));
+    READS(cut_off, rejected(ipv6(44, 7), LK_TOO_SHORT));
+    READS(other, rejected(ipv6(43, 8), LK_TOO_SHORT)); /* a routing header of 8 * 171 bytes */
+}
+
+/* A whole packet, and 3 bytes of UDP. */
+static void reads_only_fragment(void)
+{
+    struct lk_frame expected = fragment6(0, 0);
+    expected.protocol = 17;
+    expected.payload_offset += 8;
+    expected.payload_len = 3;
+    READS(only_fragment6, rejected(expected, LK_TOO_SHORT));
 }
 
 void worked_read(void)
@@ -475,4 +484,5 @@ void worked_read(void)
     rejects_packets();
     rejects_cut_packets();
     reads_fragment_headers();
+    reads_only_fragment();
 }

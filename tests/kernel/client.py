@@ -264,7 +264,7 @@ def wire_udp(wire):
         silent = [udp(fault="transport"), udp(hardware=HOST_HARDWARE[::-1]), udp()[: -len(data) - 1]]
         answered = [udp(), udp() + b"padding"]
         if wire.version == 4:
-            silent += [udp(fault="IPv4"), udp(fragment=0x2000)]
+            silent += [udp(fault="IPv4"), udp(fragment=0x2001)]
             answered += [udp(fault="left out"), udp(options=b"\x07\x07\x04" + bytes(5))]
         else:
             silent.append(udp(fault="left out"))

@@ -19,6 +19,7 @@ import sys
 import time
 
 import icmp_tests
+import fragments
 import nat as kernel_nat
 import router as kernel_router
 from client import check, report, wrong
@@ -237,6 +238,7 @@ def with_fast_clock(router, nat, clock):
 ROUTER_FAULTS = ("no fault", "the hop limit is kept", "the checksum is kept", "the sender's Ethernet address is kept",
                  "an octet of the payload is changed", "DSCP and ECN are cleared", "a packet with hop limit 1 passes")
 ERROR_FAULTS = ("an error about an error", "an error quotes another octet", "an error from another address", "no limit of errors")
+FRAGMENT_FAULTS = ("fragments in their order only", "fragments that overlap")
 NAT_FAULTS = ("another outside port", "the checksum of UDP and TCP is kept", "no UDP checksum", "another inside port",
               "a packet for no mapping passes", "the packet in an error is kept")
 
@@ -246,7 +248,7 @@ def wrong_with(start, program, fault, exchange, options=()):
     room, there = Namespace(), Namespace()
     router = start(room, there, program, options=options, env={**os.environ, "FAULT": str(fault)})
     sides, before = {"left": WideSide(SELF, "left"), "right": WideSide(there.process, "right")}, len(wrong)
-    kernel_router.LATEST = 0.5 if fault or options else LATEST
+    kernel_router.LATEST = fragments.LATEST = 0.5 if fault or options else LATEST
     with contextlib.redirect_stderr(io.StringIO()), contextlib.suppress(SystemExit):
         exchange(router, sides, room, there)
     found = len(wrong) - before
@@ -267,6 +269,12 @@ def of_errors(_router, sides, *_):
     icmp_tests.errors_are_limited(sides["left"])
 
 
+def of_fragments(_router, sides, *_):
+    ends = fragments.FAR_LEFT, bytes([10, 1, 0, 1]), HARDWARE["left"]
+    fragments.echo_in_fragments(sides["left"], *ends)
+    fragments.without_answer(sides["left"], *ends)
+
+
 def of_mtus(_router, _sides, room, there):
     server = there.serve(*(address for _, address in SERVERS))
     icmp_tests.smaller_link(room, there)
@@ -281,11 +289,13 @@ def has_pairs():
 
 
 def faults_are_noticed(router, nat):
-    routed, names = random_ones(MODEL, hostile_frames), (*ROUTER_FAULTS, *ERROR_FAULTS, "another MTU", *NAT_FAULTS)
+    routed, names = random_ones(MODEL, hostile_frames), (*ROUTER_FAULTS, *ERROR_FAULTS, "another MTU", *NAT_FAULTS, *FRAGMENT_FAULTS)
     for number, name in enumerate(names):
         start, program, exchange = start_on_taps, router, routed
         if name in ERROR_FAULTS:
             exchange = of_errors
+        elif name in FRAGMENT_FAULTS:
+            exchange = of_fragments
         elif name == "another MTU":
             if not has_pairs():
                 continue
@@ -298,6 +308,7 @@ def faults_are_noticed(router, nat):
     model = kernel_nat.Nat()
     check("no fault", wrong_with(kernel_nat.start_on_taps, nat, 0, random_ones(model, nat_frames(model))) == 0)
     check("no fault", wrong_with(start_on_taps, router, 0, of_errors) == 0)
+    check("no fault", wrong_with(start_on_taps, router, 0, of_fragments) == 0)
     check("fault", wrong_with(start_on_taps, router, 0, routed, ("-n",)) > 0, "no reverse-path check")
 
 

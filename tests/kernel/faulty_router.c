@@ -1,4 +1,4 @@
-/* Faults for examples/router.c and nat.c, linked with --wrap for the four calls. The variable FAULT is the number of
+/* Faults for examples/router.c and nat.c, linked with --wrap for the five calls. The variable FAULT is the number of
  * one; with 0 there is none. */
 #include "../../examples/routing/router.h"
 #include <ip_wire.h>
@@ -30,7 +30,10 @@ enum fault {
     NO_UDP_SUM,
     INSIDE_PORT,
     ANY_MAPPING,
-    QUOTE_KEPT
+    QUOTE_KEPT,
+    /* of fragments */
+    IN_ORDER_ONLY,
+    OVERLAPS_PASS
 };
 
 static int fault(void)
@@ -165,4 +168,18 @@ WRAPPED(int, lk_translate_in(const struct lk_nat *nat, struct lk_mapping *mappin
         lk_translate(frame, len, LK_DESTINATION, &last);
     }
     return rejection;
+}
+
+WRAPPED(ptrdiff_t, lk_reassemble(struct lk_partial *partials, size_t count, uint8_t *memory, size_t memory_len,
+                                 uint64_t now, const uint8_t *frame, size_t len, uint8_t *out, size_t cap))
+{
+    static unsigned next; /* the offset of the next fragment, in units of 8 bytes */
+    unsigned offset = ((unsigned)frame[20] << 8 | frame[21]) & 0x1fff;
+    int is_in_order = offset == 0 || offset == next;
+    next = offset + ((unsigned)len - HEADER - 20) / 8;
+    if (fault() == IN_ORDER_ONLY && is_ipv4(frame, len) && !is_in_order)
+        return LK_DROPPED;
+    for (size_t i = 0; fault() == OVERLAPS_PASS && i < count; i++)
+        partials[i].dropped = 0;
+    return __real_lk_reassemble(partials, count, memory, memory_len, now, frame, len, out, cap);
 }

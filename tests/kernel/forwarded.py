@@ -158,7 +158,7 @@ class Router:
 
     def sent_on(self, frame, packet):
         if packet.dst in self.own:
-            return "for the router", None
+            return "fragments" if packet.is_fragment else "for the router", None
         if packet.dst in self.broadcasts:
             return "group or broadcast", None
         route = self.choose(packet.dst)

@@ -20,6 +20,7 @@ from dice import ANY as random
 from forwarded import (DESTINATION, ICMP, SOURCE, Packet, Router, has_ports, is_icmp_error, port_at, port_of, quoted_end, quotes_enough,
                        translated, with_header_checksum, with_quoted)
 from client import check, echoed, report, tcp_at_once, tcp_turns, udp_lengths
+from rebuilt import number
 from links import ELSEWHERE, SELF, Here, Namespace, Program, WideSide, no_errors, settle, udp_echo
 from router import (ARP, CLAMP, compare_counters, compare_sides, longest_handed, longer_hosts, make_pairs, random_frames,
                     set_host)
@@ -115,6 +116,11 @@ class Nat(Router):
         inside = self.inside.get((end[0], end[2])) if packet.dst == self.outside and end[1] == self.outside.packed else None
         return ("LK_NO_MAPPING", None) if inside is None else (None, with_quoted(frame, side, *inside))
 
+    def is_collected(self, packet, came_in):
+        """Whether fragments of this packet are put together before it is translated."""
+        route = self.choose(packet.dst)
+        return packet.is_fragment and (packet.dst in self.own or (came_in == "left" and route is not None and route[2] == "right"))
+
     def is_from_router(self, frame):
         return frame[12:14] == ARP or frame[20:21] == b"\x3a" and frame[54:55] in (b"\x87", b"\x88")
 
@@ -130,6 +136,8 @@ class Nat(Router):
         why = self.refused(packet, came_in)
         if not why and packet.dst == self.outside and is_ping(packet):
             return ("answered" if is_answered(packet) else "for the router"), None
+        if not why and self.is_collected(packet, came_in):
+            return "fragments", None
         frame = frame if why else frame[: 14 + packet.total_len]
         is_hairpin = not why and came_in == "left" and packet.dst == self.outside
         if is_hairpin:
@@ -237,8 +245,19 @@ def nat_frames(model):
                 frame = frame[:30] + model.outside.packed + frame[34:]
                 at = 14 + packet.header_len + port_at(packet.protocol, DESTINATION)
                 frame = with_header(frame[:at] + port.to_bytes(2, "big") + frame[at + 2 :], packet.header_len)
-            yield frame if random.random() < 0.1 else with_checksums(frame)
+            frame = frame if random.random() < 0.1 else with_checksums(frame)
+            yield apart(frame)
     return make
+
+
+def apart(frame):
+    """The frame, or a fragment of a packet of its own, and not its first: so no packet is put together, and no error about it
+    comes later. tests/kernel/fragments.py has such packets."""
+    packet = Packet(frame)
+    if not packet.is_whole or not packet.is_fragment or not packet.is_summed:
+        return frame
+    place = number(frame[20:22]) | 1
+    return with_header(frame[:18] + random.randbytes(2) + place.to_bytes(2, "big") + frame[22:], packet.header_len)
 
 
 def error_frame(model, name, end):
@@ -391,16 +410,13 @@ def hairpin(ports):
 
 
 def not_translated(nat):
-    """Other ICMP messages and fragments do not go out."""
+    """Other ICMP messages do not go out."""
     before = nat.counters()
     with socket.socket(socket.AF_INET, socket.SOCK_RAW, socket.IPPROTO_ICMP) as sock:
         for _ in range(5):
             sock.sendto(icmp.message(TIMESTAMP, 0, 1, bytes(12), bytes(4), bytes(4)), (SERVERS[0], 0))
-    with bound(socket.SOCK_DGRAM, (INSIDE[0], 5400)) as sock:
-        for _ in range(5):
-            sock.sendto(bytes(2000), (SERVERS[0], 7))
     time.sleep(0.1)
-    compare_counters(nat, before, ["LK_OTHER_PROTOCOL"] * 5 + ["LK_FRAGMENT"] * 10)
+    compare_counters(nat, before, ["LK_OTHER_PROTOCOL"] * 5)
 
 
 def on_taps(program):

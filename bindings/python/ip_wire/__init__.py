@@ -30,6 +30,7 @@ from .headers import (
     ipv6_headers, parse_tcp_options, raw_tcp_options, tcp_header_len,
 )  # fmt: skip
 from .hosts import Host, Interface, Ndisc, Problem, emit_ndisc, parse_ndisc
+from .reassembly import Reassembler
 from .routing import Nat, Offload, Route, Routes, Side, clamp_mss, forward, translate
 from .writing import (
     emit_arp, emit_arp_packet, emit_ethernet_header, emit_icmp, emit_icmp_message, emit_ip_header, emit_tcp,
@@ -39,7 +40,7 @@ from .writing import (
 __all__ = [
     "__version__", "Address", "AnyBlock", "Arp", "Block", "Data", "Endpoint", "Ethernet", "Frame", "Headers",
     "Host", "Icmp", "Interface", "Ip", "Ipv6Header", "Link", "Nat", "Ndisc", "Network", "Offload", "Problem",
-    "RawOption", "Reason", "Rejected", "Rejection", "Route", "Routes", "Side", "Tcp", "TcpFlag", "TcpOptions", "Transport",
+    "RawOption", "Reason", "Reassembler", "Rejected", "Rejection", "Route", "Routes", "Side", "Tcp", "TcpFlag", "TcpOptions", "Transport",
     "Verdict", "WireError", "add_seq", "checksum", "clamp_mss", "compare_seq", "contains", "emit_arp",
     "emit_arp_packet", "emit_ethernet_header", "emit_icmp", "emit_icmp_message", "emit_ip_header", "emit_ndisc",
     "emit_tcp", "emit_tcp_segment", "emit_udp", "emit_udp_packet", "ethertype_name", "fill_checksum", "forward",

@@ -12,7 +12,7 @@ from __future__ import annotations
 
 import ctypes
 import operator
-from ctypes import c_int, c_int32, c_size_t, c_uint8, c_uint16, c_uint32, c_uint64
+from ctypes import c_int, c_int32, c_int64, c_size_t, c_uint8, c_uint16, c_uint32, c_uint64
 from functools import lru_cache
 from ipaddress import IPv4Address, IPv4Interface, IPv4Network, IPv6Address, IPv6Interface, IPv6Network
 from typing import Any, Callable, Dict, List, Tuple, Type, TypeVar, Union, get_type_hints
@@ -25,7 +25,7 @@ AnyBlock = Union[Block, IPv4Network, IPv6Network]
 Data = Union[bytes, bytearray, memoryview]
 T = TypeVar("T")
 
-_NUMBERS = {c_int, c_int32, c_size_t, c_uint8, c_uint16, c_uint32, c_uint64}
+_NUMBERS = {c_int, c_int32, c_int64, c_size_t, c_uint8, c_uint16, c_uint32, c_uint64}
 _classes: Dict[Any, type] = {}  # of a struct, the class that represents it
 
 
@@ -191,11 +191,12 @@ def from_c(cls: Callable[..., T], struct: Any) -> T:
 
 
 def call(name: str, *values: Any) -> int:
-    """Calls the library with these values. A buffer is given without its length, and what is written is of ctypes."""
+    """Calls the library with these values. A buffer is given without its length. What is written, and memory that is read
+    without a copy, are arrays of ctypes."""
     arguments: List[Any] = []
     for kind, value in zip(c.CALLS[name][1:], values):
         if isinstance(kind, tuple):
-            memory = data_of(value) if kind is c.DATA else value
+            memory = data_of(value) if kind is c.DATA and not isinstance(value, ctypes.Array) else value
             arguments += memory, len(memory)
         else:
             arguments.append(to_c(kind, value, name[len("lk_") :]))

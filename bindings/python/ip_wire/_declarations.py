@@ -1,6 +1,7 @@
 """The structs and calls of ip_wire.h, written by tools/from_header.py."""
 import ctypes
-from ctypes import POINTER, c_char_p, c_int, c_int32, c_size_t, c_ssize_t, c_uint8, c_uint16, c_uint32, c_uint64, c_void_p
+from ctypes import POINTER, c_char_p, c_int, c_int32, c_int64, c_size_t, c_ssize_t
+from ctypes import c_uint8, c_uint16, c_uint32, c_uint64, c_void_p
 from typing import Any, Dict, Tuple
 
 
@@ -41,7 +42,7 @@ Frame = _declare(
     "lk_frame", network_offset=c_size_t, transport_offset=c_size_t, payload_offset=c_size_t, payload_len=c_size_t,
     src=Endpoint, dst=Endpoint, ip=Ip, tcp=Tcp, ethernet=Ethernet, arp=Arp, reason=c_uint8, network=c_uint8,
     transport=c_uint8, rejected=c_uint8, is_fragment=c_uint8, ipv4_checksum=c_uint8, transport_checksum=c_uint8,
-    unused=c_uint8 * 5, icmp=Icmp
+    protocol=c_uint8, unused=c_uint8 * 4, icmp=Icmp
 )
 Link = _declare("lk_link", offset=c_size_t, type=c_uint16, tags=c_uint16 * 2, tag_count=c_uint8)
 Ipv6Header = _declare("lk_ipv6_header", offset=c_uint32, len=c_uint16, protocol=c_uint8, next=c_uint8)
@@ -52,6 +53,11 @@ Host = _declare(
     tsval=c_uint32, window_len=c_uint16, max_seg_size=c_uint16, window_scale=c_uint8, is_router=c_uint8
 )
 Interface = _declare("lk_interface", ipv4=Addr, ipv6=Addr, hardware=Hardware)
+Partial = _declare(
+    "lk_partial", expires=c_uint64, ident=c_uint32, version=c_uint8, protocol=c_uint8, unused1=c_uint8 * 2,
+    src=c_uint8 * 16, dst=c_uint8 * 16, len=c_size_t, high=c_size_t, header=c_uint8 * 60, not_ect=c_uint8, ce=c_uint8,
+    unused2=c_uint8 * 2, dropped=c_uint8, link=c_uint8 * 14, unused3=c_uint8
+)
 Route = _declare("lk_route", block=Block, next_hop=Addr, interface=c_uint16)
 RouteNode = _declare(
     "lk_route_node", high=c_uint64, low=c_uint64, route=c_uint32, above=c_uint32, version=c_uint8, prefix_len=c_uint8,
@@ -133,7 +139,9 @@ CALLS: Dict[str, Tuple[Any, ...]] = {
     "lk_forward": (c_int, OUT, Hardware, Hardware),
     "lk_translate": (c_int, OUT, c_int, Endpoint),
     "lk_clamp_mss_as": (c_int, OUT, c_uint16, c_int),
-    "lk_fragment": (c_ssize_t, DATA, c_size_t, c_int32, c_size_t, OUT),
+    "lk_fragment": (c_ssize_t, DATA, c_size_t, c_int64, c_size_t, OUT),
+    "lk_reassemble": (c_ssize_t, _many(Partial), OUT, c_uint64, DATA, OUT),
+    "lk_expire": (c_size_t, _many(Partial), DATA, c_uint64, OUT),
     "lk_set_hop_limit": (c_int, OUT, c_uint8),
     "lk_set_dscp": (c_int, OUT, c_uint8),
     "lk_set_addr_as": (c_int, OUT, c_int, Addr, c_int),

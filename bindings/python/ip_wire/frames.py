@@ -64,6 +64,7 @@ class Frame:
     ip: Optional[Ip]
     src: Optional[Endpoint]  # of ARP or IP; the port is 0 unless a UDP or TCP header is there
     dst: Optional[Endpoint]
+    protocol: Optional[int]  # the number of the transport or the payload of an IP packet, after IPv6 extension headers
     is_fragment: bool
     transport: Optional[Transport]
     rejected: Optional[Transport]  # the header that was rejected, but has its ports in `src` and `dst`
@@ -134,6 +135,7 @@ def _frame_of(frame: Any, data: bytes, is_ethernet: bool) -> Frame:
         ip=from_c(Ip, frame.ip) if network in (Network.IPV4, Network.IPV6) else None,
         src=from_c(Endpoint, frame.src) if has_ends else None,
         dst=from_c(Endpoint, frame.dst) if has_ends else None,
+        protocol=frame.protocol if network in (Network.IPV4, Network.IPV6) else None,
         is_fragment=bool(frame.is_fragment),
         transport=transport,
         rejected=rejected,

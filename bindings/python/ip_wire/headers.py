@@ -23,6 +23,8 @@ class Reason(IntEnum):
     BAD_OPTIONS = 7
     HEADER_CUT = 8
     UNKNOWN_LINK = 9
+    HOPS_LEFT = 10
+    BAD_ORDER = 11
 
 
 class Rejection(IntEnum):

@@ -49,14 +49,14 @@ def rebuild(frame: Data) -> bytes:
 
 
 def fragments(frame: Data, mtu: int, ident: Union[int, None] = None) -> Iterator[bytes]:
-    """Cuts the IPv4 packet of an Ethernet frame into fragments for a link with this MTU (RFC 791, section 3.2), each in
-    an Ethernet frame with the same header. A packet that fits is its only fragment.
+    """Cuts the IP packet of an Ethernet frame into fragments for a link with this MTU (RFC 791, section 3.2; RFC 8200,
+    section 4.5), each in an Ethernet frame with the same header. A packet that fits is its only fragment.
 
-    Without `ident` the packet keeps its identification, and is cut only if DF is clear. With it the fragments have this
-    identification, and DF is clear: no other packet of this protocol between these addresses may have it for two minutes
-    (RFC 6864)."""
+    Without `ident` an IPv4 packet keeps its identification, and is cut only if DF is clear; an IPv6 packet is not cut.
+    With it the fragments have this identification, over IPv4 of 16 bits, and DF is clear. No other packet between these
+    addresses, over IPv4 of the same protocol, may have it for two minutes (RFC 6864)."""
     data = data_of(frame)
-    own = -1 if ident is None else number_of(ctypes.c_uint16, ident, "ident")
+    own = -1 if ident is None else number_of(ctypes.c_uint32, ident, "ident")
     for number in itertools.count():
         fragment = written(len(data), "lk_fragment", data, mtu, own, number)
         if not fragment:

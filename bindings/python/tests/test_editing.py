@@ -95,6 +95,20 @@ class Fragments(unittest.TestCase):
         self.assertRaisesRegex(ip_wire.WireError, "LK_NO_HEADER", list, ip_wire.fragments(b"", 1500))
         self.assertRaises(ValueError, list, ip_wire.fragments(PING, 1500, -1))
 
+    def test_ipv6(self):
+        ethernet, payload = bytes.fromhex("020000000002020000000001" "86dd"), bytes(range(24))
+        addrs = bytes.fromhex("20010db800000000000000000000000120010db8000000000000000000000002")
+        packet = ethernet + bytes.fromhex("6000000000183240") + addrs + payload
+        own = bytes.fromhex("6000000000102c40") + addrs
+        expected = [
+            ethernet + own + bytes.fromhex(header + "ffffffff") + payload[at : at + 8]
+            for header, at in (("32000001", 0), ("32000009", 8), ("32000010", 16))
+        ]
+        self.assertEqual(list(ip_wire.fragments(packet, 63, 0xFFFFFFFF)), expected)
+        self.assertEqual(list(ip_wire.fragments(packet, 64, 1)), [packet])
+        self.assertRaisesRegex(ip_wire.WireError, "LK_DONT_FRAGMENT", list, ip_wire.fragments(packet, 63))
+        self.assertRaisesRegex(ip_wire.WireError, "LK_BAD_FIELD", list, ip_wire.fragments(PING, 28, 65536))
+
 
 if __name__ == "__main__":
     unittest.main()

@@ -23,7 +23,24 @@ OPTIONS = TcpOptions(1460, 7, True, (), (3, 4))
 OPTION_BYTES = bytes.fromhex("020405b4 030307 0402 080a 00000003 00000004 00")
 
 
+# Scapy packed it: hop-by-hop options, and UDP with the payload f1f2f3.
+EXTENDED = bytes.fromhex(
+    "02a1a2a3a4a502b1b2b3b4b586dd6becdef10013003e20010db800000000000000000000000120010db8000000000000000000000002"
+    "110005020000010031324142000b4cfbf1f2f3"
+)
+
+
 class Reading(unittest.TestCase):
+    def test_extension_headers(self):
+        frame = ip_wire.parse_frame(EXTENDED)
+        frame.check()
+        self.assertEqual((frame.ip.protocol, frame.protocol, frame.transport), (0, 17, Transport.UDP))
+        self.assertEqual((frame.transport_offset, frame.dst.port, frame.payload), (62, 0x4142, b"\xf1\xf2\xf3"))
+        self.assertEqual((ip_wire.parse_frame(ip_wire.emit_udp(IPV4, b"")).protocol, ip_wire.parse_frame(b"").protocol), (17, None))
+        routed = bytearray(EXTENDED)
+        routed[20], routed[57] = 43, 1
+        self.assertRaisesRegex(Rejected, "HOPS_LEFT", ip_wire.parse_frame(routed).check)
+
     def test_udp(self):
         for headers, network in [(IPV4, Network.IPV4), (IPV6, Network.IPV6)]:
             data = ip_wire.emit_udp(headers, b"ping")

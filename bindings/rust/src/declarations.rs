@@ -117,7 +117,8 @@ structs! {
         is_fragment: u8,
         ipv4_checksum: u8,
         transport_checksum: u8,
-        unused: [u8; 5],
+        protocol: u8,
+        unused: [u8; 4],
         icmp: Icmp,
     }
 
@@ -166,6 +167,25 @@ structs! {
         ipv4: Addr,
         ipv6: Addr,
         hardware: [u8; 6],
+    }
+
+    struct Partial {
+        expires: u64,
+        ident: u32,
+        version: u8,
+        protocol: u8,
+        unused1: [u8; 2],
+        src: [u8; 16],
+        dst: [u8; 16],
+        len: usize,
+        high: usize,
+        header: [u8; 60],
+        not_ect: u8,
+        ce: u8,
+        unused2: [u8; 2],
+        dropped: u8,
+        link: [u8; 14],
+        unused3: u8,
     }
 
     #[derive(Default)]
@@ -285,8 +305,15 @@ calls! {
     fn lk_clamp_mss(frame: *mut u8, len: usize, max_seg_size: u16) -> c_int;
     fn lk_clamp_mss_as(frame: *mut u8, len: usize, max_seg_size: u16, offload: c_int) -> c_int;
     fn lk_fragment(
-        frame: *const u8, len: usize, mtu: usize, ident: i32, number: usize, out: *mut u8, cap: usize
+        frame: *const u8, len: usize, mtu: usize, ident: i64, number: usize, out: *mut u8, cap: usize
     ) -> isize;
+    fn lk_reassemble(
+        partials: *mut Partial, count: usize, memory: *mut u8, memory_len: usize, now: u64, frame: *const u8,
+        len: usize, out: *mut u8, cap: usize
+    ) -> isize;
+    fn lk_expire(
+        partials: *mut Partial, count: usize, memory: *const u8, memory_len: usize, now: u64, out: *mut u8, cap: usize
+    ) -> usize;
     fn lk_set_hop_limit(frame: *mut u8, len: usize, hop_limit: u8) -> c_int;
     fn lk_set_dscp(frame: *mut u8, len: usize, dscp: u8) -> c_int;
     fn lk_set_addr(frame: *mut u8, len: usize, side: c_int, addr: &Addr) -> c_int;

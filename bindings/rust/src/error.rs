@@ -43,10 +43,11 @@ numbered! {
         BadField: "a field of the IP header has a value that this header has no place for",
         TwoControls: "more than one of SYN, FIN and RST is set",
         OptionsTooLong: "the TCP options have more than 40 bytes, or more than 4 SACK ranges",
-        PayloadTooLong: "the payload is longer than the length field can say",
-        NoHeader: "the frame to be rebuilt is shorter than an Ethernet header, or the one to be cut has no IPv4 packet",
+        PayloadTooLong: "the payload is longer than the length field can say, or than the memory of a packet",
+        NoHeader: "the frame has no valid header: the one to be rebuilt, cut or put together",
         NoRoom: "the result is longer than the buffer",
         DontFragment: "the packet is longer than the MTU, and has DF",
+        Dropped: "the fragments of the packet contradict each other",
     }
 }
 
@@ -72,6 +73,8 @@ numbered! {
         BadOptions: "a TCP option is malformed",
         HeaderCut: "the header was not captured as a whole",
         UnknownLink: "the link type is unknown",
+        HopsLeft: "an IPv6 routing header has segments left",
+        BadOrder: "IPv6 hop-by-hop options do not follow the IPv6 header directly",
     }
 }
 

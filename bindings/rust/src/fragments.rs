@@ -1,10 +1,10 @@
-//! Fragments of IPv4 packets.
+//! Fragments of IP packets.
 
 use crate::emit::write;
 use crate::Error;
 
-/// The fragments into which an IPv4 packet is cut for a link with this MTU (RFC 791, section 3.2). The packet and each
-/// fragment are in Ethernet frames with the same header. A packet that fits is its only fragment.
+/// The fragments into which an IP packet is cut for a link with this MTU (RFC 791, section 3.2; RFC 8200, section 4.5).
+/// The packet and each fragment are in Ethernet frames with the same header. A packet that fits is its only fragment.
 ///
 /// ```
 /// # use ip_wire::{Ethernet, Error, Fragments, Frame, Headers, Ip};
@@ -26,21 +26,22 @@ use crate::Error;
 pub struct Fragments<'f> {
     frame: &'f [u8],
     mtu: usize,
-    ident: i32,
+    ident: i64,
     number: usize,
 }
 
 impl<'f> Fragments<'f> {
-    /// The fragments of a packet that is forwarded: it keeps its identification, and is cut only if DF is clear.
+    /// The fragments of a packet that is forwarded. An IPv4 packet keeps its identification, and is cut only if DF is
+    /// clear. An IPv6 packet is not cut.
     #[must_use]
     pub fn forwarded(frame: &'f [u8], mtu: usize) -> Self {
         Self { frame, mtu, ident: -1, number: 0 }
     }
 
-    /// The fragments of a packet of one's own. Their DF is clear, and they have this identification: no other packet of
-    /// this protocol between these addresses may have it for two minutes (RFC 6864).
+    /// The fragments of a packet of one's own. They have this identification, over IPv4 of 16 bits, and their DF is clear.
+    /// No other packet between these addresses, over IPv4 of the same protocol, may have it for two minutes (RFC 6864).
     #[must_use]
-    pub fn with_ident(frame: &'f [u8], mtu: usize, ident: u16) -> Self {
+    pub fn with_ident(frame: &'f [u8], mtu: usize, ident: u32) -> Self {
         Self { frame, mtu, ident: ident.into(), number: 0 }
     }
 
@@ -48,9 +49,10 @@ impl<'f> Fragments<'f> {
     ///
     /// # Errors
     ///
-    /// - [`Error::BadField`]: the MTU is less than the header and 8 bytes.
-    /// - [`Error::PayloadTooLong`]: a fragment that ends after byte 65535 of its packet.
-    /// - [`Error::NoHeader`]: no IPv4 packet with a valid header, or a fragment of one's own.
+    /// - [`Error::BadField`]: the MTU is less than the header and 8 bytes, or the identification is too large.
+    /// - [`Error::PayloadTooLong`]: an IPv4 fragment that ends after byte 65535 of its packet.
+    /// - [`Error::NoHeader`]: no packet with a valid header, or a fragment of one's own. Also an IPv6 packet that has to be
+    ///   cut, and has hop-by-hop options, a routing header or destination options after its header.
     /// - [`Error::NoRoom`]
     /// - [`Error::DontFragment`]
     pub fn emit_next<'o>(&mut self, out: &'o mut [u8]) -> Result<Option<&'o mut [u8]>, Error> {

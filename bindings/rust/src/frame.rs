@@ -25,10 +25,10 @@ fn first_bytes(captured: &[u8], len: usize) -> (&[u8], usize) {
 ///
 /// - The payload begins after the last header that was read. It ends at the length in this header or in
 ///   one before it, so padding is no payload.
-/// - After an unknown EtherType or protocol all bytes are payload, and so are IPv6 extension headers.
-///   [`Ipv6Headers`](crate::Ipv6Headers) steps through them.
-/// - IPv4 options are skipped.
-/// - If an IPv6 fragment header follows the IPv6 header, its values are there. The payload begins at it.
+/// - After an unknown EtherType or protocol all bytes are payload. IPv4 options are skipped.
+/// - IPv6 extension headers are stepped through, as [`Ipv6Headers`](crate::Ipv6Headers) does. [`Frame::protocol`] is the number of
+///   what follows them.
+/// - The values of an IPv6 fragment header are there. If it is that of a fragment, the payload begins at it.
 ///
 /// A call that writes cannot be given the bytes of a frame as its buffer, because they are borrowed:
 ///
@@ -210,6 +210,13 @@ impl<'a> Frame<'a> {
     #[must_use]
     pub fn dst(&self) -> Option<SocketAddr> {
         self.fields.dst.socket_addr()
+    }
+
+    /// The number of the transport or the payload of an IP packet, after IPv6 extension headers. [`Ip`] has the number in
+    /// the IP header.
+    #[must_use]
+    pub fn protocol(&self) -> Option<u8> {
+        (self.network()? != Network::Arp).then_some(self.fields.protocol)
     }
 
     /// Whether this is a part of an IP packet, so that its payload is not parsed.

@@ -10,7 +10,8 @@
 //! | write a frame | [`Headers`], [`Arp`], [`Ndisc`], [`rebuild`], [`layer`] |
 //! | answer as a host | [`Host`], [`Interface::emit_error`] |
 //! | route and translate | [`RouteTable`], [`forward`], [`clamp_mss`], [`Nat`], [`translate`] |
-//! | edit a frame in place, cut it into fragments | [`edit`], [`Fragments`] |
+//! | edit a frame in place | [`edit`] |
+//! | cut a packet into fragments, put it together | [`Fragments`], [`Reassembler`] |
 //! | parse and print addresses | [`parse_addr`], [`parse_endpoint`], [`Block`], [`EthernetAddr`] |
 //! | compute checksums | [`checksum`] |
 //!
@@ -71,6 +72,7 @@ mod ipv6;
 pub mod layer;
 mod link;
 mod nat;
+mod reassembly;
 mod routes;
 mod sys;
 mod tcp;
@@ -87,6 +89,7 @@ pub use icmp::{AdvertFlags, Interface, Ndisc, Problem};
 pub use ipv6::{Ipv6Header, Ipv6Headers};
 pub use link::Link;
 pub use nat::{Mapping, Nat, NatConfig};
+pub use reassembly::{Partial, Reassembler};
 pub use routes::{InterfaceId, Route, RouteNode, RouteTable};
 pub use tcp::{
     RawOption, RawOptions, SackRange, SackRanges, SeqNumber, Tcp, TcpFlags, TcpOptions, Timestamp,

@@ -42,7 +42,7 @@ impl NatConfig {
 }
 
 /// As the library counts it. A longer time is the longest.
-fn milliseconds(time: Duration) -> u64 {
+pub(crate) fn milliseconds(time: Duration) -> u64 {
     time.as_millis().try_into().unwrap_or(u64::MAX)
 }
 

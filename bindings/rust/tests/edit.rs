@@ -1,10 +1,11 @@
-//! Fields are written in place, and the checksums that cover them updated. A packet is cut. Scapy packed the frames after
-//! each edit, and the fragments.
+//! Fields are written in place, and the checksums that cover them updated. Packets are cut, and put together. Scapy packed
+//! the frames after each edit, and the fragments.
 
 mod worked;
 
-use ip_wire::{clamp_mss_as, edit, Error, Fragments, Offload, Side};
+use ip_wire::{clamp_mss_as, edit, Error, Fragments, Offload, Partial, Reassembler, Side};
 use std::net::IpAddr;
+use std::time::Duration;
 use worked::{bytes, changed, frame};
 
 /// Makes an edit of the frame: these bytes change, or none, and then it returns `false`.
@@ -96,4 +97,88 @@ fn a_packet_is_cut() {
         |mtu| Fragments::forwarded(&ping, mtu).emit_next(&mut [0; 64]).map(|it| it.unwrap().to_vec());
     assert_eq!(forwarded(31), Err(Error::DontFragment));
     assert_eq!(forwarded(32), Ok(ping.clone()));
+    assert_eq!(Fragments::with_ident(&ping, 28, 65536).emit_next(&mut out), Err(Error::BadField));
+}
+
+#[test]
+fn an_ipv6_packet_is_cut() {
+    const ADDRS: &str = "20010db800000000000000000000000120010db8000000000000000000000002";
+    let ipv6 =
+        |header: &str, rest: &str| bytes(&format!("02000000000202000000000186dd{header}{ADDRS}{rest}"));
+    let payload = ["0001020304050607", "08090a0b0c0d0e0f", "1011121314151617"];
+    let (esp, mut out) = (ipv6("6000000000183240", &payload.concat()), [0; 78]);
+    let mut fragments = Fragments::with_ident(&esp, 63, 0xffff_ffff);
+    for (place, part) in ["32000001", "32000009", "32000010"].iter().zip(payload) {
+        let wanted = ipv6("6000000000102c40", &format!("{place}ffffffff{part}"));
+        assert_eq!(fragments.emit_next(&mut out).unwrap().unwrap(), &wanted[..]);
+    }
+    assert_eq!(fragments.emit_next(&mut out), Ok(None));
+    assert_eq!(Fragments::forwarded(&esp, 63).emit_next(&mut out), Err(Error::DontFragment));
+    assert_eq!(Fragments::forwarded(&esp, 64).emit_next(&mut out).unwrap().unwrap(), &esp[..]);
+}
+
+const LINK: &str = "0200000000020200000000010800";
+const WHOLE: &str = "45000034123400004011e481c0000201c00002020fa000070020e772000102030405060708090a0b0c0d0e0f1011121314151617";
+const FIRST: &str = "45000024123420004011c491c0000201c00002020fa000070020e7720001020304050607";
+const LAST: &str = "45000024123400024011e48fc0000201c000020208090a0b0c0d0e0f1011121314151617";
+const OTHER_LAST: &str = "45000024123400024011e48fc0000201c000020209090a0b0c0d0e0f1011121314151617";
+const LINK6: &str = "02000000000202000000000186dd";
+const WHOLE6: &str = "600000000020114020010db800000000000000000000000120010db80000000000000000000000020fa0000700201002000102030405060708090a0b0c0d0e0f1011121314151617";
+const FIRST6: &str = "6000000000182c4020010db800000000000000000000000120010db800000000000000000000000211000001123456780fa00007002010020001020304050607";
+const LAST6: &str = "6000000000182c4020010db800000000000000000000000120010db8000000000000000000000002110000101234567808090a0b0c0d0e0f1011121314151617";
+
+fn at(seconds: u64) -> Duration {
+    Duration::from_secs(seconds)
+}
+
+fn framed(packet: &str) -> Vec<u8> {
+    bytes(&[if packet.starts_with('6') { LINK6 } else { LINK }, packet].concat())
+}
+
+fn reassembler() -> Reassembler<[Partial; 2], Vec<u8>> {
+    Reassembler::new([Partial::FREE; 2], vec![0xa5; 2 * 72])
+}
+
+#[test]
+fn packets_are_put_together() {
+    let (mut reassembler, mut out) = (reassembler(), [0; 200]);
+    for (first, last, whole) in [(FIRST, LAST, WHOLE), (LAST, FIRST, WHOLE), (LAST6, FIRST6, WHOLE6)] {
+        assert_eq!(reassembler.reassemble(at(1), &framed(first), &mut out), Ok(None));
+        assert_eq!(reassembler.reassemble(at(1), &framed(first), &mut out), Ok(None));
+        assert_eq!(reassembler.reassemble(at(1), &framed(last), &mut [0; 40]), Err(Error::NoRoom));
+        let came = reassembler.reassemble(at(60), &framed(last), &mut out).unwrap().unwrap();
+        assert_eq!(came, framed(whole));
+    }
+    let came = reassembler.reassemble(at(60), &framed(WHOLE), &mut out).unwrap().unwrap();
+    assert_eq!(came, framed(WHOLE));
+}
+
+#[test]
+fn fragments_expire() {
+    let (mut reassembler, mut out) = (reassembler(), [0; 200]);
+    reassembler.reassemble(at(1), &framed(FIRST), &mut out).unwrap();
+    reassembler.reassemble(at(2), &framed(LAST6), &mut out).unwrap();
+    let addrs = [("192.0.2.1", "192.0.2.2"), ("2001:db8::1", "2001:db8::2")];
+    for (partial, (src, dst)) in reassembler.partials().iter().zip(addrs) {
+        assert_eq!(partial.addrs(), Some((addr(src), addr(dst))));
+    }
+    assert_eq!(reassembler.partials()[1].expires(), Some(at(62)));
+    assert_eq!(reassembler.expire(at(60), &mut out), None);
+    assert_eq!(reassembler.expire(at(62), &mut out).unwrap(), framed(FIRST));
+    assert_eq!(reassembler.expire(at(62), &mut out), None);
+    assert_eq!(reassembler.partials().iter().find_map(Partial::addrs), None);
+    assert_eq!(reassembler.into_parts().1.len(), 144);
+}
+
+#[test]
+fn failures_are_told() {
+    let (mut reassembler, mut out) = (reassembler(), [0; 200]);
+    assert_eq!(reassembler.reassemble(at(1), b"", &mut out), Err(Error::NoHeader));
+    assert_eq!(reassembler.reassemble(at(1), &framed(WHOLE6), &mut out), Err(Error::NoHeader));
+    assert_eq!(reassembler.reassemble(at(1), &framed(LAST), &mut out), Ok(None));
+    assert_eq!(reassembler.reassemble(at(1), &framed(OTHER_LAST), &mut out), Err(Error::Dropped));
+    assert_eq!(reassembler.reassemble(at(60), &framed(FIRST), &mut out), Err(Error::Dropped));
+    assert_eq!(reassembler.reassemble(at(61), &framed(FIRST), &mut out), Ok(None));
+    let mut none = Reassembler::new([Partial::FREE; 0], []);
+    assert_eq!(none.reassemble(at(1), &framed(LAST), &mut out), Err(Error::PayloadTooLong));
 }

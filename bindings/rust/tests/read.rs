@@ -123,6 +123,27 @@ fn a_packet_has_no_ethernet_header() {
     assert_eq!(Frame::parse_packet(&[0; 40]).rejected(), Some(Reason::BadVersion));
 }
 
+/// Scapy packed it: hop-by-hop options, and UDP with the payload f1f2f3.
+const EXTENDED: [u8; 59] = [
+    0x6b, 0xec, 0xde, 0xf1, 0, 0x13, 0, 0x3e, 0x20, 1, 0xd, 0xb8, 0, 0, 0, 0, 0, 0, 0, 0, 0, 0, 0, 1, 0x20,
+    1, 0xd, 0xb8, 0, 0, 0, 0, 0, 0, 0, 0, 0, 0, 0, 2, 0x11, 0, 5, 2, 0, 0, 1, 0, 0x31, 0x32, 0x41, 0x42, 0,
+    0xb, 0x4c, 0xfb, 0xf1, 0xf2, 0xf3,
+];
+
+#[test]
+fn extension_headers_are_stepped_through() {
+    let frame = Frame::parse_packet(&EXTENDED);
+    assert_eq!((frame.check(), frame.payload()), (Ok(()), &EXTENDED[56..]));
+    assert_eq!((frame.ip().unwrap().protocol, frame.protocol()), (0, Some(17)));
+    assert_eq!(frame.transport_offset(), Some(48));
+
+    let mut routed = EXTENDED;
+    (routed[6], routed[43]) = (43, 1);
+    let frame = Frame::parse_packet(&routed);
+    assert_eq!((frame.rejected(), frame.protocol()), (Some(Reason::HopsLeft), Some(43)));
+    assert_eq!(Frame::parse_packet(&[]).protocol(), None);
+}
+
 #[test]
 fn a_captured_frame_is_cut() {
     let bytes = udp(&ipv4(), b"ping");

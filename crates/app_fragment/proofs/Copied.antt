@@ -152,5 +152,5 @@ pub call-copies : (r : Option Written) (bytes old new : List ℕ) (mtu : ℕ) �
 call-copies None bytes old new mtu are fits other accepted next is = next
 call-copies (Some w) bytes old new mtu are fits other accepted next is =
     let may = accepted refl in
-    is ∙ ap (λ k. fragment_bytes None bytes 0 k ++ drop w.len old) (next ∙ next-end bytes mtu may.lengths fits)
-    ∙ ap (λ l. l ++ drop w.len old) (copied bytes are may.lengths may.version may.checksum other)
+    is ∙ ap (λ k. fragment_bytes None bytes 0 k ++ drop w.len old) (next ∙ next-end bytes mtu may.valid.lengths fits)
+    ∙ ap (λ l. l ++ drop w.len old) (copied bytes are may.valid.lengths may.valid.version may.valid.checksum other)

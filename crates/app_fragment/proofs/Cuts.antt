@@ -44,7 +44,7 @@ last_or_more bytes next = grind (arith, nat_tests)
 blocks_or_end : (bytes : List ℕ) (at mtu next : ℕ) → next ≡ next_place bytes at mtu → at ≤ payload_len bytes → (next ≡ payload_len bytes) ⊎ ((next - at) % 8 ≡ 0)
 blocks_or_end bytes at mtu next is inside = grind (arith, nat_tests)
 
-byte_of_part : (bytes : List ℕ) (a b i : ℕ) → i < b - a → get_or (slice_range bytes a b) i 0 ≡ get_or bytes (a + i) 0
+pub byte_of_part : (bytes : List ℕ) (a b i : ℕ) → i < b - a → get_or (slice_range bytes a b) i 0 ≡ get_or bytes (a + i) 0
 byte_of_part bytes a b i low = get_or-take (b - a) (drop a bytes) i 0 low ∙ get_or-drop a bytes i 0
 
 pub piece_is_part : (bytes whole : List ℕ) (at mtu next : ℕ) (f : Fragment) → HasLengths bytes → at % 8 ≡ 0 → at ≤ next → next ≤ payload_len bytes
@@ -152,8 +152,8 @@ written : (ident : Option ℕ) (bytes old new : List ℕ) (at mtu len next : ℕ
 written ident bytes old new at mtu len next are may begins is e =
     let order : at ≤ next = omega (arith, (next-order bytes at mtu begins).0) in
     let within : next ≤ payload_len bytes = omega (arith, (next-order bytes at mtu begins).1) in
-    let f = subst (IsFragment ident bytes at next) (sym e) (is_fragment ident bytes (drop len old) at next are may.lengths order within may.within) in
-    record { rest = drop len old; same = e; lengths = may.lengths; multiple = begins.multiple; order = order; within = within; is = is; piece = is_piece ident bytes new at next may.lengths begins.multiple order within f }
+    let f = subst (IsFragment ident bytes at next) (sym e) (is_fragment ident bytes (drop len old) at next are may.valid.lengths order within may.within) in
+    record { rest = drop len old; same = e; lengths = may.valid.lengths; multiple = begins.multiple; order = order; within = within; is = is; piece = is_piece ident bytes new at next may.valid.lengths begins.multiple order within f }
 
 pub call-writes : (r : Option Written) (ident : Option ℕ) (bytes old new : List ℕ) (at mtu : ℕ) → AreBytes bytes
     → (IsSome r → MayBeFragmented ident bytes mtu × MayBegin bytes at mtu)

@@ -1,6 +1,7 @@
 -- Fragments of a packet (RFC 791, section 3.2; RFC 8200, section 4.5), and the packet that they make.
 -- Pinned by: `apps/fragments`, `FragmentsWorked`
-use Rattle.std.specs.Prelude.{◌≡◌, ◌≢◌, ℕ, ◌+◌, ◌-◌, ◌*◌, ◌/◌, ◌%◌, ◌<◌, ◌≤◌, ◌⊎◌, nat_le, if◌then◌else◌, Bool, true, false, List, [], ◌∷◌, length, slice_index}
+use Rattle.std.specs.Prelude.{◌≡◌, ◌≢◌, ℕ, zero, suc, ◌+◌, ◌-◌, ◌*◌, ◌/◌, ◌%◌, ◌<◌, ◌≤◌, ◌⊎◌, nat_le, nat_lt, if◌then◌else◌, Bool, true, false, Option, None, Some, List, [], ◌∷◌, length, slice_index, slice_range}
+use Rattle.std.specs.Option.{option_and_then}
 use Rattle.app_fragment.specs.declared.reassembly.Ends.{Ends}
 
 -- ---- fragments
@@ -88,6 +89,39 @@ Cut packet at (f ∷ fs) = (8 * f.first ≡ at) × IsPartOf f packet × ((f.more
 -- as many whole blocks as fit.
 abbrev pub cut_len : ℕ → ℕ → ℕ
 cut_len room left = if nat_le left room then left else room / 8 * 8
+
+-- the place in a payload of `len` bytes where the fragment ends that begins at a place, unless it is the last
+abbrev pub place_after : ℕ → ℕ → ℕ → Option ℕ
+place_after room len at = let end = at + cut_len room (len - at) in if nat_lt end len then Some end else None
+
+-- The place in a payload of `len` bytes where the fragment of this number begins. The first one has number 0 and begins
+-- at byte 0, each other where the one before it ends, and none comes after the last.
+abbrev pub numbered_place : ℕ → ℕ → ℕ → Option ℕ
+numbered_place room len zero = Some 0
+numbered_place room len (suc n) = option_and_then (place_after room len) (numbered_place room len n)
+
+-- the fragment that begins at this place of a payload, if each has at most `room` bytes of it
+abbrev pub piece_at : ℕ → List ℕ → ℕ → Fragment
+piece_at room payload at =
+    let end = at + cut_len room (length payload - at) in
+    fragment (at / 8) (nat_lt end (length payload)) (slice_range payload at end)
+
+-- the fragment of this number
+abbrev pub IsNumbered : ℕ → List ℕ → ℕ → Fragment → Type 0
+IsNumbered room payload number f =
+    (at : ℕ) × (numbered_place room (length payload) number ≡ Some at) × (f ≡ piece_at room payload at)
+
+-- the fragments from this number on, up to the last one
+abbrev pub AreNumbered : ℕ → List ℕ → ℕ → List Fragment → Type 0
+AreNumbered room payload number [] = numbered_place room (length payload) number ≡ None
+AreNumbered room payload number (f ∷ fs) = IsNumbered room payload number f × AreNumbered room payload (suc number) fs
+
+-- A fragment may begin at this place of a payload of `len` bytes, after a header of `header` bytes: at a multiple of 8
+-- within the payload, or at its beginning. The MTU has room for 8 bytes after the header, or for all that are left.
+pub record BeginsAt (header len at mtu : ℕ) : Type 0 where
+  pub multiple : at % 8 ≡ 0
+  pub inside : (at < len) ⊎ (at ≡ 0)
+  pub room : (header + 8 ≤ mtu) ⊎ (header + (len - at) ≤ mtu)
 
 -- ---- the memory of one packet that is put together: a buffer, and a byte for each block that says whether it was
 -- received (the data buffer and the fragment block bit table of RFC 791, section 3.2)

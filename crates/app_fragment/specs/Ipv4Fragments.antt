@@ -1,11 +1,11 @@
 -- The fragments of an IPv4 packet (RFC 791, sections 2.3 and 3.2; RFC 1812, section 4.2.2.7). A place is counted in
 -- bytes from the beginning of the packet's payload.
 -- Pinned by: `apps/ipv4_fragments`
-use Rattle.std.specs.Prelude.{ℕ, ◌≡◌, ◌<◌, ◌≤◌, ◌+◌, ◌-◌, ◌/◌, ◌%◌, ◌⊎◌, ◌==◌, ◌||◌, not, if◌then◌else◌, Bool, false, Option, None, Some, List, ◌++◌, slice_range, take}
+use Rattle.std.specs.Prelude.{ℕ, ◌≡◌, ◌≤◌, ◌+◌, ◌-◌, ◌/◌, ◌⊎◌, ◌==◌, ◌||◌, not, if◌then◌else◌, Bool, false, Option, None, Some, List, ◌++◌, slice_range, take}
 use Rattle.ip_wire.specs.Diagram.{flag}
 use Rattle.ip_wire.specs.Field.{IsOutside, field, with_field}
 use Rattle.ip_wire.specs.Ipv4.{HasChecksum, HasLengths, dont_frag_of, fragment_offset, header_len, ip_version_of, is_fragment, more_frags_of, total_len, with_checksum}
-use Rattle.app_fragment.specs.Fragments.{Fragment, cut_len, fragment}
+use Rattle.app_fragment.specs.Fragments.{BeginsAt, Fragment, cut_len, fragment, numbered_place}
 use Rattle.app_fragment.specs.Ipv4Options.{later_options}
 
 -- the length of the payload
@@ -20,6 +20,12 @@ payload_of bytes = slice_range bytes (header_len bytes) (total_len bytes)
 abbrev pub fragment_of : List ℕ → Fragment
 fragment_of bytes = fragment (field bytes 51 13) (more_frags_of bytes == 1) (payload_of bytes)
 
+-- the bytes begin with a valid IPv4 packet
+pub record IsIpv4 (bytes : List ℕ) : Type 0 where
+  pub lengths : HasLengths bytes
+  pub version : ip_version_of bytes ≡ 4
+  pub checksum : HasChecksum bytes
+
 -- ---- which packets are fragmented
 
 -- Fragmentation is allowed: a forwarded packet fits in the MTU, or has DF (don't fragment) clear. A packet of one's own,
@@ -31,18 +37,17 @@ IsAllowed (Some ident) bytes mtu = is_fragment bytes ≡ false
 -- The packet may be fragmented: its header is valid, fragmentation is allowed, and all its payload has an offset that
 -- fits in the field.
 pub record MayBeFragmented (ident : Option ℕ) (bytes : List ℕ) (mtu : ℕ) : Type 0 where
-  pub lengths : HasLengths bytes
-  pub version : ip_version_of bytes ≡ 4
-  pub checksum : HasChecksum bytes
+  pub valid : IsIpv4 bytes
   pub allowed : IsAllowed ident bytes mtu
   pub within : fragment_offset bytes + payload_len bytes ≤ 65535
 
--- A fragment may begin at this place of the payload: a multiple of 8 within it, or its beginning. The MTU has room for 8
--- bytes after the header, or for all that are left.
-pub record MayBegin (bytes : List ℕ) (at mtu : ℕ) : Type 0 where
-  pub multiple : at % 8 ≡ 0
-  pub inside : (at < payload_len bytes) ⊎ (at ≡ 0)
-  pub room : (header_len bytes + 8 ≤ mtu) ⊎ (header_len bytes + (payload_len bytes - at) ≤ mtu)
+-- a fragment may begin at this place of the payload
+abbrev pub MayBegin : List ℕ → ℕ → ℕ → Type 0
+MayBegin bytes at mtu = BeginsAt (header_len bytes) (payload_len bytes) at mtu
+
+-- the place where the fragment of this number begins, in packets of at most `mtu` bytes
+abbrev pub place_of : List ℕ → ℕ → ℕ → Option ℕ
+place_of bytes mtu = numbered_place (mtu - header_len bytes) (payload_len bytes)
 
 -- the place where the fragment ends that begins at a place, in packets of at most `mtu` bytes: the end of the payload if
 -- all that are left fit, else after as many blocks of 8 bytes as fit

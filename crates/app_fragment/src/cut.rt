@@ -1,7 +1,7 @@
-//! The next fragment of a packet.
+//! The next fragment of a packet, and where the fragment of a number begins.
 
 ghost use Rattle.std.specs.Prelude.{◌≡◌, ◌+◌, ◌-◌, ◌*◌, ◌%◌, ◌<◌, ◌≤◌, ◌↔◌, IsTrue, false, length, slice_range};
-ghost use Rattle.app_fragment.specs.Fragments.{Fragment, IsPartOf, cut_len};
+ghost use Rattle.app_fragment.specs.Fragments.{Fragment, IsPartOf, cut_len, numbered_place};
 
 /// A fragment by its length.
 #[derive(Debug, Clone, Copy, PartialEq, Eq)]
@@ -37,4 +37,27 @@ pub fn cut_next(payload: &[u8], first: usize, room: usize) -> Piece
             more: true,
         }
     }
+}
+
+/// Where the fragment of this number begins in a payload of `len` bytes, if each has at most `room` of them. The first has
+/// number 0. Returns `None` after the last one.
+pub fn numbered_place(len: usize, room: usize, number: usize) -> Option<usize>
+    ensures { result ≡ numbered_place room len number }
+{
+    if number == 0 {
+        return Some(0);
+    }
+    let before = (number - 1).checked_mul(room / 8 * 8)?;
+    if is_last(len, before, room) {
+        None
+    } else {
+        Some(before + room / 8 * 8)
+    }
+}
+
+// Whether the fragment that begins at this place is the last one: it has all that is left.
+fn is_last(len: usize, at: usize, room: usize) -> bool
+    ensures { IsTrue result ↔ (len - at ≤ room) }
+{
+    len.saturating_sub(at) <= room
 }

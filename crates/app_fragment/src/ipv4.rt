@@ -2,8 +2,9 @@
 
 ghost use Rattle.std.specs.Prelude.{◌≡◌, ◌↔◌, ◌+◌, ◌-◌, ◌≤◌, ◌++◌, Bool, IfSome, IsSome, IsTrue, None, drop, length, slice_range};
 ghost use Rattle.ip_wire.specs.Ipv4.{HasChecksum, HasLengths, fragment_offset, header_len, ip_version_of, packet_bytes, total_len, with_checksum};
-ghost use Rattle.app_fragment.specs.Ipv4Fragments.{IsAllowed, MayBeFragmented, MayBegin, fragment_bytes, fragment_header, fragment_len, has_more, header_at, next_place, options_at, payload_len, with_ident, with_place};
+ghost use Rattle.app_fragment.specs.Ipv4Fragments.{IsAllowed, IsIpv4, MayBeFragmented, MayBegin, fragment_bytes, fragment_header, fragment_len, has_more, header_at, next_place, options_at, payload_len, place_of, with_ident, with_place};
 
+use crate::cut::numbered_place;
 use crate::options::replace_options;
 use ip_wire::laws::field::bytes_fit;
 use ip_wire::{IPV4_HEADER_LEN, Ipv4Packet, Ipv4PacketMut};
@@ -66,14 +67,37 @@ pub fn fragment_ipv4(
     Some(Written { len, next })
 }
 
+/// Where the fragment of this number begins in the payload of an IPv4 packet, as `fragment_ipv4` takes it. The first has
+/// number 0. Returns `None` after the last one.
+pub fn ipv4_place(packet: &[u8], mtu: usize, number: usize) -> Option<usize>
+    requires { HasLengths packet.now }
+    ensures { result ≡ place_of packet.now mtu number }
+{
+    let view = Ipv4Packet::new_unchecked(packet);
+    let header_len = usize::from(view.header_len());
+    let payload_len = usize::from(view.total_len()) - header_len;
+    numbered_place(payload_len, mtu.saturating_sub(header_len), number)
+}
+
+/// Whether the lengths, the version and the checksum are right.
+pub(crate) fn is_ipv4(packet: &[u8]) -> bool
+    ensures { IsTrue result ↔ IsIpv4 packet.now }
+{
+    let view = Ipv4Packet::new_unchecked(packet);
+    if view.check_len().is_err() || view.version() != 4 {
+        return false;
+    }
+    view.verify_checksum()
+}
+
 // Whether the header is valid, and the packet may be fragmented.
 fn may_be_fragmented(packet: &[u8], ident: Option<u16>, mtu: usize) -> bool
     ensures { IsTrue result ↔ MayBeFragmented ident packet.now mtu }
 {
-    let view = Ipv4Packet::new_unchecked(packet);
-    if view.check_len().is_err() || view.version() != 4 || !view.verify_checksum() {
+    if !is_ipv4(packet) {
         return false;
     }
+    let view = Ipv4Packet::new_unchecked(packet);
     let payload_len = usize::from(view.total_len()) - usize::from(view.header_len());
     is_allowed(&view, ident, mtu) && usize::from(view.frag_offset()) + payload_len <= 65535
 }

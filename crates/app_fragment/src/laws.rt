@@ -1,12 +1,16 @@
 //! Laws of fragments and the packets that they make. The bodies of those about IPv4 make a call of `fragment_ipv4`
 //! or of `Datagram::write`.
 
-ghost use Rattle.std.specs.Prelude.{◌≡◌, ◌≢◌, ◌↔◌, ◌+◌, ◌<◌, ◌≤◌, ◌++◌, ◌∷◌, ◌*◌, IfSome, List, drop, false, length, slice_range, take, ℕ};
+ghost use Rattle.std.specs.Prelude.{◌≡◌, ◌≢◌, ◌↔◌, ◌+◌, ◌<◌, ◌≤◌, ◌++◌, ◌∷◌, ◌*◌, ◌⊎◌, IfSome, List, drop, false, length, slice_range, take, ℕ};
 ghost use Rattle.app_fragment.specs.Datagram.{Collects, fragments_of};
-ghost use Rattle.app_fragment.specs.Fragments.{Among, Covers, Cut, Fragment, IsPartOf, Make};
+ghost use Rattle.app_fragment.specs.Fragments.{Among, AreNumbered, Covers, Cut, Fragment, IsPartOf, Make};
 ghost use Rattle.app_fragment.specs.Ipv4Fragments.{IsCommon, fragment_of, options_at, payload_len, payload_of};
+ghost use Rattle.app_fragment.specs.Parts.{whole_payload};
 ghost use Rattle.ip_wire.specs.Field.{bit};
 ghost use Rattle.ip_wire.specs.Ipv4.{checksum_of, dont_frag_of, fragment_offset, header_len, ident_of, is_fragment, total_len};
+
+pub mod ipv6;
+pub mod partials;
 
 use crate::datagram::Datagram;
 use crate::ipv4::{Written, fragment_ipv4};
@@ -27,6 +31,13 @@ pub fn fragments_in_any_order()
 /// The fragments that a payload is cut into make its packet.
 pub fn cut_packet_is_made()
     ensures { (fs : List Fragment) (packet : List ℕ) → 0 < length packet → Cut packet 0 fs → Make fs packet }
+{}
+
+/// The fragments of the numbers from 0 on, up to the last one, cut the payload: each begins where the one before it ends.
+/// `numbered_place` says where they begin, `ipv4_place` and `ipv6_place` in a packet.
+pub fn numbered_fragments_cut_the_payload()
+    ensures { (room : ℕ) (payload : List ℕ) → (8 ≤ room) ⊎ (length payload ≤ room)
+        → (fs : List Fragment) × AreNumbered room payload 0 fs × Cut payload 0 fs }
 {}
 
 /// The fragments of a packet that is no fragment cut its payload: the written one is the first of those from `at` on, and
@@ -109,8 +120,8 @@ pub fn packet_that_fits_is_copied(packet: &[u8], mtu: usize, out: &mut [u8]) -> 
     fragment_ipv4(packet, 0, mtu, None, out)
 }
 
-/// A datagram is put together from the fragments that its payload was cut into, in any order and with copies: the payload
-/// is the same.
+/// A packet is put together from the fragments that its payload was cut into, in any order and with copies: the payload is
+/// the same.
 pub fn datagram_has_the_payload(
     datagram: &Datagram,
     buffer: &[u8],
@@ -121,7 +132,7 @@ pub fn datagram_has_the_payload(
     requires small { length received.now < 65536 }
     ensures { IfSome result (λ len. (ps : List (List ℕ)) (fs : List Fragment) (payload : List ℕ)
         → Collects datagram.now buffer.now received.now ps → 0 < length payload → Cut payload 0 fs
-        → ((f : Fragment) → Among f fs ↔ Among f (fragments_of ps)) → payload_of out.new ≡ payload) }
+        → ((f : Fragment) → Among f fs ↔ Among f (fragments_of ps)) → whole_payload out.new ≡ payload) }
 {
     datagram.write(buffer, received, out)
 }

@@ -1,11 +1,12 @@
 //! A packet put together from its fragments, in memory of the caller: a buffer for the payload, and a byte for each 8
 //! bytes of it that says whether they were received (the data buffer and the fragment block bit table of RFC 791, section
-//! 3.2). The caller keeps one such memory for each packet, by `Ipv4FragKey` or its kin, and a time limit.
+//! 3.2). The caller keeps one such memory for each packet, by `FragKey`, and a time limit.
 
 ghost use Rattle.std.specs.Prelude.{[], ◌≡◌, ◌≢◌, ◌↔◌, ◌+◌, ◌*◌, ◌%◌, ◌<◌, ◌≤◌, ◌++◌, ◌∷◌, ◌⊎◌, ℕ, Bool, EachIndex, IsTrue, List, drop, false, length, slice_index, slice_range, take};
 ghost use Rattle.app_fragment.specs.Fragments.{Agree, Assembles, Fragment, HasBlock, Holds, IsBlockOf, IsIn, IsNewOrRepeated, IsShaped, Make, fragment};
 
 /// The ends of the fragments of a packet, in bytes of its payload.
+#[repr(C)]
 #[derive(Debug, Clone, Copy, PartialEq, Eq)]
 pub struct Ends {
     /// The end of the last fragment: the length of the payload. 0 until it is received.
@@ -68,6 +69,8 @@ pub fn insert(
         → Assembles buffer.old received.old ends.old fs
         → Assembles buffer.new received.new ends.new (fragment first more bytes.now ∷ fs) }
     ensures within { (result ≡ Inserted.Incomplete) ⊎ (result ≡ Inserted.Complete) → ends.new.len ≤ length buffer.new }
+    ensures len { (result ≡ Inserted.Incomplete) ⊎ (result ≡ Inserted.Complete)
+        → (IsTrue more → ends.new.len ≡ ends.old.len) × (more ≡ false → ends.new.len ≡ 8 * first + length bytes.now) }
     ensures complete { result ≡ Inserted.Complete → (fs : List Fragment) → Assembles buffer.old received.old ends.old fs
         → Make (fragment first more bytes.now ∷ fs) (take ends.new.len buffer.new) }
     ensures missing { result ≡ Inserted.Incomplete → (fs : List Fragment) → Assembles buffer.old received.old ends.old fs

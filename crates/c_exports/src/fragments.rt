@@ -1,17 +1,17 @@
-//! Fragments of IPv4 packets.
+//! Fragments of IP packets.
 
 ghost use Rattle.c_routing.specs.Fragmented.{WritesFragment, fragment_failure, fragment_frame, ident_of};
 ghost use Rattle.c_structs.specs.Written.{within};
 
 use c_routing::write_fragment;
 
-/// Writes the fragment with this number of the IPv4 packet in a frame, in a frame of its own, and returns its length; 0
+/// Writes the fragment with this number of the IP packet in a frame, in a frame of its own, and returns its length; 0
 /// after the last fragment.
 #[unsafe(no_mangle)]
 pub extern "C" fn lk_fragment(
     frame: &[u8],
     mtu: usize,
-    ident: i32,
+    ident: i64,
     number: usize,
     out: &mut [u8],
 ) -> isize

@@ -12,6 +12,7 @@ pub mod links;
 pub mod nat;
 pub mod numbers;
 pub mod read_calls;
+pub mod reassembly;
 pub mod rebuild;
 pub mod routes;
 pub mod routing;

@@ -99,7 +99,7 @@ frame-cut bytes rest missing =
                 ∙ sym (fields_of_short all (omega (arith, size, none)) ∙ ap nothing_of size))
             | inr more ↦
                 cut-as _ _ _ _ (cut ∙ ap (λ (b : Bool). rejected (nothing_of len) (if b then reason.TooShort else reason.HeaderCut)) (lt-false len 14 more)) refl
-                (inr (
+                (inr (inl (
                   link,
                   record {
                     reason = refl;
@@ -107,7 +107,7 @@ frame-cut bytes rest missing =
                     missing = subst (λ (k : ℕ). length bytes < k) (sym (frame-begins all (omega (arith, size, more)))) few;
                     fields = refl;
                   },
-                ))
+                )))
           ]
       | inr h ↦
           let v = ethernet.header_of bytes in

@@ -165,7 +165,7 @@ fragment-front bytes rest h = rw (field-front bytes rest 50 1 (omega (arith, h))
 fields-front : (f : FrameFields) (bytes rest : List ℕ) (v : Ipv4Repr) (n : ℕ) → 20 ≤ length bytes → ipv4.header_len bytes ≤ length bytes
     → with_ipv4_fields f (bytes ++ rest) v n ≡ with_ipv4_fields f bytes v n
 fields-front f bytes rest v n h captured =
-    rw (field-front bytes rest 4 4 (omega (arith, h)), take-append-le (ipv4.header_len bytes) bytes rest captured, values-front v bytes rest h, fragment-front bytes rest h) refl
+    rw (field-front bytes rest 4 4 (omega (arith, h)), take-append-le (ipv4.header_len bytes) bytes rest captured, values-front v bytes rest h, fragment-front bytes rest h, field-front bytes rest 72 8 (omega (arith, h))) refl
 
 -- the whole packet, by the captured header and the payload
 some-front : (f : FrameFields) (bytes rest payload : List ℕ) → 20 ≤ length bytes → ipv4.header_len bytes ≤ length bytes

@@ -1,6 +1,6 @@
 -- The struct of an IPv6 packet that was not captured as a whole.
-use Rattle.std.proofs.Common.{ℕ, ◌≡◌, ◌∙◌, ◌≤◌, ◌<◌, inl, inr, ◌+◌, ◌-◌, ◌==◌, ◌&&◌, ◌||◌, not, nat_le, nat_lt, if◌then◌else◌, Bool, true, false, List, ◌++◌, Option, Some, None, ap, drop, length, refl, slice_range, subst, sym, take, arith}
-use Rattle.std.proofs.lemmas.Bool.{cases_lt}
+use Rattle.std.proofs.Common.{ℕ, ◌≡◌, ◌∙◌, ◌≤◌, ◌<◌, inl, inr, ◌+◌, ◌*◌, ◌-◌, ◌==◌, ◌&&◌, ◌||◌, not, nat_le, nat_lt, if◌then◌else◌, Bool, true, false, List, ◌++◌, Option, Some, None, ap, drop, length, refl, slice_range, subst, sym, take, arith}
+use Rattle.std.proofs.lemmas.Bool.{cases_lt, eqb-true}
 use Rattle.std.proofs.lemmas.List.{drop-append-le}
 use Rattle.std.specs.Option.{option_map_or}
 use Rattle.ip_wire.proofs.Layers.{length-part}
@@ -8,17 +8,24 @@ use Rattle.ip_wire.specs.Field.{field}
 use Rattle.ip_wire.specs.Ip.{dst_addr_of, src_addr_of}
 use Rattle.ip_wire.specs.Ipv6 as ipv6
 use Rattle.ip_wire.specs.Ipv6.{ipv6_of}
-use Rattle.ip_wire.specs.Ipv6Fragment as fragment
-use Rattle.ip_wire.specs.Types.{IpProtocol, Ipv6, Ipv6Repr}
-use Rattle.ip_wire.specs.declared.IpProtocol.TheVariants as protocol
+use Rattle.ip_wire.specs.Protocol.{protocol_of}
+use Rattle.ip_wire.specs.Types.{Ipv6, Ipv6Repr}
+use Rattle.ip_wire.specs.declared.IpAddress.TheVariants as address
+use Rattle.ip_wire.specs.declared.Ipv6FragmentRepr.{Ipv6FragmentRepr}
+use Rattle.c_structs.specs.Written.{flag}
 use Rattle.c_structs.specs.declared.codes.Reason.TheVariants as reason
 use Rattle.c_structs.specs.declared.types.FrameFields.{FrameFields}
 use Rattle.c_structs.specs.declared.types.Ip.{Ip}
 use Rattle.c_read.proofs.CutBytes.{field-front, le-false, le-true, longer, lt-false, lt-true, range-following, range-front}
+use Rattle.c_read.proofs.ChainSteps.{chain-right}
+use Rattle.c_read.proofs.CutChain.{CutsChain, chain-front}
 use Rattle.c_read.proofs.CutIpv4.{bool, cut-by, dropped}
-use Rattle.c_read.proofs.CutOf.{IsNext, IsStart, cut-as, cut-network, fragment-beside, rejected-next, same-of, start-network, start-rejected, start-transport, stored-next, transport-follows}
-use Rattle.c_read.specs.Captured.{IsCutOf, before, begun_ipv6, cut_fragment, cut_fragment_by, cut_header, cut_ipv6, cut_transport_by, fragment_header, transport_header}
-use Rattle.c_read.specs.FrameFields.{ipv6_fault, ipv6_values, rejected, with_fragment, with_fragment_by, with_fragment_header, with_ipv6, with_ipv6_fields, with_ipv6_header, with_payload, with_transport_by}
+use Rattle.c_read.proofs.CutOf.{IsNext, IsStart, KeepsBefore, cut-as, cut-network, rejected-next, same-of, start-network, start-rejected, start-transport, stored-next, transport-before, transport-follows}
+use Rattle.c_read.proofs.StoredChain.{a-fault, cut-extension-kept, extension-kept, no-part}
+use Rattle.c_read.specs.Captured.{IsCutOf, IsCutWithin, after_network, before, begun_ipv6, cut_extended, cut_header, cut_ipv6, transport_header}
+use Rattle.c_read.specs.FrameFields.{fragment_values, ipv6_fault, ipv6_values, rejected, with_chain, with_extended, with_ipv6, with_ipv6_fields, with_ipv6_header, with_transport_by}
+use Rattle.c_read.specs.Ipv6Chain.{chain_of, is_part}
+use Rattle.c_read.specs.declared.ipv6_chain.Chain.{Chain}
 
 -- ---- whether the bytes are a header
 
@@ -36,7 +43,7 @@ present bytes e = rw e refl
 
 -- the struct of a packet, by its header and its payload
 abbrev carrying : FrameFields → Ipv6Repr → List ℕ → FrameFields
-carrying next v payload = with_payload (with_fragment_by next v.next_header payload) (Ipv6 v) payload
+carrying next v payload = with_extended next (src_addr_of (Ipv6 v)) (dst_addr_of (Ipv6 v)) payload
 
 abbrev shape : FrameFields → List ℕ → Option Ipv6Repr → FrameFields
 shape f bytes o = option_map_or (λ v. carrying (with_ipv6_header f bytes v) v (ipv6.payload_of bytes)) o (rejected f (ipv6_fault bytes))
@@ -56,11 +63,11 @@ ipv6-next f bytes len start fits few = elim (bool (ipv6.is_read bytes)) [
       let v = ipv6.header_of bytes in
       let payload = ipv6.payload_of bytes in
       let next = with_ipv6_fields f bytes v (length payload) in
-      let part = with_fragment_by next v.next_header payload in
-      let beside = fragment-beside next v.next_header payload in
-      let follows = transport-follows part v.next_header (src_addr_of (Ipv6 v)) (dst_addr_of (Ipv6 v)) payload (beside.transport ∙ start-transport f start) (beside.rejected ∙ start-rejected f start) in
+      let c = chain_of next.protocol (length payload) payload in
+      let part = with_chain next c in
+      let follows = transport-follows part (protocol_of c.protocol) (src_addr_of (Ipv6 v)) (dst_addr_of (Ipv6 v)) (drop c.len payload) (start-transport f start) (start-rejected f start) in
       subst (λ g. IsNext f g len) (sym (some f bytes read))
-      (stored-next f part (carrying next v payload) len 40 follows (ap (λ (k : ℕ). k == 0) beside.network) beside.ethernet beside.offset beside.after few)
+      (stored-next f part (carrying next v payload) len (40 + c.len) follows refl refl refl (omega arith) (omega (arith, few)))
 ]
 
 -- ---- the header with more bytes after it
@@ -89,7 +96,7 @@ values-front i v bytes rest h =
     rw (field-front bytes rest 12 20 (omega (arith, h)), field-front bytes rest 48 8 (omega (arith, h)), field-front bytes rest 4 8 (omega (arith, h))) refl
 
 fields-front : (f : FrameFields) (bytes rest : List ℕ) (v : Ipv6Repr) (n : ℕ) → 40 ≤ length bytes → with_ipv6_fields f (bytes ++ rest) v n ≡ with_ipv6_fields f bytes v n
-fields-front f bytes rest v n h = rw (values-front f.ip v bytes rest h) refl
+fields-front f bytes rest v n h = rw (values-front f.ip v bytes rest h, field-front bytes rest 48 8 (omega (arith, h))) refl
 
 -- the whole packet, by the captured header and the payload
 some-front : (f : FrameFields) (bytes rest payload : List ℕ) → 40 ≤ length bytes → tested (ipv6.total_len bytes) (field bytes 0 4) (length (bytes ++ rest)) ≡ true
@@ -111,44 +118,138 @@ none-front : (f : FrameFields) (bytes rest : List ℕ) → 40 ≤ length bytes �
     → with_ipv6 f (bytes ++ rest) ≡ rejected f (ipv6_fault bytes)
 none-front f bytes rest h e = none f (bytes ++ rest) (read-front bytes rest h ∙ e) ∙ ap (rejected f) (fault-front bytes rest h)
 
--- ---- the fragment header
+-- ---- the extension headers
 
-part-front : (bytes rest : List ℕ) → 8 ≤ length bytes → fragment.header_of (drop 2 (bytes ++ rest)) ≡ fragment.header_of (drop 2 bytes)
-part-front bytes rest h =
-    let front = drop 2 bytes in
-    let size : length front ≡ length bytes - 2 = dropped 2 bytes in
-    rw (
-      drop-append-le 2 bytes rest (omega (arith, h)),
-      field-front front rest 0 13 (omega (arith, size, h)),
-      field-front front rest 15 1 (omega (arith, size, h)),
-      field-front front rest 16 32 (omega (arith, size, h)),
-    ) refl
+-- nothing after the IPv6 header is stored yet
+record IsBare (f : FrameFields) : Type 0 where
+  clean : f ≡ before transport_header f
+  after : f.payload_offset ≡ f.network_offset + 40
+  ip : f.ip ≡ record f.ip { ident = 0; fragment_offset = 0; more_fragments = 0 }
+  whole : f.is_fragment ≡ 0
 
--- no fragment header is stored yet
-abbrev IsWhole : FrameFields → Type 0
-IsWhole f = f ≡ before fragment_header f
+chain-clean : (f : FrameFields) (c : Chain) → f ≡ before transport_header f → with_chain f c ≡ before transport_header (with_chain f c)
+chain-clean f c clean = ap (λ (g : FrameFields). with_chain g c) clean ∙ sym (ap (λ (g : FrameFields). before transport_header (with_chain g c)) clean)
 
-abbrev tests : FrameFields → List ℕ → Bool → Bool → FrameFields
-tests f bytes none few = if none then f else if few then rejected f reason.HeaderCut else with_fragment_header f (fragment.header_of (drop 2 bytes))
+-- the values of the IP header, but for those of a fragment header
+other-values : (i : Ip) (o : Option Ipv6FragmentRepr) → record (option_map_or (fragment_values i) o i) { ident = 0; fragment_offset = 0; more_fragments = 0 }
+    ≡ record i { ident = 0; fragment_offset = 0; more_fragments = 0 }
+other-values i None = refl
+other-values i (Some v) = refl
 
-cut-fragment : (n : ℕ) (f : FrameFields) (bytes rest : List ℕ) → IsWhole f → f.payload_len ≡ length (bytes ++ rest) → n ≡ f.payload_offset + length bytes
-    → IsCutOf n (cut_fragment f bytes) (with_fragment f (bytes ++ rest))
-cut-fragment n f bytes rest whole len place =
+not-part : (v : Ipv6FragmentRepr) → is_part v ≡ false → (v.more_frags ≡ false) × (v.frag_offset ≡ 0)
+not-part v none = by v.more_frags (v.frag_offset == 0) refl refl none
+  where
+    by : (a b : Bool) → v.more_frags ≡ a → (v.frag_offset == 0) ≡ b → (a || not b) ≡ false → (v.more_frags ≡ false) × (v.frag_offset ≡ 0)
+    by true b more at e = absurd (cc)
+    by false true more at e = (more, eqb-true v.frag_offset 0 at)
+    by false false more at e = absurd (cc)
+
+-- the values of an IP header after fragment headers of whole packets
+whole-values : (i : Ip) (o : Option Ipv6FragmentRepr) → i ≡ record i { ident = 0; fragment_offset = 0; more_fragments = 0 } → ((v : Ipv6FragmentRepr) → o ≡ Some v → is_part v ≡ false)
+    → option_map_or (fragment_values i) o i ≡ record i { ident = (option_map_or (fragment_values i) o i).ident; fragment_offset = 0; more_fragments = 0 }
+whole-values i None clean h =
+    let offset : i.fragment_offset ≡ 0 = ap (λ (j : Ip). j.fragment_offset) clean in
+    let more : i.more_fragments ≡ 0 = ap (λ (j : Ip). j.more_fragments) clean in
+    ap (λ (k : ℕ). record i { fragment_offset = k }) offset ∙ ap (λ (k : ℕ). record i { fragment_offset = 0; more_fragments = k }) more
+whole-values i (Some v) clean h =
+    let (more, offset) = not-part v (h v refl) in
+    ap (λ (k : ℕ). record i { ident = v.ident; fragment_offset = 8 * k; more_fragments = flag v.more_frags }) offset
+    ∙ ap (λ (b : Bool). record i { ident = v.ident; fragment_offset = 0; more_fragments = flag b }) more
+
+-- the struct after a chain that ends at a header that was cut, by that of the whole packet
+chain-fields : (f : FrameFields) (c d : Chain) (g : FrameFields) → IsBare f → KeepsBefore (with_chain f d) g → ((v : Ipv6FragmentRepr) → c.fragment ≡ Some v → is_part v ≡ false)
+    → let k = with_chain f c in k ≡ record (before transport_header g) {
+      ip = record g.ip { ident = k.ip.ident; fragment_offset = 0; more_fragments = 0 };
+      is_fragment = 0;
+      protocol = k.protocol;
+      reason = k.reason;
+      payload_offset = k.payload_offset;
+      payload_len = k.payload_len;
+    }
+chain-fields f c d g bare kept part =
+    let k = with_chain f c in
+    let values = whole-values f.ip c.fragment bare.ip part in
+    let whole = ap (λ (n : ℕ). option_map_or (λ v. flag (is_part v)) c.fragment n) bare.whole ∙ no-part c.fragment part in
+    ap (λ (e : FrameFields). record e { payload_offset = k.payload_offset; payload_len = k.payload_len; ip = k.ip; protocol = k.protocol; is_fragment = k.is_fragment; reason = k.reason }) bare.clean
+    ∙ ap (λ (i : Ip). record (before transport_header f) { payload_offset = k.payload_offset; payload_len = k.payload_len; ip = i; protocol = k.protocol; is_fragment = k.is_fragment; reason = k.reason }) values
+    ∙ ap (λ (n : ℕ). record (before transport_header f) {
+      payload_offset = k.payload_offset;
+      payload_len = k.payload_len;
+      ip = record f.ip { ident = k.ip.ident; fragment_offset = 0; more_fragments = 0 };
+      protocol = k.protocol;
+      is_fragment = n;
+      reason = k.reason;
+    }) whole
+    ∙ sym (ap (λ (i : Ip). record (before transport_header f) {
+      payload_offset = k.payload_offset;
+      payload_len = k.payload_len;
+      ip = record i { ident = k.ip.ident };
+      protocol = k.protocol;
+      is_fragment = 0;
+      reason = k.reason;
+    }) (other-values f.ip d.fragment))
+    ∙ sym (ap (λ (e : FrameFields). record e {
+      ip = record e.ip { ident = k.ip.ident; fragment_offset = 0; more_fragments = 0 };
+      is_fragment = 0;
+      protocol = k.protocol;
+      reason = k.reason;
+      payload_offset = k.payload_offset;
+      payload_len = k.payload_len;
+    }) kept)
+
+-- the chain of the captured bytes ends at a header that was cut
+within-chain : (n : ℕ) (f : FrameFields) (c d : Chain) (src dst bytes rest : List ℕ) → IsBare f → n ≡ f.payload_offset + length bytes → CutsChain (length bytes) c d
+    → IsCutWithin n (with_chain f c) (with_transport_by (with_chain f d) (protocol_of d.protocol) (address.Ipv6 src) (address.Ipv6 dst) rest)
+within-chain n f c d src dst bytes rest bare place cut =
+    let h = with_chain f d in
+    let p = protocol_of d.protocol in
+    let g = with_transport_by h p (address.Ipv6 src) (address.Ipv6 dst) rest in
+    let none = ap (λ (k : FrameFields). k.transport) bare.clean in
+    let unsaid = ap (λ (k : FrameFields). k.rejected) bare.clean in
+    let follows = transport-follows h p (address.Ipv6 src) (address.Ipv6 dst) rest none unsaid in
+    let kept = transport-before h p (address.Ipv6 src) (address.Ipv6 dst) rest in
+    let begins : after_network g ≡ f.payload_offset + d.len = follows.begins in
+    let after = bare.after in
+    let order = cut.order in
+    record {
+      reason = a-fault c.fault reason.HeaderCut f.reason cut.fault;
+      after = rw follows.offset (omega (arith, after));
+      missing = elim cut.missing [
+        | inl past ↦ inl (rw begins (omega (arith, place, past)))
+        | inr (same, number) ↦
+            inr (ap (λ (k : ℕ). f.payload_offset + k) (sym same) ∙ sym (ap (λ (k : FrameFields). k.payload_offset) (extension-kept h d.protocol src dst rest number)))
+      ];
+      order = rw begins (omega (arith, order));
+      fields = chain-fields f c d g bare kept cut.part;
+    }
+
+-- what a chain leads to
+abbrev led : FrameFields → List ℕ → List ℕ → List ℕ → Chain → FrameFields
+led f src dst bytes c = with_transport_by (with_chain f c) (protocol_of c.protocol) (address.Ipv6 src) (address.Ipv6 dst) (drop c.len bytes)
+
+extended-cut : (n : ℕ) (f : FrameFields) (src dst bytes rest : List ℕ) → IsBare f → f.payload_len ≡ length (bytes ++ rest) → n ≡ f.payload_offset + length bytes
+    → length bytes < f.payload_len → IsCutOf n (cut_extended f (address.Ipv6 src) (address.Ipv6 dst) bytes) (with_extended f (address.Ipv6 src) (address.Ipv6 dst) (bytes ++ rest))
+extended-cut n f src dst bytes rest bare len place missing =
     let all = bytes ++ rest in
-    let next = λ (b : Bool). if b then f else with_fragment_header f (fragment.header_of (drop 2 all)) in
-    elim (cases_lt f.payload_len 8) [
-      | inl few ↦
-          same-of _ _ (ap (λ (b : Bool). tests f bytes b (nat_lt (length bytes) 8)) (lt-true f.payload_len 8 few) ∙ sym (ap next (lt-true (length all) 8 (omega (arith, few, len)))))
-      | inr there ↦
-          let stored = ap next (lt-false (length all) 8 (omega (arith, there, len))) in
-          let first = ap (λ (b : Bool). tests f bytes b (nat_lt (length bytes) 8)) (lt-false f.payload_len 8 there) in
-          elim (cases_lt (length bytes) 8) [
-            | inl few ↦
-                cut-as _ _ _ _ (first ∙ ap (λ (b : Bool). tests f bytes false b) (lt-true (length bytes) 8 few)) stored
-                (inr (fragment_header, record { reason = refl; offset = refl; missing = omega (arith, place, few); fields = ap (λ (h : FrameFields). rejected h reason.HeaderCut) whole }))
-            | inr h ↦
-                same-of _ _ (first ∙ ap (λ (b : Bool). tests f bytes false b) (lt-false (length bytes) 8 h) ∙ sym (stored ∙ ap (with_fragment_header f) (part-front bytes rest h)))
-          ]
+    let c = chain_of f.protocol f.payload_len bytes in
+    let d = chain_of f.protocol f.payload_len all in
+    let found : with_extended f (address.Ipv6 src) (address.Ipv6 dst) all ≡ led f src dst all d =
+    ap (λ (k : ℕ). led f src dst all (chain_of f.protocol k all)) (sym len) in
+    elim (chain-front f.protocol f.payload_len bytes rest len) [
+      | inr cut ↦
+          cut-as _ _ _ _ (cut-extension-kept (with_chain f c) c.protocol src dst (drop c.len bytes) cut.number) found
+          (inr (inr (within-chain n f c d src dst bytes (drop d.len all) bare place cut)))
+      | inl same ↦
+          let within = (chain-right f.protocol f.payload_len bytes).within in
+          let size = dropped c.len bytes in
+          let more = longer bytes rest in
+          let left = longer (drop c.len bytes) rest in
+          let p = protocol_of c.protocol in
+          let whole = found ∙ ap (led f src dst all) (sym same)
+          ∙ ap (with_transport_by (with_chain f c) p (address.Ipv6 src) (address.Ipv6 dst)) (drop-append-le c.len bytes rest within) in
+          cut-as _ _ _ _ refl whole
+          (cut-by n (with_chain f c) p (address.Ipv6 src) (address.Ipv6 dst) (drop c.len bytes) rest (chain-clean f c bare.clean)
+          (omega (arith, len, more, left, size, within)) (omega (arith, place, size, within)) (omega (arith, size, within, missing)))
     ]
 
 -- ---- the cases
@@ -196,18 +297,12 @@ begun n f bytes rest start h cut whole version place =
     let found = some-front f bytes rest (front ++ back) h s payload ∙ ap (λ (n : ℕ). carrying (with_ipv6_fields f bytes v n) v (front ++ back)) count in
     let first = ap (λ (g : FrameFields). with_ipv6_fields g bytes v v.payload_len) start in
     let clean : next ≡ before transport_header next = first ∙ sym (ap (λ (g : FrameFields). before transport_header (with_ipv6_fields g bytes v v.payload_len)) start) in
-    let unbroken : IsWhole next = first ∙ sym (ap (λ (g : FrameFields). before fragment_header (with_ipv6_fields g bytes v v.payload_len)) start) in
+    let values = ap (λ (g : FrameFields). (with_ipv6_fields g bytes v v.payload_len).ip) start
+    ∙ sym (ap (λ (g : FrameFields). record (with_ipv6_fields g bytes v v.payload_len).ip { ident = 0; fragment_offset = 0; more_fragments = 0 }) start) in
     let many : length front ≡ length bytes - 40 = dropped 40 bytes in
-    cut-as _ _ _ _ refl found (by v.next_header next front back v clean unbroken (sym count) (omega (arith, place, many, h)) (omega (arith, many, h, cut, size)))
-  where
-    by : (p : IpProtocol) (next : FrameFields) (front back : List ℕ) (v : Ipv6Repr) → next ≡ before transport_header next → IsWhole next → next.payload_len ≡ length (front ++ back)
-        → n ≡ next.payload_offset + length front → length front < next.payload_len
-        → IsCutOf n (cut_transport_by (cut_fragment_by next p front) p (src_addr_of (Ipv6 v)) (dst_addr_of (Ipv6 v)) front)
-        (with_transport_by (with_fragment_by next p (front ++ back)) p (src_addr_of (Ipv6 v)) (dst_addr_of (Ipv6 v)) (front ++ back))
-    by protocol.Ipv6Frag next front back v clean unbroken len place missing = cut-fragment n next front back unbroken len place
-    by protocol.Udp next front back v clean unbroken len place missing = cut-by n next protocol.Udp (src_addr_of (Ipv6 v)) (dst_addr_of (Ipv6 v)) front back clean len place missing
-    by protocol.Tcp next front back v clean unbroken len place missing = cut-by n next protocol.Tcp (src_addr_of (Ipv6 v)) (dst_addr_of (Ipv6 v)) front back clean len place missing
-    by p next front back v clean unbroken len place missing = cut-by n next p (src_addr_of (Ipv6 v)) (dst_addr_of (Ipv6 v)) front back clean len place missing
+    cut-as _ _ _ _ refl found
+    (extended-cut n next v.src_addr v.dst_addr front back (record { clean = clean; after = refl; ip = values; whole = ap (λ (g : FrameFields). g.is_fragment) start })
+    (sym count) (omega (arith, place, many, h)) (omega (arith, many, h, cut, size)))
 
 -- what the cut reader stores, by its tests
 abbrev stored : FrameFields → List ℕ → Bool → Bool → Bool → Bool → FrameFields

@@ -1,7 +1,6 @@
 -- The struct of captured bytes, compared with that of the whole frame.
-use Rattle.std.proofs.Common.{ℕ, ◌≡◌, ◌∙◌, ◌≤◌, ◌<◌, ◌+◌, ◌==◌, nat_lt, if◌then◌else◌, Bool, true, false, List, drop, length, Option, None, Some, ap, inl, inr, refl, subst, sym, arith}
+use Rattle.std.proofs.Common.{ℕ, ◌≡◌, ◌∙◌, ◌≤◌, ◌<◌, ◌+◌, ◌==◌, nat_lt, if◌then◌else◌, Bool, true, false, List, length, Option, None, Some, ap, inl, inr, refl, subst, sym, arith}
 use Rattle.std.specs.Option.{option_map_or}
-use Rattle.ip_wire.specs.Ipv6Fragment as fragment
 use Rattle.ip_wire.specs.Tcp as tcp
 use Rattle.ip_wire.specs.TcpRepr.{tcp_of}
 use Rattle.ip_wire.specs.Types.{IpAddress, IpProtocol}
@@ -15,7 +14,7 @@ use Rattle.c_structs.specs.declared.codes.Reason.TheVariants as reason
 use Rattle.c_structs.specs.declared.types.Ethernet.{Ethernet}
 use Rattle.c_structs.specs.declared.types.FrameFields.{FrameFields}
 use Rattle.c_read.specs.Captured.{IsCutOf, after_network, before, begin_of, end_of, network, payload_end, transport_header}
-use Rattle.c_read.specs.FrameFields.{after_header, has_message, rejected, rejected_transport, tcp_fault, udp_fault, with_fragment_by, with_fragment_header, with_icmp, with_tcp_header, with_transport_by, with_udp_header}
+use Rattle.c_read.specs.FrameFields.{after_header, has_message, rejected, rejected_transport, tcp_fault, udp_fault, with_icmp, with_tcp_header, with_transport_by, with_udp_header}
 
 -- equal structs
 pub same-of : {n : ℕ} (f g : FrameFields) → f ≡ g → IsCutOf n f g
@@ -38,7 +37,7 @@ pub cut-transport : (n : ℕ) (f g : FrameFields) (least : ℕ) → f ≡ before
 cut-transport n f g least fresh past few =
     let first : rejected f reason.HeaderCut ≡ record (before transport_header f) { reason = 8 } = ap (λ (h : FrameFields). rejected h reason.HeaderCut) fresh in
     let last = ap (λ (h : FrameFields). record h { reason = 8; payload_offset = f.payload_offset; payload_len = f.payload_len }) past.kept in
-    inr (transport_header, record { reason = refl; offset = sym past.begins; missing = subst (λ (k : ℕ). n < k) (sym past.ends) few; fields = first ∙ sym last })
+    inr (inl (transport_header, record { reason = refl; offset = sym past.begins; missing = subst (λ (k : ℕ). n < k) (sym past.ends) few; fields = first ∙ sym last }))
 
 -- ---- properties of a choice
 
@@ -79,7 +78,7 @@ pub cut-network : (n : ℕ) (f g : FrameFields) (len : ℕ) → IsStart f → Is
 cut-network n f g len start next few =
     let first = ap (λ (h : FrameFields). rejected h reason.HeaderCut) start in
     let last = ap (λ (e : Ethernet). record (nothing_of 0) { ethernet = e; reason = 8; payload_offset = f.payload_offset; payload_len = f.payload_len }) next.ethernet in
-    inr (network, record { reason = refl; offset = sym next.begins; missing = before-end n (f.payload_offset + len) (end_of network g) few next.ends; fields = first ∙ sym last })
+    inr (inl (network, record { reason = refl; offset = sym next.begins; missing = before-end n (f.payload_offset + len) (end_of network g) few next.ends; fields = first ∙ sym last }))
 
 -- a header that is rejected
 pub rejected-next : (f : FrameFields) (why : Reason) (len : ℕ) → f.network ≡ 0 → len ≤ f.payload_len → IsNext f (rejected f why) len
@@ -130,20 +129,17 @@ transport-follows f protocol.Tcp src dst bytes transport none =
 transport-follows f p src dst bytes transport none =
     if-has (Follows f) (has_message p src bytes) (with_icmp f bytes (icmp_verdict src dst bytes)) f (record { ethernet = refl; network = refl; offset = refl; begins = refl }) (nothing-follows f reason.TooShort transport none).0
 
--- a fragment header keeps these fields
-pub record IsBeside (f g : FrameFields) : Type 0 where
-  pub ethernet : g.ethernet ≡ f.ethernet
-  pub network : g.network ≡ f.network
-  pub offset : g.network_offset ≡ f.network_offset
-  pub after : g.payload_offset ≡ f.payload_offset
-  pub transport : g.transport ≡ f.transport
-  pub rejected : g.rejected ≡ f.rejected
+-- what a transport leaves as it is
+abbrev pub KeepsBefore : FrameFields → FrameFields → Type 0
+KeepsBefore f g = before transport_header g ≡ record (before transport_header f) { reason = g.reason; payload_offset = g.payload_offset; payload_len = g.payload_len }
 
-beside-itself : (f : FrameFields) → IsBeside f f
-beside-itself f = record { ethernet = refl; network = refl; offset = refl; after = refl; transport = refl; rejected = refl }
-
-pub fragment-beside : (f : FrameFields) (p : IpProtocol) (bytes : List ℕ) → IsBeside f (with_fragment_by f p bytes)
-fragment-beside f protocol.Ipv6Frag bytes =
-    if-has (IsBeside f) (nat_lt (length bytes) 8) f (with_fragment_header f (fragment.header_of (drop 2 bytes))) (beside-itself f)
-    (record { ethernet = refl; network = refl; offset = refl; after = refl; transport = refl; rejected = refl })
-fragment-beside f p bytes = beside-itself f
+pub transport-before : (f : FrameFields) (p : IpProtocol) (src dst : IpAddress) (bytes : List ℕ) → KeepsBefore f (with_transport_by f p src dst bytes)
+transport-before f protocol.Udp src dst bytes =
+    if-has (KeepsBefore f) (nat_lt (length bytes) 8) (rejected f reason.TooShort) _ refl
+    (choice-has (KeepsBefore f) (udp_of src dst false bytes) (λ u. after_header (with_udp_header f src dst bytes) 8 (length (udp.payload_of bytes))) (rejected_transport (with_udp_header f src dst bytes) (udp_fault bytes))
+    (λ u. refl) refl)
+transport-before f protocol.Tcp src dst bytes =
+    if-has (KeepsBefore f) (nat_lt (length bytes) 20) (rejected f reason.TooShort) _ refl
+    (choice-has (KeepsBefore f) (tcp_of src dst false bytes) (λ u. after_header (with_tcp_header f src dst bytes) (tcp.header_len bytes) (length (tcp.payload_of bytes))) (rejected_transport (with_tcp_header f src dst bytes) (tcp_fault bytes (length bytes)))
+    (λ u. refl) refl)
+transport-before f p src dst bytes = if-has (KeepsBefore f) (has_message p src bytes) (with_icmp f bytes (icmp_verdict src dst bytes)) f refl refl

@@ -179,8 +179,8 @@ options-fields f bytes clean = ap (λ (i : Icmp). record (rejected_transport (wi
 options-cut : (n : ℕ) (o : Option TcpHeader) (f : FrameFields) (bytes : List ℕ) (header_len len : ℕ) (why : Reason) (v : Verdict) → f.icmp ≡ no_icmp
     → n < f.payload_offset + tcp.header_len bytes
     → IsCutOf n (rejected_transport (with_tcp_fields f bytes verdict.ChecksumCut) reason.HeaderCut) (shape o (with_tcp_fields f bytes v) header_len len why)
-options-cut n None f bytes header_len len why v clean few = inr (options, record { reason = refl; offset = refl; missing = few; fields = options-fields f bytes clean })
-options-cut n (Some x) f bytes header_len len why v clean few = inr (options, record { reason = refl; offset = refl; missing = few; fields = options-fields f bytes clean })
+options-cut n None f bytes header_len len why v clean few = inr (inl (options, record { reason = refl; offset = refl; missing = few; fields = options-fields f bytes clean }))
+options-cut n (Some x) f bytes header_len len why v clean few = inr (inl (options, record { reason = refl; offset = refl; missing = few; fields = options-fields f bytes clean }))
 
 -- value and fault are those of the whole segment
 both : (n : ℕ) (f : FrameFields) (src dst : IpAddress) (bytes rest : List ℕ) (o : Option TcpHeader) (why : Reason) → 20 ≤ length bytes → f.payload_len ≡ length (bytes ++ rest)

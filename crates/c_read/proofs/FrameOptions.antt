@@ -32,9 +32,9 @@ use Rattle.c_structs.specs.declared.codes.Reason.TheVariants as reason
 use Rattle.c_structs.specs.declared.types.FrameFields.{FrameFields}
 use Rattle.c_read.proofs.CutBytes.{field-front}
 use Rattle.c_read.proofs.StoredHeaders.{is-headed}
-use Rattle.c_read.specs.FrameFields.{after_header, fields_of, rejected, rejected_transport, tcp_fault, udp_fault, with_carried, with_fragment_by, with_frame, with_ipv4_header, with_ipv6_header, with_message, with_payload, with_tcp_header, with_transport_by, with_udp_header, has_message, with_icmp}
+use Rattle.c_read.specs.FrameFields.{after_header, fields_of, rejected, rejected_transport, tcp_fault, udp_fault, with_carried, with_extended, with_frame, with_ipv4_header, with_ipv6_header, with_message, with_payload, with_tcp_header, with_transport_by, with_udp_header, has_message, with_icmp}
 use Rattle.c_read.specs.FrameOptions.{header_in}
-use Rattle.c_read.specs.Stored.{Locates, headed, linked}
+use Rattle.c_read.specs.Stored.{Locates, headed, linked, upper_payload, upper_protocol}
 use Rattle.c_read.specs.TcpOptions.{ReadsItems}
 
 -- ---- the header of a segment
@@ -140,9 +140,9 @@ carried-placed frame v ethertype.Ipv4 =
 carried-placed frame v ethertype.Ipv6 =
     let f = linked frame v in
     let bytes = drop 14 frame in
-    by-value (ipv6_of bytes) (λ w. with_payload (with_fragment_by (with_ipv6_header f bytes w) w.next_header (ipv6.payload_of bytes)) (Ipv6 w) (ipv6.payload_of bytes)) _ frame
+    by-value (ipv6_of bytes) (λ w. with_extended (with_ipv6_header f bytes w) (src_addr_of (Ipv6 w)) (dst_addr_of (Ipv6 w)) (ipv6.payload_of bytes)) _ frame
     (λ w is. let h = is-headed frame v (Ipv6 w) ((ipv6_of-Reads bytes w).0 is) in
-    transport-placed (headed frame v (Ipv6 w)) w.next_header (src_addr_of (Ipv6 w)) (dst_addr_of (Ipv6 w)) frame (ipv6.payload_of bytes) h.transport h.payload)
+    transport-placed (headed frame v (Ipv6 w)) (upper_protocol (Ipv6 w) bytes) (src_addr_of (Ipv6 w)) (dst_addr_of (Ipv6 w)) frame (upper_payload (Ipv6 w) bytes) h.transport h.payload)
     (no-header _ frame refl)
 carried-placed frame v (ethertype.Unknown n) = no-header (linked frame v) frame refl
 

@@ -8,20 +8,23 @@ use Rattle.ip_wire.specs.Ipv4 as ipv4
 use Rattle.ip_wire.specs.Ipv4.{ipv4_of}
 use Rattle.ip_wire.specs.Ipv6 as ipv6
 use Rattle.ip_wire.specs.Ipv6.{ipv6_of}
-use Rattle.ip_wire.specs.Ipv6Fragment as fragment
+use Rattle.ip_wire.specs.Protocol.{protocol_of}
 use Rattle.ip_wire.specs.Tcp as tcp
 use Rattle.ip_wire.specs.TcpRepr.{tcp_of}
 use Rattle.ip_wire.specs.Udp as udp
 use Rattle.ip_wire.specs.Udp.{udp_of}
-use Rattle.ip_wire.specs.Types.{EthernetProtocol, EthernetRepr, IpAddress, IpProtocol, IpRepr, Ipv4, Ipv4Repr, Ipv6, Ipv6Repr}
+use Rattle.ip_wire.specs.Types.{EthernetProtocol, EthernetRepr, IpAddress, IpProtocol, IpRepr, Ipv4, Ipv4Repr, Ipv6Repr}
 use Rattle.ip_wire.specs.declared.EthernetProtocol.TheVariants as ethertype
+use Rattle.ip_wire.specs.declared.IpAddress.TheVariants as address
 use Rattle.ip_wire.specs.declared.IpProtocol.TheVariants as protocol
 use Rattle.c_structs.specs.Verdicts.{icmp_verdict}
 use Rattle.c_structs.specs.declared.codes.Reason.TheVariants as reason
 use Rattle.c_structs.specs.declared.types.FrameFields.{FrameFields}
 use Rattle.c_read.proofs.FieldsOf.{packet_fields_of-some}
 use Rattle.c_read.proofs.StoredHeaders.{fields_of-linked}
-use Rattle.c_read.specs.FrameFields.{bare_of, after_header, fields_of, ipv4_fault, ipv6_fault, packet_fields_of, rejected, rejected_transport, tcp_fault, udp_fault, with_carried, with_fragment_by, with_fragment_header, with_ipv4, with_ipv4_header, with_ipv6, with_ipv6_header, with_packet, with_payload, with_tcp, with_tcp_header, with_transport_by, with_udp, with_udp_header, has_message, with_icmp}
+use Rattle.c_read.specs.FrameFields.{bare_of, after_header, fields_of, ipv4_fault, ipv6_fault, packet_fields_of, rejected, rejected_transport, tcp_fault, udp_fault, with_carried, with_chain, with_extended, with_ipv4, with_ipv4_header, with_ipv6, with_ipv6_header, with_packet, with_payload, with_tcp, with_tcp_header, with_transport_by, with_udp, with_udp_header, has_message, with_icmp}
+use Rattle.c_read.specs.Ipv6Chain.{chain_of}
+use Rattle.c_read.specs.declared.ipv6_chain.Chain.{Chain}
 use Rattle.c_read.specs.Stored.{IsTypeOf, in_frame, linked}
 
 -- ---- choices
@@ -89,17 +92,23 @@ ipv6-header v f bytes w =
     let same : f.payload_offset + 14 + 40 ≡ f.payload_offset + 40 + 14 = omega arith in
     ap (λ (n : ℕ). record (in_frame v (with_ipv6_header f bytes w)) { payload_offset = n }) same
 
-fragment-in : (v : EthernetRepr) (f : FrameFields) (p : IpProtocol) (bytes : List ℕ) → with_fragment_by (in_frame v f) p bytes ≡ in_frame v (with_fragment_by f p bytes)
-fragment-in v f protocol.Ipv6Frag bytes = chosen v (nat_lt (length bytes) 8) f (with_fragment_header f (fragment.header_of (drop 2 bytes))) _ _ refl refl
-fragment-in v f p bytes = refl
+chain-in : (v : EthernetRepr) (f : FrameFields) (c : Chain) → with_chain (in_frame v f) c ≡ in_frame v (with_chain f c)
+chain-in v f c =
+    let same : f.payload_offset + 14 + c.len ≡ f.payload_offset + c.len + 14 = omega arith in
+    ap (λ (n : ℕ). record (in_frame v (with_chain f c)) { payload_offset = n }) same
+
+extended-in : (v : EthernetRepr) (f : FrameFields) (src dst : IpAddress) (bytes : List ℕ) → with_extended (in_frame v f) src dst bytes ≡ in_frame v (with_extended f src dst bytes)
+extended-in v f src dst bytes =
+    let c = chain_of f.protocol (length bytes) bytes in
+    ap (λ (h : FrameFields). with_transport_by h (protocol_of c.protocol) src dst (drop c.len bytes)) (chain-in v f c)
+    ∙ transport-in v (with_chain f c) (protocol_of c.protocol) src dst (drop c.len bytes)
 
 ipv6-in : (v : EthernetRepr) (f : FrameFields) (bytes : List ℕ) → with_ipv6 (in_frame v f) bytes ≡ in_frame v (with_ipv6 f bytes)
 ipv6-in v f bytes =
-    chosen-by v (ipv6_of bytes) (λ w. with_payload (with_fragment_by (with_ipv6_header f bytes w) w.next_header (ipv6.payload_of bytes)) (Ipv6 w) (ipv6.payload_of bytes)) _
+    chosen-by v (ipv6_of bytes) (λ w. with_extended (with_ipv6_header f bytes w) (address.Ipv6 w.src_addr) (address.Ipv6 w.dst_addr) (ipv6.payload_of bytes)) _
     (rejected f (ipv6_fault bytes)) _
-    (λ w. payload-in v (with_fragment_by (with_ipv6_header f bytes w) w.next_header (ipv6.payload_of bytes)) _ (Ipv6 w) (ipv6.payload_of bytes)
-    (ap (λ (h : FrameFields). with_fragment_by h w.next_header (ipv6.payload_of bytes)) (ipv6-header v f bytes w)
-    ∙ fragment-in v (with_ipv6_header f bytes w) w.next_header (ipv6.payload_of bytes)))
+    (λ w. ap (λ (h : FrameFields). with_extended h (address.Ipv6 w.src_addr) (address.Ipv6 w.dst_addr) (ipv6.payload_of bytes)) (ipv6-header v f bytes w)
+    ∙ extended-in v (with_ipv6_header f bytes w) (address.Ipv6 w.src_addr) (address.Ipv6 w.dst_addr) (ipv6.payload_of bytes))
     refl
 
 -- ---- the frame

@@ -1,6 +1,9 @@
 pub mod CapturedOf
+mod ChainLeads
+mod ChainSteps
 mod CutArp
 mod CutBytes
+mod CutChain
 pub mod CutFrame
 mod CutIpv4
 mod CutIpv6
@@ -16,6 +19,8 @@ mod Messages
 mod ParsedLine
 mod RejectedApart
 mod Steps
+mod PlainFrame
+mod StoredChain
 mod StoredFrame
 mod StoredHeaders
 mod StoredParts

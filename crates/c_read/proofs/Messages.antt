@@ -2,7 +2,7 @@
 use Rattle.std.proofs.Common.{ℕ, ◌≡◌, ◌≢◌, ◌∙◌, ◌≤◌, ◌<◌, ◌-◌, ◌++◌, ◌==◌, inl, inr, ◌+◌, nat_lt, if◌then◌else◌, Bool, true, false, List, Option, None, Some, Result, Ok, Err, drop, length, length-append, replicate, refl, sym, ap, subst, arith}
 use Rattle.std.specs.Bool.{⊤}
 use Rattle.std.proofs.lemmas.Bool.Decides.{nat_tests}
-use Rattle.std.proofs.lemmas.List.{length-replicate}
+use Rattle.std.proofs.lemmas.List.{length-drop, length-replicate}
 use Rattle.std.specs.Option.{option_map_or}
 use Rattle.wire_link.specs.Link.{link_of, link_type_of}
 use Rattle.wire_link.specs.declared.link.Link.{Link}
@@ -15,13 +15,12 @@ use Rattle.ip_wire.proofs.Ipv6Computed.{ipv6_of-Reads}
 use Rattle.ip_wire.specs.Arp.{arp_of}
 use Rattle.ip_wire.specs.Ethernet.{ethernet_of, protocol_of}
 use Rattle.ip_wire.specs.Field.{field}
-use Rattle.ip_wire.specs.Frame.{ipv4_payload, packet_payload, type_of}
-use Rattle.ip_wire.specs.Ip.{dst_addr_of, next_header_of, src_addr_of, version_of}
+use Rattle.ip_wire.specs.Frame.{ipv4_payload, type_of}
+use Rattle.ip_wire.specs.Ip.{dst_addr_of, src_addr_of, version_of}
 use Rattle.ip_wire.specs.Ipv4 as ipv4
 use Rattle.ip_wire.specs.Ipv4.{ipv4_of}
 use Rattle.ip_wire.specs.Ipv6 as ipv6
 use Rattle.ip_wire.specs.Ipv6.{ipv6_of}
-use Rattle.ip_wire.specs.Ipv6Fragment as fragment
 use Rattle.ip_wire.specs.Tcp as tcp
 use Rattle.ip_wire.specs.TcpRepr.{tcp_of}
 use Rattle.ip_wire.specs.Types.{ArpRepr, EthernetProtocol, IpAddress, IpProtocol, IpRepr, Ipv4, Ipv4Repr, Ipv6, Ipv6Repr}
@@ -41,11 +40,11 @@ use Rattle.c_read.proofs.CutFrame.{captured-cut, captured-packet-cut, cut-carrie
 use Rattle.c_read.proofs.FieldsOf.{packet_fields_of-some}
 use Rattle.c_read.proofs.StoredFrame.{with_carried-ipv4, with_carried-ipv6}
 use Rattle.c_read.proofs.StoredHeaders.{fields_of-linked, header-there}
-use Rattle.c_read.specs.Captured.{IsCutOf, captured_of, captured_packet_of, cut_carried, cut_header, fragment_header, link, network, options, transport_header}
-use Rattle.c_read.specs.FrameFields.{after_header, arp_fault, bare_of, fields_of, has_message, ipv4_fault, ipv6_fault, is_icmp, packet_fields_of, rejected, rejected_transport, tcp_fault, udp_fault, with_carried, with_fragment_by, with_fragment_header, with_frame, with_icmp, with_ipv4, with_ipv4_header, with_ipv6, with_ipv6_header, with_message, with_packet, with_payload, with_tcp_header, with_transport_by, with_udp_header}
+use Rattle.c_read.specs.Captured.{IsCutOf, captured_of, captured_packet_of, cut_carried, cut_header, link, network, options, transport_header}
+use Rattle.c_read.specs.FrameFields.{after_header, arp_fault, bare_of, fields_of, has_message, ipv4_fault, ipv6_fault, is_icmp, ipv6_chain, packet_fields_of, rejected, rejected_transport, tcp_fault, udp_fault, with_carried, with_extended, with_frame, with_icmp, with_ipv4, with_ipv4_header, with_ipv6, with_ipv6_header, with_message, with_packet, with_payload, with_tcp_header, with_transport_by, with_udp_header}
 use Rattle.c_read.specs.Links.{linked_after, linked_by, linked_of, with_linked}
 use Rattle.c_read.specs.Messages.{CarriesIcmp, IsIcmp, StoresMessage}
-use Rattle.c_read.specs.Stored.{headed, headed_by, linked}
+use Rattle.c_read.specs.Stored.{headed, headed_by, linked, upper_payload, upper_protocol}
 
 -- ---- which frames have one
 
@@ -113,27 +112,17 @@ ipv4-tells f bytes n give =
     }))))
     (silent (rejected f (ipv4_fault bytes)) 0 n.transport (λ e. omega (arith, e)) n.icmp)
 
--- a fragment header is no transport header
-new-if : (b : Bool) (g h : FrameFields) → IsNew g → IsNew h → IsNew (if b then g else h)
-new-if true g h p q = p
-new-if false g h p q = q
-
-fragment-new : (f : FrameFields) (p : IpProtocol) (bytes : List ℕ) → IsNew f → IsNew (with_fragment_by f p bytes)
-fragment-new f protocol.Ipv6Frag bytes n =
-    new-if (nat_lt (length bytes) 8) f (with_fragment_header f (fragment.header_of (drop 2 bytes))) n (record { transport = n.transport; icmp = n.icmp })
-fragment-new f p bytes n = n
-
-ipv6-tells : {Q : Type 0} (f : FrameFields) (bytes : List ℕ) → IsNew f → ((w : Ipv6Repr) → IsIcmp bytes (Ipv6 w) (ipv6.payload_of bytes) → Q) → Tells Q (with_ipv6 f bytes)
+ipv6-tells : {Q : Type 0} (f : FrameFields) (bytes : List ℕ) → IsNew f → ((w : Ipv6Repr) → IsIcmp bytes (Ipv6 w) (upper_payload (Ipv6 w) bytes) → Q) → Tells Q (with_ipv6 f bytes)
 ipv6-tells f bytes n give =
-    let payload = ipv6.payload_of bytes in
-    by-value (ipv6_of bytes) (λ w. with_payload (with_fragment_by (with_ipv6_header f bytes w) w.next_header payload) (Ipv6 w) payload) (rejected f (ipv6_fault bytes))
-    (λ w is. let next = with_ipv6_header f bytes w in
-    transport-tells (with_fragment_by next w.next_header payload) w.next_header (src_addr_of (Ipv6 w)) (dst_addr_of (Ipv6 w)) payload
-    (fragment-new next w.next_header payload (record { transport = n.transport; icmp = n.icmp })) (λ has. give w (record {
+    by-value (ipv6_of bytes) (λ w. with_extended (with_ipv6_header f bytes w) (src_addr_of (Ipv6 w)) (dst_addr_of (Ipv6 w)) (ipv6.payload_of bytes)) (rejected f (ipv6_fault bytes))
+    (λ w is. let p = upper_protocol (Ipv6 w) bytes in
+    let payload = upper_payload (Ipv6 w) bytes in
+    transport-tells (headed_by f bytes (Ipv6 w)) p (src_addr_of (Ipv6 w)) (dst_addr_of (Ipv6 w)) payload
+    (record { transport = n.transport; icmp = n.icmp }) (λ has. give w (record {
       reads = (ipv6_of-Reads bytes w).0 is;
-      protocol = named-ipv6 w.next_header w.src_addr payload has;
+      protocol = named-ipv6 p w.src_addr payload has;
       payload = refl;
-      header = header-there (is_icmp w.next_header (src_addr_of (Ipv6 w))) (length payload) has;
+      header = header-there (is_icmp p (src_addr_of (Ipv6 w))) (length payload) has;
     })))
     (silent (rejected f (ipv6_fault bytes)) 0 n.transport (λ e. omega (arith, e)) n.icmp)
 
@@ -141,7 +130,7 @@ message-tells : {Q : Type 0} (f : FrameFields) (w : ArpRepr) → IsNew f → Tel
 message-tells f (EthernetIpv4 operation source_hardware source_protocol target_hardware target_protocol) n = silent _ 0 n.transport (λ e. omega (arith, e)) n.icmp
 
 carried-tells : {Q : Type 0} (f : FrameFields) (t : EthernetProtocol) (bytes : List ℕ) → IsNew f
-    → ((ip : IpRepr) → t ≡ type_of ip → IsIcmp bytes ip (packet_payload ip bytes) → Q) → Tells Q (with_carried f t bytes)
+    → ((ip : IpRepr) → t ≡ type_of ip → IsIcmp bytes ip (upper_payload ip bytes) → Q) → Tells Q (with_carried f t bytes)
 carried-tells f ethertype.Arp bytes n give =
     by-value (arp_of bytes) (with_message f) (rejected f (arp_fault bytes)) (λ w is. message-tells f w n) (silent (rejected f (arp_fault bytes)) 0 n.transport (λ e. omega (arith, e)) n.icmp)
 carried-tells f ethertype.Ipv4 bytes n give = ipv4-tells f bytes n (λ w is. give (Ipv4 w) refl is)
@@ -150,7 +139,7 @@ carried-tells f (ethertype.Unknown k) bytes n give = new f n
 
 -- the frame carries a message
 abbrev pub Carries : List ℕ → Type 0
-Carries frame = (ip : IpRepr) × CarriesIcmp frame ip (packet_payload ip (drop 14 frame))
+Carries frame = (ip : IpRepr) × CarriesIcmp frame ip (upper_payload ip (drop 14 frame))
 
 pub frame-tells : (frame : List ℕ) → Tells (Carries frame) (fields_of frame)
 unfolding fields_of
@@ -162,7 +151,7 @@ frame-tells frame =
 
 -- the bytes are a packet with a message
 abbrev pub HasIcmp : List ℕ → Type 0
-HasIcmp bytes = (ip : IpRepr) × IsIcmp bytes ip (packet_payload ip bytes)
+HasIcmp bytes = (ip : IpRepr) × IsIcmp bytes ip (upper_payload ip bytes)
 
 pub packet-tells : (bytes : List ℕ) → Tells (HasIcmp bytes) (packet_fields_of bytes)
 unfolding packet_fields_of
@@ -182,11 +171,11 @@ kept f g transport icmp t = record { named = λ e. t.named (sym transport ∙ e)
 cut-tells : {Q : Type 0} {n : ℕ} (f g : FrameFields) → IsCutOf n f g → Tells Q g → Tells Q f
 cut-tells f g (inl (inl h)) t = kept f g (ap (λ (k : FrameFields). k.transport) h.fields) (ap (λ (k : FrameFields). k.icmp) h.fields) t
 cut-tells f g (inl (inr l)) t = silent f 0 (ap (λ (k : FrameFields). k.transport) l.fields) (λ e. omega (arith, e)) (ap (λ (k : FrameFields). k.icmp) l.fields)
-cut-tells f g (inr (fragment_header, at)) t = kept f g (ap (λ (k : FrameFields). k.transport) at.fields) (ap (λ (k : FrameFields). k.icmp) at.fields) t
-cut-tells f g (inr (link, at)) t = silent f 0 (ap (λ (k : FrameFields). k.transport) at.fields) (λ e. omega (arith, e)) (ap (λ (k : FrameFields). k.icmp) at.fields)
-cut-tells f g (inr (network, at)) t = silent f 0 (ap (λ (k : FrameFields). k.transport) at.fields) (λ e. omega (arith, e)) (ap (λ (k : FrameFields). k.icmp) at.fields)
-cut-tells f g (inr (transport_header, at)) t = silent f 0 (ap (λ (k : FrameFields). k.transport) at.fields) (λ e. omega (arith, e)) (ap (λ (k : FrameFields). k.icmp) at.fields)
-cut-tells f g (inr (options, at)) t = silent f 0 (ap (λ (k : FrameFields). k.transport) at.fields) (λ e. omega (arith, e)) (ap (λ (k : FrameFields). k.icmp) at.fields)
+cut-tells f g (inr (inr at)) t = silent f 0 (ap (λ (k : FrameFields). k.transport) at.fields) (λ e. omega (arith, e)) (ap (λ (k : FrameFields). k.icmp) at.fields)
+cut-tells f g (inr (inl (link, at))) t = silent f 0 (ap (λ (k : FrameFields). k.transport) at.fields) (λ e. omega (arith, e)) (ap (λ (k : FrameFields). k.icmp) at.fields)
+cut-tells f g (inr (inl (network, at))) t = silent f 0 (ap (λ (k : FrameFields). k.transport) at.fields) (λ e. omega (arith, e)) (ap (λ (k : FrameFields). k.icmp) at.fields)
+cut-tells f g (inr (inl (transport_header, at))) t = silent f 0 (ap (λ (k : FrameFields). k.transport) at.fields) (λ e. omega (arith, e)) (ap (λ (k : FrameFields). k.icmp) at.fields)
+cut-tells f g (inr (inl (options, at))) t = silent f 0 (ap (λ (k : FrameFields). k.transport) at.fields) (λ e. omega (arith, e)) (ap (λ (k : FrameFields). k.icmp) at.fields)
 
 pub captured-tells : (bytes rest : List ℕ) → Tells (Carries (bytes ++ rest)) (captured_of bytes (length rest))
 captured-tells bytes rest = cut-tells _ _ (captured-cut bytes rest) (frame-tells (bytes ++ rest))
@@ -229,29 +218,31 @@ linked-tells number bytes len =
 -- ---- what is stored of a message
 
 -- the payload of a packet with ICMP
-payload-stored : (f : FrameFields) (ip : IpRepr) (m : List ℕ) → next_header_of ip ≡ icmp.protocol_of (version_of ip) → 8 ≤ length m
-    → with_payload f ip m ≡ with_icmp f m (icmp_verdict (src_addr_of ip) (dst_addr_of ip) m)
-payload-stored f (Ipv4 w) m is h = rw (is, le-true 8 (length m) h) refl
-payload-stored f (Ipv6 w) m is h = rw (is, le-true 8 (length m) h) refl
+payload-stored : (f : FrameFields) (p : IpProtocol) (ip : IpRepr) (m : List ℕ) → p ≡ icmp.protocol_of (version_of ip) → 8 ≤ length m
+    → with_transport_by f p (src_addr_of ip) (dst_addr_of ip) m ≡ with_icmp f m (icmp_verdict (src_addr_of ip) (dst_addr_of ip) m)
+payload-stored f p (Ipv4 w) m is h = rw (is, le-true 8 (length m) h) refl
+payload-stored f p (Ipv6 w) m is h = rw (is, le-true 8 (length m) h) refl
 
 carried-stored : (f : FrameFields) (t : EthernetProtocol) (bytes : List ℕ) (ip : IpRepr) (m : List ℕ) → t ≡ type_of ip → IsIcmp bytes ip m
     → with_carried f t bytes ≡ with_icmp (headed_by f bytes ip) m (icmp_verdict (src_addr_of ip) (dst_addr_of ip) m)
 carried-stored f t bytes (Ipv4 w) m type is =
     let (header, whole) = is.reads in
     with_carried-ipv4 f t bytes w type ((ipv4_of-Reads false bytes w).1 header) whole ∙ ap (with_payload (headed_by f bytes (Ipv4 w)) (Ipv4 w)) (sym is.payload)
-    ∙ payload-stored (headed_by f bytes (Ipv4 w)) (Ipv4 w) m is.protocol is.header
+    ∙ payload-stored (headed_by f bytes (Ipv4 w)) w.next_header (Ipv4 w) m is.protocol is.header
 carried-stored f t bytes (Ipv6 w) m type is =
-    with_carried-ipv6 f t bytes w type ((ipv6_of-Reads bytes w).1 is.reads) ∙ ap (with_payload (headed_by f bytes (Ipv6 w)) (Ipv6 w)) (sym is.payload)
-    ∙ payload-stored (headed_by f bytes (Ipv6 w)) (Ipv6 w) m is.protocol is.header
+    let p = upper_protocol (Ipv6 w) bytes in
+    with_carried-ipv6 f t bytes w type ((ipv6_of-Reads bytes w).1 is.reads)
+    ∙ ap (with_transport_by (headed_by f bytes (Ipv6 w)) p (src_addr_of (Ipv6 w)) (dst_addr_of (Ipv6 w))) (sym is.payload)
+    ∙ payload-stored (headed_by f bytes (Ipv6 w)) p (Ipv6 w) m is.protocol is.header
 
-headed-len : (f : FrameFields) (bytes : List ℕ) (ip : IpRepr) → next_header_of ip ≡ icmp.protocol_of (version_of ip) → (headed_by f bytes ip).payload_len ≡ length (packet_payload ip bytes)
-headed-len f bytes (Ipv4 w) is = refl
-headed-len f bytes (Ipv6 w) is = ap (λ (p : IpProtocol). (with_fragment_by (with_ipv6_header f bytes w) p (ipv6.payload_of bytes)).payload_len) is
+headed-len : (f : FrameFields) (bytes : List ℕ) (ip : IpRepr) → (headed_by f bytes ip).payload_len ≡ length (upper_payload ip bytes)
+headed-len f bytes (Ipv4 w) = refl
+headed-len f bytes (Ipv6 w) = sym (length-drop (ipv6_chain bytes).len (ipv6.payload_of bytes))
 
 stores : (f g : FrameFields) (bytes : List ℕ) (ip : IpRepr) (m : List ℕ) → IsIcmp bytes ip m
     → g ≡ with_icmp (headed_by f bytes ip) m (icmp_verdict (src_addr_of ip) (dst_addr_of ip) m) → StoresMessage (headed_by f bytes ip) ip m g
 stores f g bytes ip m is fields =
-    let len = headed-len f bytes ip is.protocol ∙ ap length (sym is.payload) in
+    let len = headed-len f bytes ip ∙ ap length (sym is.payload) in
     let header = is.header in
     subst (λ (g : FrameFields). StoresMessage (headed_by f bytes ip) ip m g) (sym fields) (record {
       transport = refl;

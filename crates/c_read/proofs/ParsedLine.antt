@@ -1,22 +1,18 @@
 -- The line of a frame that is parsed whole has its values.
-use Rattle.std.proofs.Common.{ℕ, ◌≡◌, ◌∙◌, ◌++◌, nat_lt, List, Option, Some, append-nil, ap, codes, decimal, drop, length, refl, replicate, subst, sym, take, arith}
+use Rattle.std.proofs.Common.{ℕ, ◌≡◌, ◌∙◌, ◌++◌, List, Option, Some, append-nil, ap, codes, decimal, drop, length, refl, replicate, subst, sym, take, arith}
 use Rattle.std.proofs.lemmas.List.{take-append-le, take_all}
 use Rattle.ip_wire.proofs.Layers.{length-part}
-use Rattle.ip_wire.specs.Frame.{ReadsFrame, Transport, datagram, packet, segment}
+use Rattle.ip_wire.specs.Frame.{Transport, datagram, packet, segment}
 use Rattle.ip_wire.specs.Ip.{dst_addr_of, src_addr_of}
-use Rattle.ip_wire.specs.Ipv6 as ipv6
-use Rattle.ip_wire.specs.Ipv6Fragment as fragment
 use Rattle.ip_wire.specs.TcpRepr.{TcpHeader}
-use Rattle.ip_wire.specs.Types.{EthernetRepr, IpAddress, IpProtocol, IpRepr, Ipv4, Ipv6, UdpRepr}
+use Rattle.ip_wire.specs.Types.{EthernetRepr, IpAddress, IpRepr, Ipv4, Ipv6, UdpRepr}
 use Rattle.ip_wire.specs.declared.IpAddress.TheVariants as address
-use Rattle.ip_wire.specs.declared.IpProtocol.TheVariants as protocol
 use Rattle.c_structs.specs.Addresses.{addr_of, ip_of}
-use Rattle.c_structs.specs.declared.types.Endpoint.{Endpoint}
 use Rattle.c_structs.specs.declared.types.FrameFields.{FrameFields}
-use Rattle.c_read.proofs.CutOf.{if-has}
 use Rattle.c_read.proofs.StoredFrame.{stores-read}
-use Rattle.c_read.specs.FrameFields.{fields_of, with_fragment_by, with_fragment_header, with_ipv6_header}
-use Rattle.c_read.specs.Stored.{headed, linked, struct_of, unchecked}
+use Rattle.c_read.proofs.StoredHeaders.{is-headed}
+use Rattle.c_read.specs.FrameFields.{fields_of}
+use Rattle.c_read.specs.Stored.{StepsFrame, headed, struct_of, unchecked}
 use Rattle.c_read.specs.Summary.{end_text, ends_text, frame_line, has_ports, header_text, ipv4_note, network_word, reason_note, tcp_line, tcp_text, transport_note, transport_of, udp_line, version_text, with_verdicts}
 
 -- ---- the addresses
@@ -33,35 +29,16 @@ record HasEnds (f : FrameFields) (v : IpRepr) : Type 0 where
   dst : ip_of f.dst.addr ≡ Some (dst_addr_of v)
   reason : f.reason ≡ 0
 
--- a fragment header keeps them
-record KeepsEnds (f g : FrameFields) : Type 0 where
-  network : g.network ≡ f.network
-  src : g.src ≡ f.src
-  dst : g.dst ≡ f.dst
-  reason : g.reason ≡ f.reason
-
-fragment-ends : (f : FrameFields) (p : IpProtocol) (bytes : List ℕ) → KeepsEnds f (with_fragment_by f p bytes)
-fragment-ends f protocol.Ipv6Frag bytes =
-    if-has (KeepsEnds f) (nat_lt (length bytes) 8) f (with_fragment_header f (fragment.header_of (drop 2 bytes)))
-    (record { network = refl; src = refl; dst = refl; reason = refl }) (record { network = refl; src = refl; dst = refl; reason = refl })
-fragment-ends f p bytes = record { network = refl; src = refl; dst = refl; reason = refl }
-
-headed-ends : (frame : List ℕ) (v : EthernetRepr) (w : IpRepr) (t : Transport) → ReadsFrame unchecked frame v (packet w t) → HasEnds (headed frame v w) w
+headed-ends : (frame : List ℕ) (v : EthernetRepr) (w : IpRepr) (t : Transport) → StepsFrame unchecked frame v (packet w t) → HasEnds (headed frame v w) w
 headed-ends frame v (Ipv4 w) t r =
-    let (type, (header, whole), inner) = r.reads_carried in
+    let (type, (header, whole), none, inner) = r.reads_carried in
     let least = header.lengths.least in
     let src : length w.src_addr ≡ 4 = ap length header.src_addr ∙ length-part (drop 14 frame) 12 16 (omega (arith, least)) in
     let dst : length w.dst_addr ≡ 4 = ap length header.dst_addr ∙ length-part (drop 14 frame) 16 20 (omega (arith, least)) in
     record { network = refl; src = ipv4-stored w.src_addr src; dst = ipv4-stored w.dst_addr dst; reason = refl }
 headed-ends frame v (Ipv6 w) t r =
-    let f = with_ipv6_header (linked frame v) (drop 14 frame) w in
-    let k = fragment-ends f w.next_header (ipv6.payload_of (drop 14 frame)) in
-    record {
-      network = ap network_word k.network;
-      src = ap (λ (e : Endpoint). ip_of e.addr) k.src;
-      dst = ap (λ (e : Endpoint). ip_of e.addr) k.dst;
-      reason = k.reason;
-    }
+    let (type, header, none, inner) = r.reads_carried in
+    record { network = refl; src = refl; dst = refl; reason = (is-headed frame v (Ipv6 w) header).reason none }
 
 -- ---- the line
 
@@ -100,7 +77,7 @@ ported-line f v icmp_type icmp_code transport src_port dst_port len header e is 
     let ends = ends-are f v e ∙ ap (λ (t : ℕ). by t f.src.port f.dst.port) is ∙ ap (λ (s : ℕ). by transport s f.dst.port) src ∙ ap (λ (d : ℕ). by transport src_port d) dst in
     line-are f icmp_type icmp_code (by transport src_port dst_port) header len e.reason ends text size
 
-pub udp-printed : (frame : List ℕ) (v : EthernetRepr) (w : IpRepr) (u : UdpRepr) (payload : List ℕ) (icmp_type icmp_code : ℕ) → ReadsFrame unchecked frame v (packet w (datagram u payload))
+pub udp-printed : (frame : List ℕ) (v : EthernetRepr) (w : IpRepr) (u : UdpRepr) (payload : List ℕ) (icmp_type icmp_code : ℕ) → StepsFrame unchecked frame v (packet w (datagram u payload))
     → frame_line (fields_of frame) icmp_type icmp_code ≡ with_verdicts (udp_line w u (length payload)) (fields_of frame)
 udp-printed frame v w u payload icmp_type icmp_code r =
     let carried = packet w (datagram u payload) in
@@ -111,7 +88,7 @@ udp-printed frame v w u payload icmp_type icmp_code r =
     ported-line (fields_of frame) w icmp_type icmp_code 1 u.src_port u.dst_port (length payload) (codes " UDP") (subst (λ g. HasEnds g w) (sym s.fields) here)
     (ap transport_of s.fields) ports.0 ports.1 s.payload.len (ap (λ (g : FrameFields). header_text g icmp_type icmp_code) s.fields)
 
-pub tcp-printed : (frame : List ℕ) (v : EthernetRepr) (w : IpRepr) (h : TcpHeader) (payload : List ℕ) (icmp_type icmp_code : ℕ) → ReadsFrame unchecked frame v (packet w (segment h payload))
+pub tcp-printed : (frame : List ℕ) (v : EthernetRepr) (w : IpRepr) (h : TcpHeader) (payload : List ℕ) (icmp_type icmp_code : ℕ) → StepsFrame unchecked frame v (packet w (segment h payload))
     → frame_line (fields_of frame) icmp_type icmp_code ≡ with_verdicts (tcp_line w h (fields_of frame).tcp (length payload)) (fields_of frame)
 tcp-printed frame v w h payload icmp_type icmp_code r =
     let carried = packet w (segment h payload) in

@@ -1,5 +1,5 @@
 -- A transport header is either named as parsed, or as rejected.
-use Rattle.std.proofs.Common.{ℕ, ◌≡◌, ◌≢◌, nat_lt, if◌then◌else◌, Bool, true, false, List, Option, None, Some, drop, length, refl}
+use Rattle.std.proofs.Common.{ℕ, ◌≡◌, ◌≢◌, ◌∙◌, inl, inr, nat_lt, if◌then◌else◌, Bool, true, false, List, Option, None, Some, drop, length, refl, subst, sym}
 use Rattle.std.specs.Option.{option_map_or}
 use Rattle.ip_wire.specs.Arp.{arp_of}
 use Rattle.ip_wire.specs.Ethernet.{ethernet_of}
@@ -9,22 +9,26 @@ use Rattle.ip_wire.specs.Ipv4 as ipv4
 use Rattle.ip_wire.specs.Ipv4.{ipv4_of}
 use Rattle.ip_wire.specs.Ipv6 as ipv6
 use Rattle.ip_wire.specs.Ipv6.{ipv6_of}
-use Rattle.ip_wire.specs.Ipv6Fragment as fragment
+use Rattle.ip_wire.specs.Protocol.{protocol_of}
 use Rattle.ip_wire.specs.Tcp as tcp
 use Rattle.ip_wire.specs.TcpRepr.{tcp_of}
-use Rattle.ip_wire.specs.Types.{ArpRepr, EthernetProtocol, IpAddress, IpProtocol, Ipv4, Ipv6}
+use Rattle.ip_wire.specs.Types.{ArpRepr, EthernetProtocol, IpAddress, IpProtocol, Ipv4}
 use Rattle.ip_wire.specs.Udp as udp
 use Rattle.ip_wire.specs.Udp.{udp_of}
 use Rattle.ip_wire.specs.declared.ArpRepr.TheVariants.{EthernetIpv4}
 use Rattle.ip_wire.specs.declared.EthernetProtocol.TheVariants as ethertype
+use Rattle.ip_wire.specs.declared.IpAddress.TheVariants as address
 use Rattle.ip_wire.specs.declared.IpProtocol.TheVariants as protocol
 use Rattle.c_structs.specs.Nothing.{nothing_of}
 use Rattle.c_structs.specs.Verdicts.{icmp_verdict}
 use Rattle.c_structs.specs.declared.codes.Reason.{Reason}
 use Rattle.c_structs.specs.declared.codes.Reason.TheVariants as reason
 use Rattle.c_structs.specs.declared.types.FrameFields.{FrameFields}
+use Rattle.c_read.proofs.ChainSteps.{chain-right}
+use Rattle.c_read.proofs.StoredChain.{extension-kept, given, no-fault}
 use Rattle.c_read.proofs.StoredParts.{IsFault, tcp-faulty, udp-faulty}
-use Rattle.c_read.specs.FrameFields.{after_header, fields_of, rejected, rejected_transport, tcp_fault, udp_fault, with_carried, with_fragment_by, with_fragment_header, with_frame, with_ipv4_header, with_ipv6_header, with_message, with_payload, with_tcp_header, with_transport_by, with_udp_header, has_message, with_icmp}
+use Rattle.c_read.specs.FrameFields.{after_header, fields_of, rejected, rejected_transport, tcp_fault, udp_fault, with_carried, with_chain, with_extended, with_frame, with_ipv4_header, with_ipv6_header, with_message, with_payload, with_tcp_header, with_transport_by, with_udp_header, has_message, with_icmp}
+use Rattle.c_read.specs.Ipv6Chain.{chain_of}
 use Rattle.c_read.specs.Stored.{linked}
 
 -- no transport header is named where one is rejected, and no rejected one where none is
@@ -75,13 +79,20 @@ transport-apart f protocol.Tcp src dst bytes n =
 transport-apart f p src dst bytes n =
     let next = with_icmp f bytes (icmp_verdict src dst bytes) in by-test (has_message p src bytes) next f (stored next n.reason n.rejected) (same f n)
 
-fragment-new : (f : FrameFields) (p : IpProtocol) (bytes : List ℕ) → IsNew f → IsNew (with_fragment_by f p bytes)
-fragment-new f protocol.Ipv6Frag bytes n = either (nat_lt (length bytes) 8)
-  where
-    either : (b : Bool) → IsNew (if b then f else with_fragment_header f (fragment.header_of (drop 2 bytes)))
-    either true = n
-    either false = record { reason = n.reason; transport = n.transport; rejected = n.rejected }
-fragment-new f p bytes n = n
+-- after extension headers, of which one may be rejected
+extended-apart : (f : FrameFields) (src dst bytes : List ℕ) → IsNew f → Apart (with_extended f (address.Ipv6 src) (address.Ipv6 dst) bytes)
+extended-apart f src dst bytes n =
+    let c = chain_of f.protocol (length bytes) bytes in
+    let next = with_chain f c in
+    let rest = drop c.len bytes in
+    elim (given c.fault) [
+      | inl none ↦
+          transport-apart next (protocol_of c.protocol) (address.Ipv6 src) (address.Ipv6 dst) rest
+          (record { reason = no-fault c.fault f.reason none ∙ n.reason; transport = n.transport; rejected = n.rejected })
+      | inr (why, fault) ↦
+          let same = extension-kept next c.protocol src dst rest ((chain-right f.protocol (length bytes) bytes).fault why fault) in
+          subst Apart (sym same) (record { none = λ h. n.transport; all = λ h. n.rejected })
+    ]
 
 message-apart : (f : FrameFields) (w : ArpRepr) → IsNew f → Apart (with_message f w)
 message-apart f (EthernetIpv4 operation source_hardware source_protocol target_hardware target_protocol) n = record { none = λ h. n.transport; all = λ h. n.rejected }
@@ -96,11 +107,8 @@ carried-apart f ethertype.Ipv4 bytes n =
     (transport-apart next w.next_header (src_addr_of (Ipv4 w)) (dst_addr_of (Ipv4 w)) (ipv4_payload bytes) new))
     (early f _ n.transport n.rejected)
 carried-apart f ethertype.Ipv6 bytes n =
-    by-value (ipv6_of bytes) (λ w. with_payload (with_fragment_by (with_ipv6_header f bytes w) w.next_header (ipv6.payload_of bytes)) (Ipv6 w) (ipv6.payload_of bytes)) _
-    (λ w. let next = with_ipv6_header f bytes w in
-    let new : IsNew next = record { reason = n.reason; transport = n.transport; rejected = n.rejected } in
-    transport-apart (with_fragment_by next w.next_header (ipv6.payload_of bytes)) w.next_header (src_addr_of (Ipv6 w)) (dst_addr_of (Ipv6 w)) (ipv6.payload_of bytes)
-    (fragment-new next w.next_header (ipv6.payload_of bytes) new))
+    by-value (ipv6_of bytes) (λ w. with_extended (with_ipv6_header f bytes w) (address.Ipv6 w.src_addr) (address.Ipv6 w.dst_addr) (ipv6.payload_of bytes)) _
+    (λ w. extended-apart (with_ipv6_header f bytes w) w.src_addr w.dst_addr (ipv6.payload_of bytes) (record { reason = n.reason; transport = n.transport; rejected = n.rejected }))
     (early f _ n.transport n.rejected)
 carried-apart f (ethertype.Unknown k) bytes n = same f n
 

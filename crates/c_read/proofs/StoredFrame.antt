@@ -1,5 +1,5 @@
 -- The struct of a frame that is parsed whole stores its values.
-use Rattle.std.proofs.Common.{ℕ, ◌≡◌, ◌∙◌, ◌↔◌, ◌≢◌, ◌⊎◌, inl, inr, ◌==◌, nat_lt, if◌then◌else◌, Bool, true, false, IsTrue, List, Some, ap, drop, length, take, refl, sym, arith}
+use Rattle.std.proofs.Common.{ℕ, ◌≡◌, ◌∙◌, ◌↔◌, ◌≢◌, ◌⊎◌, inl, inr, ◌==◌, if◌then◌else◌, Bool, true, false, IsTrue, List, Some, ap, drop, take, refl, sym, arith}
 use Rattle.std.proofs.lemmas.Bool.{eqb-true}
 use Rattle.ip_wire.proofs.ArpComputed.{arp_of-Reads}
 use Rattle.ip_wire.proofs.Ipv4Computed.{ipv4_of-Reads}
@@ -9,18 +9,16 @@ use Rattle.ip_wire.proofs.Ipv4Changed as ipv4_changed
 use Rattle.ip_wire.proofs.TcpChanged as tcp_changed
 use Rattle.ip_wire.proofs.UdpChanged as udp_changed
 use Rattle.ip_wire.specs.Arp.{arp_of}
-use Rattle.ip_wire.specs.Frame.{Carried, ReadsTransportBy, ReadsFrame, ReadsPacket, Transport, datagram, ipv4_payload, message, other, packet, packet_payload, segment}
-use Rattle.ip_wire.specs.Ip.{ReadsHeader, dst_addr_of, next_header_of, src_addr_of}
+use Rattle.ip_wire.specs.Frame.{Carried, ReadsTransportBy, ReadsPacket, Transport, datagram, ipv4_payload, message, other, packet, segment}
+use Rattle.ip_wire.specs.Ip.{ReadsHeader, dst_addr_of, src_addr_of}
 use Rattle.ip_wire.specs.Ipv4 as ipv4
 use Rattle.ip_wire.specs.Ipv4.{ipv4_of}
-use Rattle.ip_wire.specs.Ipv6 as ipv6
 use Rattle.ip_wire.specs.Ipv6.{ipv6_of}
 use Rattle.ip_wire.specs.Tcp as tcp_bytes
 use Rattle.ip_wire.specs.Udp as udp
 use Rattle.ip_wire.specs.Types.{ArpRepr, EthernetProtocol, EthernetRepr, IpAddress, IpProtocol, IpRepr, Ipv4, Ipv4Repr, Ipv6, Ipv6Repr}
 use Rattle.ip_wire.specs.declared.ArpRepr.TheVariants.{EthernetIpv4}
 use Rattle.ip_wire.specs.declared.EthernetProtocol.TheVariants as ethertype
-use Rattle.ip_wire.specs.declared.IpProtocol.TheVariants as protocol
 use Rattle.ip_wire.specs.Field.{field}
 use Rattle.ip_wire.specs.Checksum.{verifies}
 use Rattle.ip_wire.specs.declared.ChecksumCapabilities.{ChecksumCapabilities}
@@ -31,8 +29,8 @@ use Rattle.c_structs.specs.declared.codes.Verdict.TheVariants as verdict
 use Rattle.c_structs.specs.declared.types.FrameFields.{FrameFields}
 use Rattle.c_structs.specs.declared.types.Ip.{Ip}
 use Rattle.c_read.proofs.StoredHeaders.{fields_of-linked, is-headed, is-transported, other-chosen, with_transport_by-read}
-use Rattle.c_read.specs.FrameFields.{fields_of, with_carried, with_fragment_by, with_ipv4_header, with_ipv6_header, with_message, with_payload, has_message, with_icmp}
-use Rattle.c_read.specs.Stored.{HasVerdicts, Stores, headed, linked, struct_of, transported, unchecked}
+use Rattle.c_read.specs.FrameFields.{fields_of, with_carried, with_ipv4_header, with_message, with_payload, with_transport_by, has_message, with_icmp}
+use Rattle.c_read.specs.Stored.{HasVerdicts, StepsFrame, Stores, headed, headed_by, linked, struct_of, transported, unchecked, upper_payload, upper_protocol}
 
 -- ---- the whole frame
 
@@ -43,7 +41,7 @@ with_carried-ipv4 f t bytes w type read whole = rw (type, read) (other-chosen (i
 
 -- what is stored of an IPv6 packet
 pub with_carried-ipv6 : (f : FrameFields) (t : EthernetProtocol) (bytes : List ℕ) (w : Ipv6Repr) → t ≡ ethertype.Ipv6 → ipv6_of bytes ≡ Some w
-    → with_carried f t bytes ≡ with_payload (with_fragment_by (with_ipv6_header f bytes w) w.next_header (ipv6.payload_of bytes)) (Ipv6 w) (ipv6.payload_of bytes)
+    → with_carried f t bytes ≡ with_transport_by (headed_by f bytes (Ipv6 w)) (upper_protocol (Ipv6 w) bytes) (src_addr_of (Ipv6 w)) (dst_addr_of (Ipv6 w)) (upper_payload (Ipv6 w) bytes)
 with_carried-ipv6 f t bytes w type read = rw (type, read) refl
 
 with_carried-arp : (f : FrameFields) (t : EthernetProtocol) (bytes : List ℕ) (w : ArpRepr) → t ≡ ethertype.Arp → arp_of bytes ≡ Some w
@@ -56,23 +54,23 @@ pub with_carried-choice : (f : FrameFields) (t : EthernetProtocol) (bytes : List
 with_carried-choice f t bytes w type read = rw (type, read) refl
 
 -- the struct of a frame that is parsed whole
-fields_of-read : (frame : List ℕ) (v : EthernetRepr) (w : Carried) → ReadsFrame unchecked frame v w → fields_of frame ≡ struct_of frame v w
+fields_of-read : (frame : List ℕ) (v : EthernetRepr) (w : Carried) → StepsFrame unchecked frame v w → fields_of frame ≡ struct_of frame v w
 fields_of-read frame v (message w) r =
     let (type, inner) = r.reads_carried in
     let read = (arp_of-Reads (drop 14 frame) w).1 inner in
     fields_of-linked frame v r.reads_header ∙ with_carried-arp (linked frame v) v.ethertype (drop 14 frame) w type read
 fields_of-read frame v (packet (Ipv4 w) t) r =
     let bytes = drop 14 frame in
-    let (type, (header, whole), inner) = r.reads_carried in
+    let (type, (header, whole), none, inner) = r.reads_carried in
     let read = (ipv4_of-Reads false bytes w).1 header in
     fields_of-linked frame v r.reads_header ∙ with_carried-ipv4 (linked frame v) v.ethertype bytes w type read whole
     ∙ with_transport_by-read (headed frame v (Ipv4 w)) w.next_header (src_addr_of (Ipv4 w)) (dst_addr_of (Ipv4 w)) (ipv4_payload bytes) t inner
 fields_of-read frame v (packet (Ipv6 w) t) r =
     let bytes = drop 14 frame in
-    let (type, header, inner) = r.reads_carried in
+    let (type, header, none, inner) = r.reads_carried in
     let read = (ipv6_of-Reads bytes w).1 header in
     fields_of-linked frame v r.reads_header ∙ with_carried-ipv6 (linked frame v) v.ethertype bytes w type read
-    ∙ with_transport_by-read (headed frame v (Ipv6 w)) w.next_header (src_addr_of (Ipv6 w)) (dst_addr_of (Ipv6 w)) (ipv6.payload_of bytes) t inner
+    ∙ with_transport_by-read (headed frame v (Ipv6 w)) (upper_protocol (Ipv6 w) bytes) (src_addr_of (Ipv6 w)) (dst_addr_of (Ipv6 w)) (upper_payload (Ipv6 w) bytes) t inner
 
 -- what a transport header leaves as it is
 record KeepsHeader (f g : FrameFields) : Type 0 where
@@ -94,19 +92,20 @@ plain : (bytes : List ℕ) (w : IpRepr) → ReadsPacket unchecked bytes w → Re
 plain bytes (Ipv4 w) r = r.0
 plain bytes (Ipv6 w) r = r
 
-stores-struct : (frame : List ℕ) (v : EthernetRepr) (w : Carried) → ReadsFrame unchecked frame v w → Stores (struct_of frame v w) frame v w
+stores-struct : (frame : List ℕ) (v : EthernetRepr) (w : Carried) → StepsFrame unchecked frame v w → Stores (struct_of frame v w) frame v w
 stores-struct frame v (message (EthernetIpv4 operation source_hardware source_protocol target_hardware target_protocol)) r =
     record { fields = refl; values = tt; payload = record { len = refl; octets = refl } }
 stores-struct frame v (packet w t) r =
-    let bytes = packet_payload w (drop 14 frame) in
-    let (type, header, inner) = r.reads_carried in
+    let bytes = upper_payload w (drop 14 frame) in
+    let p = upper_protocol w (drop 14 frame) in
+    let (type, header, none, inner) = r.reads_carried in
     let h = is-headed frame v w (plain (drop 14 frame) w header) in
-    let d = is-transported (headed frame v w) (next_header_of w) (src_addr_of w) (dst_addr_of w) frame bytes t h.payload inner in
-    let k = kept (headed frame v w) (next_header_of w) (src_addr_of w) (dst_addr_of w) bytes t in
+    let d = is-transported (headed frame v w) p (src_addr_of w) (dst_addr_of w) frame bytes t h.payload inner in
+    let k = kept (headed frame v w) p (src_addr_of w) (dst_addr_of w) bytes t in
     record { fields = refl; values = (ap (λ (i : Ip). i.protocol) k.ip ∙ h.protocol, d.values); payload = d.payload }
 
 -- the struct of a frame that is parsed whole stores its values
-pub stores-read : (frame : List ℕ) (v : EthernetRepr) (w : Carried) → ReadsFrame unchecked frame v w → Stores (fields_of frame) frame v w
+pub stores-read : (frame : List ℕ) (v : EthernetRepr) (w : Carried) → StepsFrame unchecked frame v w → Stores (fields_of frame) frame v w
 stores-read frame v w r = rw (fields_of-read frame v w r) (stores-struct frame v w r)
 
 -- ---- checksums
@@ -115,10 +114,6 @@ stores-read frame v w r = rw (fields_of-read frame v w r) (stores-struct frame v
 pub chosen-network : (b : Bool) (f g : FrameFields) (n : ℕ) → f.network ≡ n → g.network ≡ n → (if b then f else g).network ≡ n
 chosen-network true f g n a b = a
 chosen-network false f g n a b = b
-
-pub fragment-network : (f : FrameFields) (p : IpProtocol) (bytes : List ℕ) → (with_fragment_by f p bytes).network ≡ f.network
-fragment-network f protocol.Ipv6Frag bytes = chosen-network (nat_lt (length bytes) 8) f _ f.network refl refl
-fragment-network f p bytes = refl
 
 -- the first of two verdicts, where the second is not "right"
 choice-is : (b : Bool) (y : Verdict) → verdict_code y ≢ 1 → (verdict_code (if b then verdict.Right else y) ≡ 1) ↔ (b ≡ true)
@@ -166,8 +161,7 @@ packet-verdict caps frame v (Ipv4 w) (r, whole) = (
   λ h. (ipv4_changed.reads-verified (drop 14 frame) false (verifies caps.ipv4) w r (λ on. (sum-is _ verdict.Wrong not-right).0 (h on refl)), whole),
 )
 packet-verdict caps frame v (Ipv6 w) r =
-    let is : (headed frame v (Ipv6 w)).network ≡ 3 = fragment-network (with_ipv6_header (linked frame v) (drop 14 frame) w) w.next_header (ipv6.payload_of (drop 14 frame)) in
-    (λ s on net. absurd (omega (arith, net, is)), λ h. r)
+    let is : (headed frame v (Ipv6 w)).network ≡ 3 = refl in (λ s on net. absurd (omega (arith, net, is)), λ h. r)
 
 -- an ICMP message is neither UDP nor TCP
 other-named : (a : Bool) (f : FrameFields) (q : List ℕ) (v : Verdict) (n : ℕ) → f.transport ≡ 0 → n ≢ 0 → n ≢ 3 → (if a then with_icmp f q v else f).transport ≢ n
@@ -201,33 +195,34 @@ transport-verdict caps f p src dst bytes (other q) none r =
     )
 
 -- an ARP packet has no checksum
-message-verdicts : (caps : ChecksumCapabilities) (frame : List ℕ) (v : EthernetRepr) (w : ArpRepr) → ReadsFrame unchecked frame v (message w)
-    → ReadsFrame caps frame v (message w) ↔ HasVerdicts caps (with_message (linked frame v) w)
+message-verdicts : (caps : ChecksumCapabilities) (frame : List ℕ) (v : EthernetRepr) (w : ArpRepr) → StepsFrame unchecked frame v (message w)
+    → StepsFrame caps frame v (message w) ↔ HasVerdicts caps (with_message (linked frame v) w)
 message-verdicts caps frame v (EthernetIpv4 operation source_hardware source_protocol target_hardware target_protocol) r = (
   λ s. record { ipv4 = λ on net. absurd (omega (arith, net)); udp = λ on net. absurd (omega (arith, net)); tcp = λ on net. absurd (omega (arith, net)) },
   λ h. record { reads_header = r.reads_header; reads_carried = r.reads_carried },
 )
 
 -- the checksums that are verified hold exactly where the struct says so
-pub verdicts-read : (caps : ChecksumCapabilities) (frame : List ℕ) (v : EthernetRepr) (w : Carried) → ReadsFrame unchecked frame v w
-    → ReadsFrame caps frame v w ↔ HasVerdicts caps (fields_of frame)
+pub verdicts-read : (caps : ChecksumCapabilities) (frame : List ℕ) (v : EthernetRepr) (w : Carried) → StepsFrame unchecked frame v w
+    → StepsFrame caps frame v w ↔ HasVerdicts caps (fields_of frame)
 verdicts-read caps frame v (message w) r = rw (fields_of-read frame v (message w) r) (message-verdicts caps frame v w r)
 verdicts-read caps frame v (packet w t) r =
-    let (type, header, inner) = r.reads_carried in
+    let (type, header, none, inner) = r.reads_carried in
     let f = headed frame v w in
-    let bytes = packet_payload w (drop 14 frame) in
-    let k = kept f (next_header_of w) (src_addr_of w) (dst_addr_of w) bytes t in
+    let bytes = upper_payload w (drop 14 frame) in
+    let p = upper_protocol w (drop 14 frame) in
+    let k = kept f p (src_addr_of w) (dst_addr_of w) bytes t in
     let h = is-headed frame v w (plain (drop 14 frame) w header) in
     let network = packet-verdict caps frame v w header in
-    let transport = transport-verdict caps f (next_header_of w) (src_addr_of w) (dst_addr_of w) bytes t h.transport inner in
+    let transport = transport-verdict caps f p (src_addr_of w) (dst_addr_of w) bytes t h.transport inner in
     rw (fields_of-read frame v (packet w t) r) (
       λ s. record {
         ipv4 = λ on net. k.checksum ∙ network.0 s.reads_carried.1 on (sym k.network ∙ net);
-        udp = (transport.0 s.reads_carried.2).0;
-        tcp = (transport.0 s.reads_carried.2).1;
+        udp = (transport.0 s.reads_carried.3).0;
+        tcp = (transport.0 s.reads_carried.3).1;
       },
       λ h. record {
         reads_header = r.reads_header;
-        reads_carried = (type, network.1 (λ on net. sym k.checksum ∙ h.ipv4 on (k.network ∙ net)), transport.1 (h.udp, h.tcp));
+        reads_carried = (type, network.1 (λ on net. sym k.checksum ∙ h.ipv4 on (k.network ∙ net)), none, transport.1 (h.udp, h.tcp));
       },
     )

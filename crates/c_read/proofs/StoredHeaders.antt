@@ -11,11 +11,10 @@ use Rattle.ip_wire.proofs.TcpComputed.{tcp_of-Reads}
 use Rattle.ip_wire.proofs.UdpComputed.{udp_of-Reads}
 use Rattle.ip_wire.specs.Ethernet as ethernet
 use Rattle.ip_wire.specs.Field.{field}
-use Rattle.ip_wire.specs.Frame.{ReadsTransportBy, Transport, datagram, ipv4_payload, other, packet_payload, segment}
+use Rattle.ip_wire.specs.Frame.{ReadsTransportBy, Transport, datagram, ipv4_payload, other, segment}
 use Rattle.ip_wire.specs.Ip.{ReadsHeader}
 use Rattle.ip_wire.specs.Ipv4 as ipv4
 use Rattle.ip_wire.specs.Ipv6 as ipv6
-use Rattle.ip_wire.specs.Ipv6Fragment as fragment
 use Rattle.ip_wire.specs.Protocol.{number_of}
 use Rattle.ip_wire.specs.Tcp as tcp_bytes
 use Rattle.ip_wire.specs.TcpRepr as tcp
@@ -24,15 +23,16 @@ use Rattle.ip_wire.specs.Udp as udp
 use Rattle.ip_wire.specs.Udp.{udp_of}
 use Rattle.ip_wire.specs.Types.{EthernetRepr, IpAddress, IpProtocol, IpRepr, Ipv4, Ipv4Repr, Ipv6, Ipv6Repr, UdpRepr}
 use Rattle.ip_wire.specs.declared.IpProtocol.TheVariants as protocol
-use Rattle.ip_wire.specs.declared.Ipv6FragmentRepr.{Ipv6FragmentRepr}
 use Rattle.ip_wire.specs.declared.TcpControl.{TcpControl}
 use Rattle.ip_wire.specs.declared.TcpControl.TheVariants as control
 use Rattle.c_structs.specs.Verdicts.{icmp_verdict}
 use Rattle.c_structs.specs.declared.types.FrameFields.{FrameFields}
 use Rattle.c_structs.specs.declared.codes.Verdict.{Verdict}
+use Rattle.c_read.proofs.ChainSteps.{chain-right}
 use Rattle.c_read.proofs.CutBytes.{lt-false}
-use Rattle.c_read.specs.FrameFields.{fields_of, with_carried, with_fragment_by, with_fragment_header, with_ipv6_header, with_transport_by, has_message, is_icmp, with_icmp, with_message_by}
-use Rattle.c_read.specs.Stored.{HasFlag, HasProtocol, HasTransport, Locates, headed, linked, payload_after, transported, unchecked}
+use Rattle.c_read.proofs.StoredChain.{chain-protocol, no-fault}
+use Rattle.c_read.specs.FrameFields.{fields_of, ipv6_chain, with_carried, with_ipv6_header, with_transport_by, has_message, is_icmp, with_icmp, with_message_by}
+use Rattle.c_read.specs.Stored.{HasFlag, HasProtocol, HasTransport, Locates, headed, linked, extension_fault_of, payload_after, transported, unchecked, upper_payload}
 
 -- ---- payloads
 
@@ -89,10 +89,10 @@ fields_of-linked frame v r = rw ((ethernet_of-Reads frame v).1 r) refl
 
 -- The fields of the struct after an IP header that what follows depends on.
 pub record IsHeaded (f : FrameFields) (frame : List ℕ) (w : IpRepr) : Type 0 where
-  pub reason : f.reason ≡ 0
+  pub reason : extension_fault_of w (drop 14 frame) ≡ None → f.reason ≡ 0
   pub transport : f.transport ≡ 0
   pub protocol : HasProtocol f w
-  pub payload : Locates f frame (packet_payload w (drop 14 frame))
+  pub payload : Locates f frame (upper_payload w (drop 14 frame))
 
 headed-ipv4 : (frame : List ℕ) (v : EthernetRepr) (w : Ipv4Repr) → ipv4.Reads (drop 14 frame) false w → IsHeaded (headed frame v (Ipv4 w)) frame (Ipv4 w)
 headed-ipv4 frame v w r =
@@ -102,7 +102,7 @@ headed-ipv4 frame v w r =
     let whole = r.lengths.whole in
     let size = length-part bytes (ipv4.header_len bytes) (ipv4.total_len bytes) whole in
     record {
-      reason = refl;
+      reason = λ none. refl;
       transport = refl;
       protocol = sym (ap number_of r.next_header ∙ protocol_number (field bytes 72 8));
       payload = record {
@@ -112,36 +112,27 @@ headed-ipv4 frame v w r =
       };
     }
 
--- a fragment header changes none of these fields
-fragment-kept : (b : Bool) (f : FrameFields) (h : Ipv6FragmentRepr) (frame : List ℕ) (w : IpRepr) → IsHeaded f frame w
-    → IsHeaded (if b then f else with_fragment_header f h) frame w
-fragment-kept true f h frame w d = d
-fragment-kept false f h frame w d = record {
-  reason = d.reason;
-  transport = d.transport;
-  protocol = d.protocol;
-  payload = record { len = d.payload.len; octets = d.payload.octets };
-}
-
-fragment-kept-by : (p : IpProtocol) (f : FrameFields) (payload frame : List ℕ) (w : IpRepr) → IsHeaded f frame w → IsHeaded (with_fragment_by f p payload) frame w
-fragment-kept-by protocol.Ipv6Frag f payload frame w d = fragment-kept (nat_lt (length payload) 8) f (fragment.header_of (drop 2 payload)) frame w d
-fragment-kept-by p f payload frame w d = d
-
 headed-ipv6 : (frame : List ℕ) (v : EthernetRepr) (w : Ipv6Repr) → ipv6.Reads (drop 14 frame) w → IsHeaded (headed frame v (Ipv6 w)) frame (Ipv6 w)
 headed-ipv6 frame v w r =
     let bytes = drop 14 frame in
+    let payload = ipv6.payload_of bytes in
+    let c = ipv6_chain bytes in
     let whole = r.lengths in
     let size = length-part bytes 40 (ipv6.total_len bytes) whole in
-    fragment-kept-by w.next_header (with_ipv6_header (linked frame v) bytes w) (ipv6.payload_of bytes) frame (Ipv6 w) (record {
-      reason = refl;
+    let within = (chain-right (field bytes 48 8) (length payload) payload).within in
+    let rest = length-drop c.len payload in
+    let outer = inner-found frame bytes payload 14 (length bytes) 40 (length payload) refl (rest-found frame) (omega (arith, size, whole))
+    (range-found bytes 40 (ipv6.total_len bytes) whole) refl in
+    record {
+      reason = no-fault c.fault 0;
       transport = refl;
-      protocol = sym (ap number_of r.next_header ∙ protocol_number (field bytes 48 8));
+      protocol = chain-protocol (with_ipv6_header (linked frame v) bytes w).ip c.fragment ∙ sym (ap number_of r.next_header ∙ protocol_number (field bytes 48 8));
       payload = record {
-        len = refl;
-        octets = inner-found frame bytes (ipv6.payload_of bytes) 14 (length bytes) 40 (length (ipv6.payload_of bytes)) refl (rest-found frame)
-            (omega (arith, size, whole)) (range-found bytes 40 (ipv6.total_len bytes) whole) refl;
+        len = sym rest;
+        octets = inner-found frame payload (drop c.len payload) 54 (length payload) c.len (length payload - c.len) refl outer (omega (arith, rest, within))
+            (take_all (length (drop c.len payload)) (drop c.len payload) (omega arith)) (sym rest);
       };
-    })
+    }
 
 pub is-headed : (frame : List ℕ) (v : EthernetRepr) (w : IpRepr) → ReadsHeader (drop 14 frame) false w → IsHeaded (headed frame v w) frame w
 is-headed frame v (Ipv4 w) r = headed-ipv4 frame v w r

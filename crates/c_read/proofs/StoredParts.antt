@@ -1,5 +1,5 @@
 -- The struct of a frame that is not parsed whole stores the values of the headers before.
-use Rattle.std.proofs.Common.{ℕ, ◌≡◌, ◌≢◌, ◌⊎◌, inl, inr, ◌∙◌, ◌==◌, ◌||◌, not, nat_lt, is_none, if◌then◌else◌, Bool, true, false, List, Option, Some, None, drop, length, refl, ap, arith}
+use Rattle.std.proofs.Common.{ℕ, ◌≡◌, ◌≢◌, inl, inr, ◌∙◌, ◌==◌, ◌||◌, not, nat_lt, is_none, if◌then◌else◌, Bool, true, false, List, Option, Some, None, drop, length, refl, ap, subst, sym, arith}
 use Rattle.std.specs.Option.{option_map_or}
 use Rattle.ip_wire.proofs.ArpComputed.{arp_of-Reads}
 use Rattle.ip_wire.proofs.EthernetComputed.{ethernet_of-Reads}
@@ -10,8 +10,8 @@ use Rattle.ip_wire.proofs.UdpComputed.{udp_of-Reads}
 use Rattle.ip_wire.specs.Arp.{arp_of}
 use Rattle.ip_wire.specs.Ethernet as ethernet
 use Rattle.ip_wire.specs.Ethernet.{ethernet_of}
-use Rattle.ip_wire.specs.Frame.{Carried, ReadsTransportBy, ReadsCarried, ReadsFrame, Transport, datagram, ipv4_payload, message, other, packet, packet_payload, segment, type_of}
-use Rattle.ip_wire.specs.Ip.{ReadsHeader, dst_addr_of, next_header_of, src_addr_of}
+use Rattle.ip_wire.specs.Frame.{Carried, ReadsTransportBy, Transport, datagram, ipv4_payload, message, other, packet, segment, type_of}
+use Rattle.ip_wire.specs.Ip.{ReadsHeader, dst_addr_of, src_addr_of}
 use Rattle.ip_wire.specs.Ipv4 as ipv4
 use Rattle.ip_wire.specs.Ipv4.{ipv4_of}
 use Rattle.ip_wire.specs.Ipv6 as ipv6
@@ -20,10 +20,12 @@ use Rattle.ip_wire.specs.Tcp as tcp_bytes
 use Rattle.ip_wire.specs.TcpRepr.{tcp_of}
 use Rattle.ip_wire.specs.Udp as udp
 use Rattle.ip_wire.specs.Udp.{udp_of}
-use Rattle.ip_wire.specs.Types.{ArpRepr, EthernetProtocol, EthernetRepr, IpAddress, IpProtocol, IpRepr, Ipv4, Ipv4Repr, Ipv6}
+use Rattle.ip_wire.specs.Types.{ArpRepr, EthernetProtocol, EthernetRepr, IpAddress, IpProtocol, IpRepr, Ipv4, Ipv4Repr, Ipv6, Ipv6Repr}
 use Rattle.ip_wire.specs.declared.EthernetProtocol.TheVariants as ethertype
 use Rattle.ip_wire.specs.declared.IpProtocol.TheVariants as protocol
 use Rattle.ip_wire.specs.Field.{field}
+use Rattle.ip_wire.specs.Protocol.{protocol_of}
+use Rattle.ip_wire.specs.declared.Ipv6FragmentRepr.{Ipv6FragmentRepr}
 use Rattle.ip_wire.specs.TcpRepr.{control_of}
 use Rattle.ip_wire.specs.declared.ArpRepr.TheVariants.{EthernetIpv4}
 use Rattle.c_structs.specs.Codes.{reason_code}
@@ -34,17 +36,15 @@ use Rattle.c_structs.specs.declared.codes.Reason.TheVariants as reason
 use Rattle.c_structs.specs.declared.types.FrameFields.{FrameFields}
 use Rattle.c_structs.specs.declared.types.Ip.{Ip}
 use Rattle.c_structs.specs.declared.codes.Verdict.{Verdict}
-use Rattle.c_read.proofs.StoredFrame.{chosen-network, fragment-network, with_carried-choice, with_carried-ipv4, with_carried-ipv6}
+use Rattle.c_read.proofs.ChainSteps.{chain-right, none-some}
+use Rattle.c_read.proofs.StoredChain.{a-fault, extension-kept, given, no-part}
+use Rattle.c_read.proofs.StoredFrame.{chosen-network, with_carried-choice, with_carried-ipv4, with_carried-ipv6}
 use Rattle.c_read.proofs.StoredHeaders.{fields_of-linked, first-chosen, is-headed, rest-found}
-use Rattle.c_read.specs.FrameFields.{arp_fault, after_header, fields_of, ipv4_fault, ipv6_fault, rejected, rejected_transport, tcp_fault, udp_fault, with_arp, with_carried, with_fragment_by, with_ipv4, with_ipv4_header, with_ipv6, with_ipv6_header, with_message, with_payload, with_tcp_header, with_transport_by, with_udp_header, has_message, with_icmp}
-use Rattle.c_read.specs.Stored.{StoresFragment, StoresRejected, StoresRejectedBy, StoresUnread, headed, linked, network_fault, unchecked}
+use Rattle.c_read.specs.FrameFields.{arp_fault, after_header, fields_of, ipv4_fault, ipv6_fault, rejected, rejected_transport, tcp_fault, udp_fault, ipv6_chain, with_arp, with_carried, with_ipv4, with_ipv4_header, with_ipv6, with_message, with_payload, with_tcp_header, with_transport_by, with_udp_header, has_message, with_icmp}
+use Rattle.c_read.specs.Stored.{StepsCarried, StepsFrame, StoresFragment, StoresRejected, StoresRejectedBy, StoresUnread, extension_fault_of, headed, headed_by, linked, network_fault, unchecked, upper_payload, upper_protocol}
+use Rattle.c_read.specs.Ipv6Chain.{is_part}
 
 -- ---- faults
-
--- there is a value or none
-given : {A : Type 0} (o : Option A) → (o ≡ None) ⊎ ((a : A) × (o ≡ Some a))
-given None = inl refl
-given (Some a) = inr (a, refl)
 
 -- the number of a fault is not that of "read"
 pub record IsFault (why : Reason) : Type 0 where
@@ -126,7 +126,7 @@ chosen-reason true f g part read = absurd (cc)
 chosen-reason false f g part read = read
 
 ipv4-only : (f : FrameFields) (bytes : List ℕ) → (with_ipv4 f bytes).reason ≡ 0 → (with_ipv4 f bytes).is_fragment ≡ 0
-    → (w : Carried) × ReadsCarried unchecked ethertype.Ipv4 bytes w
+    → (w : Carried) × StepsCarried unchecked ethertype.Ipv4 bytes w
 ipv4-only f bytes read whole = elim (given (ipv4_of false bytes)) [
   | inl none ↦ absurd ((ipv4-faulty bytes).other (rw none at read))
   | inr (w, is) ↦
@@ -136,28 +136,38 @@ ipv4-only f bytes read whole = elim (given (ipv4_of false bytes)) [
       let (t, reads) = between-only next w.next_header (src_addr_of (Ipv4 w)) (dst_addr_of (Ipv4 w)) (ipv4_payload bytes)
       (chosen-reason (ipv4.is_fragment bytes) next inner part (rw is at read))
       in
-      (packet (Ipv4 w) t, (refl, ((ipv4_of-Reads false bytes w).0 is, part), reads))
+      (packet (Ipv4 w) t, (refl, ((ipv4_of-Reads false bytes w).0 is, part), refl, reads))
 ]
 
 ipv6-only : (f : FrameFields) (bytes : List ℕ) → (with_ipv6 f bytes).reason ≡ 0
-    → (w : Carried) × ReadsCarried unchecked ethertype.Ipv6 bytes w
+    → (w : Carried) × StepsCarried unchecked ethertype.Ipv6 bytes w
 ipv6-only f bytes read = elim (given (ipv6_of bytes)) [
   | inl none ↦ absurd ((ipv6-faulty bytes).other (rw none at read))
   | inr (w, is) ↦
       let inner = rw is at read in
-      let next = with_fragment_by (with_ipv6_header f bytes w) w.next_header (ipv6.payload_of bytes) in
-      let (t, reads) = between-only next w.next_header (src_addr_of (Ipv6 w)) (dst_addr_of (Ipv6 w)) (ipv6.payload_of bytes) inner in
-      (packet (Ipv6 w) t, (refl, (ipv6_of-Reads bytes w).0 is, reads))
+      let payload = ipv6.payload_of bytes in
+      let c = ipv6_chain bytes in
+      let next = headed_by f bytes (Ipv6 w) in
+      let rest = drop c.len payload in
+      let right = chain-right (field bytes 48 8) (length payload) payload in
+      elim (given c.fault) [
+        | inl none ↦
+            let (t, reads) = between-only next (protocol_of c.protocol) (src_addr_of (Ipv6 w)) (dst_addr_of (Ipv6 w)) rest inner in
+            (packet (Ipv6 w) t, (refl, (ipv6_of-Reads bytes w).0 is, none, reads))
+        | inr (why, fault) ↦
+            let same = extension-kept next c.protocol w.src_addr w.dst_addr rest (right.fault why fault) in
+            absurd (right.code why fault (sym (a-fault c.fault why f.reason fault) ∙ sym (ap (λ (g : FrameFields). g.reason) same) ∙ inner))
+      ]
 ]
 
-arp-only : (f : FrameFields) (bytes : List ℕ) → (with_arp f bytes).reason ≡ 0 → (w : Carried) × ReadsCarried unchecked ethertype.Arp bytes w
+arp-only : (f : FrameFields) (bytes : List ℕ) → (with_arp f bytes).reason ≡ 0 → (w : Carried) × StepsCarried unchecked ethertype.Arp bytes w
 arp-only f bytes read = elim (given (arp_of bytes)) [
   | inl none ↦ absurd ((arp-faulty bytes).other (rw none at read))
   | inr (w, is) ↦ (message w, (refl, (arp_of-Reads bytes w).0 is))
 ]
 
 carried-only : (f : FrameFields) (t : EthernetProtocol) (bytes : List ℕ) → f.network ≡ 0 → (with_carried f t bytes).reason ≡ 0 → (with_carried f t bytes).network ≢ 0
-    → (with_carried f t bytes).is_fragment ≡ 0 → (w : Carried) × ReadsCarried unchecked t bytes w
+    → (with_carried f t bytes).is_fragment ≡ 0 → (w : Carried) × StepsCarried unchecked t bytes w
 carried-only f ethertype.Arp bytes none read network whole = arp-only f bytes read
 carried-only f ethertype.Ipv4 bytes none read network whole = ipv4-only f bytes read whole
 carried-only f ethertype.Ipv6 bytes none read network whole = ipv6-only f bytes read
@@ -165,7 +175,7 @@ carried-only f (ethertype.Unknown n) bytes none read network whole = absurd (net
 
 -- a frame with a network header, no rejected header and no fragment is parsed whole
 pub only-read : (frame : List ℕ) → (fields_of frame).reason ≡ 0 → (fields_of frame).network ≢ 0 → (fields_of frame).is_fragment ≡ 0
-    → (v : EthernetRepr) × (w : Carried) × ReadsFrame unchecked frame v w
+    → (v : EthernetRepr) × (w : Carried) × StepsFrame unchecked frame v w
 unfolding fields_of
 only-read frame read network whole = elim (given (ethernet_of frame)) [
   | inl none ↦ absurd (too-short.other (rw none at read))
@@ -236,31 +246,65 @@ is-rejected f protocol.Tcp src dst bytes read fault =
     }
 is-rejected f p src dst bytes read fault = absurd (fault (message-reason (has_message p src bytes) f bytes (icmp_verdict src dst bytes) ∙ read))
 
--- no header after a fragment header is rejected
-rejected-part : (f g headers : FrameFields) (p : IpProtocol) (src dst : IpAddress) (bytes payload : List ℕ) → StoresRejectedBy p g headers src dst bytes → with_fragment_by f p payload ≡ f
-rejected-part f g headers protocol.Ipv6Frag src dst bytes payload h = absurd h
-rejected-part f g headers p src dst bytes payload h = refl
-
 -- the fragment's struct is not chosen where a header is rejected
 rejected-whole : (f g : FrameFields) (b : Bool) → f.reason ≡ 0 → (if b then f else g).reason ≢ 0 → b ≡ false
 rejected-whole f g true read fault = absurd (fault read)
 rejected-whole f g false read fault = refl
 
 -- the struct of a packet that is no fragment and whose transport header is rejected
-stores-after_header : (frame : List ℕ) (v : EthernetRepr) (w : IpRepr) → ReadsHeader (drop 14 frame) false w → let g = with_payload (headed frame v w) w (packet_payload w (drop 14 frame)) in
-    g.reason ≢ 0 → (StoresRejectedBy (next_header_of w) g (headed frame v w) (src_addr_of w) (dst_addr_of w) (packet_payload w (drop 14 frame)) → (headed frame v w).is_fragment ≡ 0)
+stores-after_header : (frame : List ℕ) (v : EthernetRepr) (w : IpRepr) → ReadsHeader (drop 14 frame) false w → let bytes = drop 14 frame in
+    let g = with_transport_by (headed frame v w) (upper_protocol w bytes) (src_addr_of w) (dst_addr_of w) (upper_payload w bytes) in
+    g.reason ≢ 0 → extension_fault_of w bytes ≡ None
+    → (StoresRejectedBy (upper_protocol w bytes) g (headed frame v w) (src_addr_of w) (dst_addr_of w) (upper_payload w bytes) → (headed frame v w).is_fragment ≡ 0)
     → StoresRejected g frame v w
-stores-after_header frame v w r fault part =
+stores-after_header frame v w r fault none part =
+    let bytes = drop 14 frame in
     let h = is-headed frame v w r in
-    let d = is-rejected (headed frame v w) (next_header_of w) (src_addr_of w) (dst_addr_of w) (packet_payload w (drop 14 frame)) h.reason fault in
+    let d = is-rejected (headed frame v w) (upper_protocol w bytes) (src_addr_of w) (dst_addr_of w) (upper_payload w bytes) (h.reason none) fault in
     record {
       part = d.keeps.part ∙ part d.stores;
-      fields = d.stores;
+      fields = inr d.stores;
       values = ap (λ (i : Ip). i.protocol) d.keeps.ip ∙ h.protocol;
       payload = record { len = d.keeps.len ∙ h.payload.len; octets = rw (d.keeps.offset, d.keeps.len) h.payload.octets };
     }
 
--- the struct of a packet whose transport header is rejected stores the headers
+-- no transport header after the header of a fragment is rejected
+no-rejected-part : (p : ℕ) (f g : FrameFields) (src dst : IpAddress) (bytes : List ℕ) → StoresRejectedBy (protocol_of p) f g src dst bytes → p ≡ 44 → ⊥
+no-rejected-part p f g src dst bytes stores is = subst (λ (q : ℕ). StoresRejectedBy (protocol_of q) f g src dst bytes) is stores
+
+-- a header is not that of a fragment, if that would be wrong
+whole-header : (v : Ipv6FragmentRepr) → (is_part v ≡ true → ⊥) → is_part v ≡ false
+whole-header v never = by (is_part v) refl
+  where
+    by : (b : Bool) → is_part v ≡ b → is_part v ≡ false
+    by true is = absurd (never is)
+    by false is = is
+
+-- the struct of an IPv6 packet with a rejected header after the IPv6 header
+ipv6-rejected : (frame : List ℕ) (v : EthernetRepr) (w : Ipv6Repr) → ReadsHeader (drop 14 frame) false (Ipv6 w) → let bytes = drop 14 frame in
+    let g = with_transport_by (headed frame v (Ipv6 w)) (upper_protocol (Ipv6 w) bytes) (src_addr_of (Ipv6 w)) (dst_addr_of (Ipv6 w)) (upper_payload (Ipv6 w) bytes) in
+    g.reason ≢ 0 → StoresRejected g frame v (Ipv6 w)
+ipv6-rejected frame v w r reason =
+    let bytes = drop 14 frame in
+    let payload = ipv6.payload_of bytes in
+    let c = ipv6_chain bytes in
+    let right = chain-right (field bytes 48 8) (length payload) payload in
+    elim (given c.fault) [
+      | inl none ↦
+          stores-after_header frame v (Ipv6 w) r reason none (λ stores. no-part c.fragment (λ h is. whole-header h (λ part.
+          no-rejected-part c.protocol _ (headed frame v (Ipv6 w)) (src_addr_of (Ipv6 w)) (dst_addr_of (Ipv6 w)) (drop c.len payload) stores (right.part h is part).0)))
+      | inr (why, fault) ↦
+          let h = is-headed frame v (Ipv6 w) r in
+          let same = extension-kept (headed frame v (Ipv6 w)) c.protocol w.src_addr w.dst_addr (drop c.len payload) (right.fault why fault) in
+          subst (λ g. StoresRejected g frame v (Ipv6 w)) (sym same) (record {
+            part = no-part c.fragment (λ u is. whole-header u (λ part. none-some why (sym (right.part u is part).1 ∙ fault)));
+            fields = inl ((λ none. none-some why (sym none ∙ fault)), refl);
+            values = h.protocol;
+            payload = h.payload;
+          })
+    ]
+
+-- the struct of a packet whose transport header or extension header is rejected stores the headers
 pub stores-rejected : (frame : List ℕ) (v : EthernetRepr) (w : IpRepr) → ethernet.Reads frame v → v.ethertype ≡ type_of w → ReadsHeader (drop 14 frame) false w
     → (fields_of frame).reason ≢ 0 → StoresRejected (fields_of frame) frame v w
 stores-rejected frame v (Ipv4 w) link type r fault =
@@ -273,13 +317,12 @@ stores-rejected frame v (Ipv4 w) link type r fault =
     let chosen : with_carried f v.ethertype bytes ≡ (if ipv4.is_fragment bytes then g else inner) = with_carried-choice f v.ethertype bytes w type read in
     let whole = rejected-whole g inner (ipv4.is_fragment bytes) refl (rw (is ∙ chosen) at fault) in
     let all = is ∙ with_carried-ipv4 f v.ethertype bytes w type read whole in
-    rw all (stores-after_header frame v (Ipv4 w) r (rw all at fault) (λ stores. ap flag whole))
+    rw all (stores-after_header frame v (Ipv4 w) r (rw all at fault) refl (λ stores. ap flag whole))
 stores-rejected frame v (Ipv6 w) link type r fault =
     let bytes = drop 14 frame in
-    let f = with_ipv6_header (linked frame v) bytes w in
     let read = (ipv6_of-Reads bytes w).1 r in
     let all = fields_of-linked frame v link ∙ with_carried-ipv6 (linked frame v) v.ethertype bytes w type read in
-    rw all (stores-after_header frame v (Ipv6 w) r (rw all at fault) (λ stores. ap (λ (g : FrameFields). g.is_fragment) (rejected-part f _ _ w.next_header _ _ _ (ipv6.payload_of bytes) stores)))
+    rw all (ipv6-rejected frame v w r (rw all at fault))
 
 -- ---- a rejected network header, or an unknown type
 
@@ -314,9 +357,8 @@ carried-unread f ethertype.Ipv4 bytes same network = elim (given (ipv4_of false 
 carried-unread f ethertype.Ipv6 bytes same network = elim (given (ipv6_of bytes)) [
   | inl none ↦ rw none refl
   | inr (w, is) ↦
-      let first = with_ipv6_header f bytes w in
-      let next = with_fragment_by first w.next_header (ipv6.payload_of bytes) in
-      let three = between-network next w.next_header (src_addr_of (Ipv6 w)) (dst_addr_of (Ipv6 w)) (ipv6.payload_of bytes) ∙ fragment-network first w.next_header (ipv6.payload_of bytes) in
+      let next = headed_by f bytes (Ipv6 w) in
+      let three = between-network next (upper_protocol (Ipv6 w) bytes) (src_addr_of (Ipv6 w)) (dst_addr_of (Ipv6 w)) (upper_payload (Ipv6 w) bytes) in
       absurd (let no = rw is at network in omega (arith, no, three))
 ]
 carried-unread f (ethertype.Unknown n) bytes same network = same

@@ -1,19 +1,20 @@
 -- The struct of a frame of which only the first bytes were captured. The payload's length in the struct counts all
 -- bytes of the frame. The bytes are those that were captured, and fewer.
 -- Pinned by: `CutWorked`
-use Rattle.std.specs.Prelude.{ℕ, ◌≡◌, ◌<◌, ◌⊎◌, ◌+◌, ◌-◌, ◌==◌, ◌||◌, not, nat_le, nat_lt, if◌then◌else◌, Bool, false, List, drop, length}
+use Rattle.std.specs.Prelude.{ℕ, ◌≡◌, ◌<◌, ◌≤◌, ◌⊎◌, ◌+◌, ◌-◌, ◌==◌, ◌||◌, not, nat_le, nat_lt, if◌then◌else◌, Bool, false, List, drop, length}
 use Rattle.std.specs.Option.{option_map_or}
 use Rattle.ip_wire.specs.Ethernet as ethernet
 use Rattle.ip_wire.specs.Field.{field}
+use Rattle.ip_wire.specs.Protocol.{protocol_of}
 use Rattle.ip_wire.specs.Ip.{dst_addr_of, next_header_of, src_addr_of}
 use Rattle.ip_wire.specs.Ipv4 as ipv4
 use Rattle.ip_wire.specs.Ipv6 as ipv6
-use Rattle.ip_wire.specs.Ipv6Fragment as fragment
 use Rattle.ip_wire.specs.Tcp as tcp
 use Rattle.ip_wire.specs.TcpRepr.{tcp_of}
 use Rattle.ip_wire.specs.Udp as udp
-use Rattle.ip_wire.specs.Types.{EthernetProtocol, EthernetRepr, IpAddress, IpProtocol, IpRepr, Ipv4, Ipv6}
+use Rattle.ip_wire.specs.Types.{EthernetProtocol, EthernetRepr, IpAddress, IpProtocol, IpRepr, Ipv4}
 use Rattle.ip_wire.specs.declared.EthernetProtocol.TheVariants as ethertype
+use Rattle.ip_wire.specs.declared.IpAddress.TheVariants as address
 use Rattle.ip_wire.specs.declared.IpProtocol.TheVariants as protocol
 use Rattle.c_structs.specs.Codes.{network_code, reason_code, transport_code, verdict_code}
 use Rattle.c_structs.specs.Nothing.{nothing_of, no_icmp, no_tcp}
@@ -23,8 +24,9 @@ use Rattle.c_structs.specs.declared.codes.Reason.TheVariants as reason
 use Rattle.c_structs.specs.declared.codes.TransportKind.TheVariants as transport
 use Rattle.c_structs.specs.declared.codes.Verdict.TheVariants as verdict
 use Rattle.c_structs.specs.declared.types.FrameFields.{FrameFields}
+use Rattle.c_read.specs.Ipv6Chain.{chain_of}
 use Rattle.c_read.specs.Summary.{transport_of}
-use Rattle.c_read.specs.FrameFields.{bare_of, after_header, fields_of, has_message, ipv4_fault, ipv6_fault, packet_fields_of, rejected, rejected_transport, tcp_fault, with_arp, with_fragment_header, with_icmp, with_ipv4, with_ipv4_fields, with_ipv6, with_ipv6_fields, with_link, with_tcp_fields, with_udp, with_udp_fields}
+use Rattle.c_read.specs.FrameFields.{bare_of, after_header, fields_of, has_message, ipv4_fault, ipv6_fault, packet_fields_of, rejected, rejected_transport, tcp_fault, with_arp, with_chain, with_icmp, with_ipv4, with_ipv4_fields, with_ipv6, with_ipv6_fields, with_link, with_tcp_fields, with_udp, with_udp_fields}
 
 -- ---- the headers
 
@@ -86,23 +88,16 @@ cut_ipv4 f bytes =
     else if nat_lt (length bytes) (ipv4.header_len bytes) then rejected f reason.HeaderCut
     else begun_ipv4 f bytes
 
--- the fields with those of an IPv6 fragment header; it is not parsed if the payload itself is too short for it
-abbrev pub cut_fragment : FrameFields → List ℕ → FrameFields
-cut_fragment f bytes =
-    if nat_lt f.payload_len 8 then f
-    else if nat_lt (length bytes) 8 then rejected f reason.HeaderCut
-    else with_fragment_header f (fragment.header_of (drop 2 bytes))
-
--- the fields with those of a fragment header, if the protocol of an IPv6 packet says that there is one
-abbrev pub cut_fragment_by : FrameFields → IpProtocol → List ℕ → FrameFields
-cut_fragment_by f protocol.Ipv6Frag bytes = cut_fragment f bytes
-cut_fragment_by f _ bytes = f
+-- the fields with those of the payload of an IPv6 packet: of its extension headers, and of what they lead to
+abbrev pub cut_extended : FrameFields → IpAddress → IpAddress → List ℕ → FrameFields
+cut_extended f src dst bytes =
+    let c = chain_of f.protocol f.payload_len bytes in cut_transport_by (with_chain f c) (protocol_of c.protocol) src dst (drop c.len bytes)
 
 -- the fields with those of an IPv6 packet whose header was captured, but not all of its payload
 abbrev pub begun_ipv6 : FrameFields → List ℕ → FrameFields
 begun_ipv6 f bytes =
-    let v = ipv6.header_of bytes in let next = cut_fragment_by (with_ipv6_fields f bytes v v.payload_len) v.next_header (drop 40 bytes) in
-    cut_payload next (Ipv6 v) (drop 40 bytes)
+    let v = ipv6.header_of bytes in
+    cut_extended (with_ipv6_fields f bytes v v.payload_len) (address.Ipv6 v.src_addr) (address.Ipv6 v.dst_addr) (drop 40 bytes)
 
 -- the fields with those of an IPv6 packet
 abbrev pub cut_ipv6 : FrameFields → List ℕ → FrameFields
@@ -149,11 +144,10 @@ captured_packet_of bytes missing =
 
 -- ---- the same by the struct of the whole frame
 
--- a header that was not captured as a whole; `options` are those of TCP
+-- a header that was not captured as a whole, but no IPv6 extension header; `options` are those of TCP
 pub data CutHeader : Type 0 where
   link : CutHeader
   network : CutHeader
-  fragment_header : CutHeader
   transport_header : CutHeader
   options : CutHeader
 
@@ -161,10 +155,6 @@ pub data CutHeader : Type 0 where
 abbrev pub before : CutHeader → FrameFields → FrameFields
 before link g = nothing_of 0
 before network g = record (nothing_of 0) { ethernet = g.ethernet }
-before fragment_header g = record g {
-  ip = record g.ip { ident = 0; fragment_offset = 0; more_fragments = 0 };
-  is_fragment = 0;
-}
 before transport_header g = record g {
   transport_offset = 0;
   src = record g.src { port = 0 };
@@ -182,7 +172,7 @@ before options g = record g {
   icmp = no_icmp;
 }
 
--- where the header after the network header begins, or the payload if there is none
+-- where the header after the network header and its extension headers begins, or the payload if there is none
 abbrev pub after_network : FrameFields → ℕ
 after_network g = if transport_of g == transport_code transport.None then g.payload_offset else g.transport_offset
 
@@ -195,7 +185,6 @@ payload_end g = g.payload_offset + g.payload_len
 abbrev pub begin_of : CutHeader → FrameFields → ℕ
 begin_of link g = 0
 begin_of network g = if g.network == network_code network_kind.None then g.payload_offset else g.network_offset
-begin_of fragment_header g = g.payload_offset
 begin_of transport_header g = g.transport_offset
 begin_of options g = g.transport_offset
 
@@ -204,7 +193,6 @@ begin_of options g = g.transport_offset
 abbrev pub end_of : CutHeader → FrameFields → ℕ
 end_of link g = begin_of network g
 end_of network g = if g.network == network_code network_kind.None then payload_end g else after_network g
-end_of fragment_header g = g.payload_offset + 8
 end_of transport_header g = g.transport_offset + (if transport_of g == transport_code transport.Udp then 8 else 20)
 end_of options g = g.transport_offset + g.tcp.header_len
 
@@ -215,6 +203,23 @@ pub record IsCutAt (n : ℕ) (h : CutHeader) (f g : FrameFields) : Type 0 where
   pub offset : f.payload_offset ≡ begin_of h g
   pub missing : n < end_of h g
   pub fields : f ≡ record (before h g) { reason = f.reason; payload_offset = f.payload_offset; payload_len = f.payload_len }
+
+-- The first n bytes end within an IPv6 extension header: the fields before it are those of the whole frame, and the payload
+-- begins at it. Of the whole frame this header was stepped through, or the payload begins at it too. The identification is
+-- that of an earlier atomic fragment header, if there is one.
+pub record IsCutWithin (n : ℕ) (f g : FrameFields) : Type 0 where
+  pub reason : f.reason ≡ reason_code reason.HeaderCut
+  pub after : g.network_offset + 40 ≤ f.payload_offset
+  pub missing : (n < after_network g) ⊎ (f.payload_offset ≡ g.payload_offset)
+  pub order : f.payload_offset ≤ after_network g
+  pub fields : f ≡ record (before transport_header g) {
+    ip = record g.ip { ident = f.ip.ident; fragment_offset = 0; more_fragments = 0 };
+    is_fragment = 0;
+    protocol = f.protocol;
+    reason = f.reason;
+    payload_offset = f.payload_offset;
+    payload_len = f.payload_len;
+  }
 
 -- no header was cut: all fields are those of the whole frame, but a checksum may cover bytes that are missing
 pub record HasHeaders (n : ℕ) (f g : FrameFields) : Type 0 where
@@ -237,4 +242,4 @@ pub record LacksMessage (n : ℕ) (f g : FrameFields) : Type 0 where
 
 -- the fields of a frame of which the first n bytes were captured, by those of the whole frame
 abbrev pub IsCutOf : ℕ → FrameFields → FrameFields → Type 0
-IsCutOf n f g = (HasHeaders n f g ⊎ LacksMessage n f g) ⊎ ((h : CutHeader) × IsCutAt n h f g)
+IsCutOf n f g = (HasHeaders n f g ⊎ LacksMessage n f g) ⊎ (((h : CutHeader) × IsCutAt n h f g) ⊎ IsCutWithin n f g)

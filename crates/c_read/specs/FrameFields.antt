@@ -8,17 +8,17 @@ use Rattle.ip_wire.specs.Ethernet as ethernet
 use Rattle.ip_wire.specs.Ethernet.{ethernet_of}
 use Rattle.ip_wire.specs.Field.{field}
 use Rattle.ip_wire.specs.Frame.{ipv4_payload}
+use Rattle.ip_wire.specs.Protocol.{protocol_of}
 use Rattle.ip_wire.specs.Ip.{dst_addr_of, next_header_of, src_addr_of}
 use Rattle.ip_wire.specs.Ipv4 as ipv4
 use Rattle.ip_wire.specs.Ipv4.{ipv4_of}
 use Rattle.ip_wire.specs.Ipv6 as ipv6
 use Rattle.ip_wire.specs.Ipv6.{ipv6_of}
-use Rattle.ip_wire.specs.Ipv6Fragment as fragment
 use Rattle.ip_wire.specs.Tcp as tcp
 use Rattle.ip_wire.specs.TcpRepr.{control_of, tcp_of}
 use Rattle.ip_wire.specs.Udp as udp
 use Rattle.ip_wire.specs.Udp.{udp_of}
-use Rattle.ip_wire.specs.Types.{ArpRepr, EthernetProtocol, EthernetRepr, IpAddress, IpProtocol, IpRepr, Ipv4, Ipv4Repr, Ipv6, Ipv6Repr}
+use Rattle.ip_wire.specs.Types.{ArpRepr, EthernetProtocol, EthernetRepr, IpAddress, IpProtocol, IpRepr, Ipv4, Ipv4Repr, Ipv6Repr}
 use Rattle.ip_wire.specs.declared.ArpRepr.TheVariants.{EthernetIpv4}
 use Rattle.ip_wire.specs.declared.EthernetProtocol.TheVariants as ethertype
 use Rattle.ip_wire.specs.declared.IpAddress.TheVariants as address
@@ -39,6 +39,8 @@ use Rattle.c_structs.specs.declared.types.FrameFields.{FrameFields}
 use Rattle.c_structs.specs.declared.types.Icmp.{Icmp}
 use Rattle.c_structs.specs.declared.types.Ip.{Ip}
 use Rattle.c_structs.specs.declared.types.Tcp.{Tcp}
+use Rattle.c_read.specs.Ipv6Chain.{chain_of, is_part}
+use Rattle.c_read.specs.declared.ipv6_chain.Chain.{Chain}
 
 -- ---- where the payload begins
 
@@ -226,6 +228,7 @@ with_ipv4_fields f bytes v payload_len =
       src = endpoint_of (address.Ipv4 v.src_addr) 0;
       dst = endpoint_of (address.Ipv4 v.dst_addr) 0;
       ip = ipv4_values bytes v;
+      protocol = field bytes 72 8;
       is_fragment = flag (ipv4.is_fragment bytes);
       ipv4_checksum = verdict_code (ipv4_verdict bytes);
     }
@@ -260,38 +263,43 @@ with_ipv6_fields f bytes v payload_len =
       src = endpoint_of (address.Ipv6 v.src_addr) 0;
       dst = endpoint_of (address.Ipv6 v.dst_addr) 0;
       ip = ipv6_values f.ip bytes v;
+      protocol = field bytes 48 8;
     }
 
 -- the fields with those of an IPv6 header before the payload in these bytes
 abbrev pub with_ipv6_header : FrameFields → List ℕ → Ipv6Repr → FrameFields
 with_ipv6_header f bytes v = with_ipv6_fields f bytes v (length (ipv6.payload_of bytes))
 
--- the fields with those of an IPv6 fragment header; if it describes the only fragment, the packet is whole
+-- the values of an IP header with those of an IPv6 fragment header
+abbrev pub fragment_values : Ip → Ipv6FragmentRepr → Ip
+fragment_values ip v = record ip { ident = v.ident; fragment_offset = 8 * v.frag_offset; more_fragments = flag v.more_frags }
+
+-- the fields with those of an IPv6 fragment header
 abbrev pub with_fragment_header : FrameFields → Ipv6FragmentRepr → FrameFields
-with_fragment_header f v = record f {
-  ip = record f.ip {
-    ident = v.ident;
-    fragment_offset = 8 * v.frag_offset;
-    more_fragments = flag v.more_frags;
-  };
-  is_fragment = flag (v.more_frags || not (v.frag_offset == 0));
+with_fragment_header f v = record f { ip = fragment_values f.ip v; is_fragment = flag (is_part v) }
+
+-- the fields with those of the extension headers of an IPv6 packet; what follows them is the payload
+abbrev pub with_chain : FrameFields → Chain → FrameFields
+with_chain f c = let next = after_header f c.len (f.payload_len - c.len) in record next {
+  ip = option_map_or (fragment_values f.ip) c.fragment f.ip;
+  protocol = c.protocol;
+  is_fragment = option_map_or (λ v. flag (is_part v)) c.fragment f.is_fragment;
+  reason = option_map_or reason_code c.fault f.reason;
 }
 
--- the fields with those of a fragment header, if the payload holds all of it; its values follow its first 2 bytes.
--- The payload still begins at it.
-abbrev pub with_fragment : FrameFields → List ℕ → FrameFields
-with_fragment f bytes = if nat_lt (length bytes) 8 then f else with_fragment_header f (fragment.header_of (drop 2 bytes))
+-- the extension headers of an IPv6 packet
+abbrev pub ipv6_chain : List ℕ → Chain
+ipv6_chain bytes = chain_of (field bytes 48 8) (length (ipv6.payload_of bytes)) (ipv6.payload_of bytes)
 
--- the fields with those of a fragment header, if the protocol of an IPv6 packet says that there is one
-abbrev pub with_fragment_by : FrameFields → IpProtocol → List ℕ → FrameFields
-with_fragment_by f protocol.Ipv6Frag bytes = with_fragment f bytes
-with_fragment_by f _ bytes = f
+-- the fields with those of the payload of an IPv6 packet: of its extension headers, and of what they lead to
+abbrev pub with_extended : FrameFields → IpAddress → IpAddress → List ℕ → FrameFields
+with_extended f src dst bytes =
+    let c = chain_of f.protocol (length bytes) bytes in with_transport_by (with_chain f c) (protocol_of c.protocol) src dst (drop c.len bytes)
 
 -- the fields with those of an IPv6 packet, or why it is rejected
 abbrev pub with_ipv6 : FrameFields → List ℕ → FrameFields
 with_ipv6 f bytes =
-    option_map_or (λ v. let next = with_fragment_by (with_ipv6_header f bytes v) v.next_header (ipv6.payload_of bytes) in
-    with_payload next (Ipv6 v) (ipv6.payload_of bytes))
+    option_map_or (λ v. with_extended (with_ipv6_header f bytes v) (address.Ipv6 v.src_addr) (address.Ipv6 v.dst_addr) (ipv6.payload_of bytes))
     (ipv6_of bytes) (rejected f (ipv6_fault bytes))
 
 -- the fields with those of an IP packet of either version, or why it is rejected

@@ -2,8 +2,8 @@
 -- Pinned by: `worked/icmp`, `judge`
 use Rattle.std.specs.Prelude.{ℕ, ◌≡◌, ◌≢◌, ◌≤◌, ◌+◌, if◌then◌else◌, List, drop, length}
 use Rattle.ip_wire.specs.Ethernet as ethernet
-use Rattle.ip_wire.specs.Frame.{ReadsPacket, packet_payload, type_of}
-use Rattle.ip_wire.specs.Ip.{dst_addr_of, next_header_of, src_addr_of, version_of}
+use Rattle.ip_wire.specs.Frame.{ReadsPacket, type_of}
+use Rattle.ip_wire.specs.Ip.{dst_addr_of, src_addr_of, version_of}
 use Rattle.ip_wire.specs.Types.{EthernetRepr, IpRepr}
 use Rattle.wire_icmp.specs.Icmp.{protocol_of, verifies}
 use Rattle.c_structs.specs.Codes.{transport_code, verdict_code}
@@ -12,13 +12,14 @@ use Rattle.c_structs.specs.declared.codes.TransportKind.TheVariants as transport
 use Rattle.c_structs.specs.declared.codes.Verdict.TheVariants as verdict
 use Rattle.c_structs.specs.declared.types.FrameFields.{FrameFields}
 use Rattle.c_read.specs.FrameFields.{icmp_values}
-use Rattle.c_read.specs.Stored.{unchecked}
+use Rattle.c_read.specs.Stored.{unchecked, upper_payload, upper_protocol}
 
--- the bytes are a packet with this header, no fragment of IPv4, whose payload is a message with a whole header
+-- the bytes are a packet with this header, no fragment, whose payload after IPv6 extension headers is a message with a whole
+-- header
 pub record IsIcmp (bytes : List ℕ) (ip : IpRepr) (message : List ℕ) : Type 0 where
   pub reads : ReadsPacket unchecked bytes ip
-  pub protocol : next_header_of ip ≡ protocol_of (version_of ip)
-  pub payload : message ≡ packet_payload ip bytes
+  pub protocol : upper_protocol ip bytes ≡ protocol_of (version_of ip)
+  pub payload : message ≡ upper_payload ip bytes
   pub header : 8 ≤ length message
 
 -- the frame carries a packet with this ICMP message, of the version that its type names

@@ -1,11 +1,12 @@
 -- The struct of a frame, by the values that the frame parses as.
 -- Pinned by: `worked/read`
-use Rattle.std.specs.Prelude.{ℕ, ◌≡◌, ◌⊎◌, ◌↔◌, ◌==◌, ◌&&◌, ◌+◌, ◌/◌, ◌%◌, nat_lt, if◌then◌else◌, IfSome, IsSome, IsTrue, List, drop, length, slice_range, ⊤}
+use Rattle.std.specs.Prelude.{ℕ, ◌≡◌, ◌≢◌, ◌⊎◌, ◌↔◌, ◌==◌, ◌&&◌, ◌+◌, ◌/◌, ◌%◌, nat_lt, if◌then◌else◌, IfSome, IsSome, IsTrue, Option, false, None, List, drop, length, slice_range, ⊤}
+use Rattle.ip_wire.specs.Ethernet as ethernet
 use Rattle.ip_wire.specs.Field.{field}
-use Rattle.ip_wire.specs.Frame.{Carried, Transport, datagram, describe_carried, describe_transport, message, other, packet, packet_payload, segment}
+use Rattle.ip_wire.specs.Frame.{Carried, ReadsCarried, ReadsPacket, ReadsTransportBy, Transport, datagram, describe_carried, describe_transport, ipv4_payload, message, other, packet, packet_payload, segment, type_of}
 use Rattle.ip_wire.specs.Ip.{dst_addr_of, next_header_of, src_addr_of}
 use Rattle.ip_wire.specs.Ipv6.{payload_of}
-use Rattle.ip_wire.specs.Protocol.{number_of}
+use Rattle.ip_wire.specs.Protocol.{number_of, protocol_of}
 use Rattle.ip_wire.specs.Tcp as tcp
 use Rattle.ip_wire.specs.TcpRepr.{TcpHeader, seq_of}
 use Rattle.ip_wire.specs.Types.{EthernetProtocol, EthernetRepr, IpAddress, IpProtocol, IpRepr, Ipv4, Ipv4Repr, Ipv6}
@@ -24,11 +25,47 @@ use Rattle.c_structs.specs.declared.codes.Reason.TheVariants as reason
 use Rattle.c_structs.specs.declared.codes.TransportKind.TheVariants as transport
 use Rattle.c_structs.specs.declared.codes.Verdict.TheVariants as verdict
 use Rattle.c_structs.specs.declared.types.FrameFields.{FrameFields}
-use Rattle.c_read.specs.FrameFields.{arp_fault, after_header, has_message, ipv4_fault, ipv6_fault, rejected, rejected_transport, tcp_fault, udp_fault, with_fragment_by, with_ipv4_header, with_ipv6_header, with_link, with_message, with_message_by, with_tcp_header, with_udp_header}
+use Rattle.c_read.specs.Ipv6Steps.{is_extension}
+use Rattle.c_read.specs.FrameFields.{arp_fault, after_header, has_message, ipv4_fault, ipv6_fault, rejected, rejected_transport, tcp_fault, udp_fault, ipv6_chain, with_chain, with_ipv4_header, with_ipv6_header, with_link, with_message, with_message_by, with_tcp_header, with_udp_header}
 
 -- no checksum is verified
 abbrev pub unchecked : ChecksumCapabilities
 unchecked = all_are checksum.None
+
+-- ---- what follows the extension headers of IPv6
+
+-- the protocol that a packet carries after its IPv6 extension headers
+abbrev pub upper_protocol : IpRepr → List ℕ → IpProtocol
+upper_protocol (Ipv4 w) bytes = w.next_header
+upper_protocol (Ipv6 w) bytes = protocol_of (ipv6_chain bytes).protocol
+
+-- the bytes that a packet carries after its IPv6 extension headers
+abbrev pub upper_payload : IpRepr → List ℕ → List ℕ
+upper_payload (Ipv4 w) bytes = ipv4_payload bytes
+upper_payload (Ipv6 w) bytes = drop (ipv6_chain bytes).len (payload_of bytes)
+
+-- why an extension header of the packet is rejected, if one is
+abbrev pub extension_fault_of : IpRepr → List ℕ → Option Reason
+extension_fault_of (Ipv4 w) bytes = None
+extension_fault_of (Ipv6 w) bytes = (ipv6_chain bytes).fault
+
+-- the IP header is directly before what the packet carries
+abbrev pub HasNoExtension : IpRepr → Type 0
+HasNoExtension (Ipv4 w) = ⊤
+HasNoExtension (Ipv6 w) = is_extension (number_of w.next_header) ≡ false
+
+-- The payload of a frame of this type parses as what it carries. No IPv6 extension header is rejected, and they are stepped
+-- through.
+abbrev pub StepsCarried : ChecksumCapabilities → EthernetProtocol → List ℕ → Carried → Type 0
+StepsCarried caps t bytes (message w) = ReadsCarried caps t bytes (message w)
+StepsCarried caps t bytes (packet w inner) =
+    (t ≡ type_of w) × ReadsPacket caps bytes w × (extension_fault_of w bytes ≡ None)
+    × ReadsTransportBy caps (upper_protocol w bytes) (src_addr_of w) (dst_addr_of w) (upper_payload w bytes) inner
+
+-- the frame parses as this header and what it carries, after IPv6 extension headers
+pub record StepsFrame (caps : ChecksumCapabilities) (frame : List ℕ) (v : EthernetRepr) (w : Carried) : Type 0 where
+  pub reads_header : ethernet.Reads frame v
+  pub reads_carried : StepsCarried caps v.ethertype (drop 14 frame) w
 
 -- ---- the struct of the headers
 
@@ -36,12 +73,12 @@ unchecked = all_are checksum.None
 abbrev pub linked : List ℕ → EthernetRepr → FrameFields
 linked frame v = with_link (nothing_of (length frame)) v (length (drop 14 frame))
 
--- the struct of a packet after its IP header
+-- the struct of a packet after its IP header and its IPv6 extension headers
 abbrev pub headed_by : FrameFields → List ℕ → IpRepr → FrameFields
 headed_by f bytes (Ipv4 w) = with_ipv4_header f bytes w
-headed_by f bytes (Ipv6 w) = with_fragment_by (with_ipv6_header f bytes w) w.next_header (payload_of bytes)
+headed_by f bytes (Ipv6 w) = with_chain (with_ipv6_header f bytes w) (ipv6_chain bytes)
 
--- the struct of a frame after its IP header
+-- the struct of a frame after its IP header and its IPv6 extension headers
 abbrev pub headed : List ℕ → EthernetRepr → IpRepr → FrameFields
 headed frame v w = headed_by (linked frame v) (drop 14 frame) w
 
@@ -54,7 +91,9 @@ transported f p src dst bytes (other payload) = with_message_by f p src dst payl
 -- the struct of a frame that parses as a whole
 abbrev pub struct_of : List ℕ → EthernetRepr → Carried → FrameFields
 struct_of frame v (message w) = with_message (linked frame v) w
-struct_of frame v (packet w t) = transported (headed frame v w) (next_header_of w) (src_addr_of w) (dst_addr_of w) (packet_payload w (drop 14 frame)) t
+struct_of frame v (packet w t) =
+    let bytes = drop 14 frame in
+    transported (headed frame v w) (upper_protocol w bytes) (src_addr_of w) (dst_addr_of w) (upper_payload w bytes) t
 
 -- the struct of a frame whose UDP header is rejected; the header is stored if all of it is there
 abbrev pub rejected_udp : FrameFields → IpAddress → IpAddress → List ℕ → FrameFields
@@ -114,10 +153,10 @@ abbrev pub payload_after : IpProtocol → IpAddress → Transport → List ℕ
 payload_after p src (other payload) = if has_message p src payload then drop 8 payload else payload
 payload_after p src t = (describe_transport t).payload
 
--- the innermost payload of a frame
-abbrev pub innermost : Carried → List ℕ
-innermost (message v) = (describe_carried (message v)).payload
-innermost (packet w t) = payload_after (next_header_of w) (src_addr_of w) t
+-- the innermost payload of what these bytes of a frame hold
+abbrev pub innermost : List ℕ → Carried → List ℕ
+innermost bytes (message v) = (describe_carried (message v)).payload
+innermost bytes (packet w t) = payload_after (upper_protocol w bytes) (src_addr_of w) t
 
 -- the payload of the struct is these bytes of the frame
 pub record Locates (f : FrameFields) (frame bytes : List ℕ) : Type 0 where
@@ -130,7 +169,7 @@ pub record Locates (f : FrameFields) (frame bytes : List ℕ) : Type 0 where
 pub record Stores (f : FrameFields) (frame : List ℕ) (v : EthernetRepr) (w : Carried) : Type 0 where
   pub fields : f ≡ struct_of frame v w
   pub values : HasValues f w
-  pub payload : Locates f frame (innermost w)
+  pub payload : Locates f frame (innermost (drop 14 frame) w)
 
 -- the struct stores the headers of an IPv4 fragment, whose payload is not parsed
 pub record StoresFragment (f : FrameFields) (frame : List ℕ) (v : EthernetRepr) (w : Ipv4Repr) : Type 0 where
@@ -146,12 +185,19 @@ StoresRejectedBy protocol.Udp f headers src dst bytes = f ≡ rejected_udp heade
 StoresRejectedBy protocol.Tcp f headers src dst bytes = f ≡ rejected_tcp headers src dst bytes
 StoresRejectedBy _ f headers src dst bytes = ⊥
 
--- the struct stores a rejected transport header and the headers before it, and the payload begins at the rejected one
+-- the struct stores a rejected transport header of a packet, or the headers before a rejected extension header
+abbrev pub StoresFault : FrameFields → List ℕ → EthernetRepr → IpRepr → Type 0
+StoresFault f frame v w =
+    let bytes = drop 14 frame in
+    ((extension_fault_of w bytes ≢ None) × (f ≡ headed frame v w))
+    ⊎ StoresRejectedBy (upper_protocol w bytes) f (headed frame v w) (src_addr_of w) (dst_addr_of w) (upper_payload w bytes)
+
+-- the struct stores a rejected header and the headers before it, and the payload begins at the rejected one
 pub record StoresRejected (f : FrameFields) (frame : List ℕ) (v : EthernetRepr) (w : IpRepr) : Type 0 where
   pub part : f.is_fragment ≡ 0
-  pub fields : StoresRejectedBy (next_header_of w) f (headed frame v w) (src_addr_of w) (dst_addr_of w) (packet_payload w (drop 14 frame))
+  pub fields : StoresFault f frame v w
   pub values : HasProtocol f w
-  pub payload : Locates f frame (packet_payload w (drop 14 frame))
+  pub payload : Locates f frame (upper_payload w (drop 14 frame))
 
 -- the struct stores the Ethernet header before a rejected header or a payload of unknown type, where the payload
 -- begins

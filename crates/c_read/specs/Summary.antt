@@ -78,9 +78,9 @@ icmp_text msg_type code = codes " ICMP type=" ++ decimal msg_type ++ codes " cod
 abbrev pub fragment_text : Ip → List ℕ
 fragment_text h = codes " fragment=" ++ decimal h.fragment_offset ++ (if h.more_fragments == 0 then [] else codes "+")
 
--- the protocol of an IP packet, and which part of it a fragment is
+-- the protocol of what an IP packet carries after its extension headers, and which part of it a fragment is
 abbrev pub protocol_text : FrameFields → List ℕ
-protocol_text f = codes " proto=" ++ decimal f.ip.protocol ++ (if f.is_fragment == 0 then [] else fragment_text f.ip)
+protocol_text f = codes " proto=" ++ decimal f.protocol ++ (if f.is_fragment == 0 then [] else fragment_text f.ip)
 
 -- the innermost header of a frame
 abbrev pub header_text : FrameFields → ℕ → ℕ → List ℕ
@@ -119,6 +119,8 @@ reason_note reason =
     else if reason == 7 then codes " (bad options)"
     else if reason == 8 then codes " (header cut)"
     else if reason == 9 then codes " (unknown link)"
+    else if reason == 10 then codes " (hops left)"
+    else if reason == 11 then codes " (bad order)"
     else []
 
 -- the line of a frame with an ICMP message of this type and code, if it has one

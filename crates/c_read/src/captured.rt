@@ -8,21 +8,22 @@ ghost use Rattle.ip_wire.specs.Ipv4 as ipv4;
 ghost use Rattle.ip_wire.specs.Ipv6 as ipv6;
 ghost use Rattle.ip_wire.specs.Protocol.{protocol_of};
 ghost use Rattle.c_read.specs.FrameFields.{fields_of, packet_fields_of};
-ghost use Rattle.c_read.specs.Captured.{IsCutOf, begun_ipv4, begun_ipv6, captured_of, captured_packet_of, cut_arp, cut_fragment_by, cut_frame, cut_header, cut_ipv4, cut_ipv6, cut_packet, cut_tcp, cut_transport_by, cut_udp};
+ghost use Rattle.c_read.specs.Captured.{IsCutOf, begun_ipv4, begun_ipv6, captured_of, captured_packet_of, cut_arp, cut_extended, cut_frame, cut_header, cut_ipv4, cut_ipv6, cut_packet, cut_tcp, cut_transport_by, cut_udp};
 
 use crate::faults::{ARP_LEN, ipv4_fault, ipv6_fault, tcp_fault};
 use crate::frame_fields::{
-    FRAGMENT_HEADER_LEN, reject, step_after, store_arp, store_fragment_header, store_ipv4,
-    store_ipv4_header, store_ipv6, store_ipv6_header, store_link,
+    reject, step_after, store_arp, store_chain, store_ipv4, store_ipv4_header, store_ipv6,
+    store_ipv6_header, store_link,
 };
 use crate::icmp_fields::{is_icmp, store_icmp_fields};
+use crate::ipv6_chain::Chain;
 use crate::transport_fields::{reject_transport, store_tcp_fields, store_udp, store_udp_fields};
 use crate::verdicts::cut_udp_verdict;
 use c_structs::{FrameFields, Reason, Verdict};
 use ip_wire::{
     ChecksumCapabilities, ETHERNET_HEADER_LEN, EthernetFrame, EthernetProtocol, IPV4_HEADER_LEN,
-    IPV6_HEADER_LEN, IpAddress, IpProtocol, Ipv4Packet, Ipv4Repr, Ipv6FragmentHeader, Ipv6Packet,
-    Ipv6Repr, TCP_HEADER_LEN, TcpPacket, TcpRepr, UDP_HEADER_LEN, UdpPacket,
+    IPV6_HEADER_LEN, IpAddress, IpProtocol, Ipv4Packet, Ipv4Repr, Ipv6Packet, Ipv6Repr,
+    TCP_HEADER_LEN, TcpPacket, TcpRepr, UDP_HEADER_LEN, UdpPacket,
 };
 use wire_icmp::{ICMP_HEADER_LEN, IcmpPacket};
 
@@ -217,29 +218,29 @@ fn store_begun_ipv6(fields: &mut FrameFields, bytes: &[u8])
     };
     let payload = &bytes[IPV6_HEADER_LEN..];
     store_ipv6_header(fields, &packet, &header, header.payload_len);
-    let protocol = fields.ip.protocol;
-    store_cut_fragment(fields, protocol, payload);
     let src_addr = IpAddress::Ipv6(header.src_addr);
     let dst_addr = IpAddress::Ipv6(header.dst_addr);
-    store_cut_transport(fields, protocol, &src_addr, &dst_addr, payload);
+    store_cut_extended(fields, &src_addr, &dst_addr, payload);
 }
 
-// Stores the fragment header that the payload of an IPv6 packet begins with, if the protocol number
-// says so. A payload that is too short for it has none.
-fn store_cut_fragment(fields: &mut FrameFields, protocol: u8, bytes: &[u8])
-    ensures value { fields.new ≡ cut_fragment_by fields.old (protocol_of protocol) bytes.now }
-    ensures offset { fields.new.payload_offset ≡ fields.old.payload_offset }
-    ensures len { fields.new.payload_len ≡ fields.old.payload_len }
+// Stores the extension headers that the payload of an IPv6 packet begins with, and what they lead to.
+fn store_cut_extended(
+    fields: &mut FrameFields,
+    src_addr: &IpAddress,
+    dst_addr: &IpAddress,
+    bytes: &[u8],
+)
+    requires offset { fields.old.payload_offset ≤ 68 }
+    requires len { length bytes.now < fields.old.payload_len }
+    requires bounded { fields.old.payload_len ≤ 65535 }
+    requires family { version_of src_addr.now ≡ version_of dst_addr.now }
+    ensures value { fields.new ≡ cut_extended fields.old src_addr.now dst_addr.now bytes.now }
+    ensures within { fields.new.payload_offset + fields.new.payload_len ≤ fields.old.payload_offset + fields.old.payload_len }
 {
-    if let IpProtocol::Ipv6Frag = IpProtocol::from(protocol)
-        && fields.payload_len >= FRAGMENT_HEADER_LEN
-    {
-        if bytes.len() < FRAGMENT_HEADER_LEN {
-            reject(fields, Reason::HeaderCut);
-        } else {
-            store_fragment_header(fields, &Ipv6FragmentHeader::new_unchecked(&bytes[2..]));
-        }
-    }
+    let chain = Chain::of(fields.protocol, fields.payload_len, bytes);
+    store_chain(fields, &chain);
+    let rest = &bytes[chain.len..];
+    store_cut_transport(fields, chain.protocol, src_addr, dst_addr, rest);
 }
 
 // Stores the payload of a packet with this protocol number between two addresses.
@@ -251,7 +252,7 @@ fn store_cut_transport(
     dst_addr: &IpAddress,
     bytes: &[u8],
 )
-    requires offset { fields.old.payload_offset ≤ 88 }
+    requires offset { fields.old.payload_offset ≤ 65700 }
     requires len { length bytes.now < fields.old.payload_len }
     requires family { version_of src_addr.now ≡ version_of dst_addr.now }
     ensures value { fields.new ≡ cut_transport_by fields.old (protocol_of protocol) src_addr.now dst_addr.now bytes.now }
@@ -272,7 +273,7 @@ fn store_cut_transport(
 // Stores a UDP packet. If it was captured as a whole, or its length is wrong, it is stored as in a
 // whole frame.
 fn store_cut_udp(fields: &mut FrameFields, src_addr: &IpAddress, dst_addr: &IpAddress, bytes: &[u8])
-    requires offset { fields.old.payload_offset ≤ 88 }
+    requires offset { fields.old.payload_offset ≤ 65700 }
     requires len { length bytes.now < fields.old.payload_len }
     requires family { version_of src_addr.now ≡ version_of dst_addr.now }
     ensures value { fields.new ≡ cut_udp fields.old src_addr.now dst_addr.now bytes.now }
@@ -296,7 +297,7 @@ fn store_cut_udp(fields: &mut FrameFields, src_addr: &IpAddress, dst_addr: &IpAd
 
 // Stores a TCP segment, whose checksum covers bytes that are missing.
 fn store_cut_tcp(fields: &mut FrameFields, src_addr: &IpAddress, dst_addr: &IpAddress, bytes: &[u8])
-    requires offset { fields.old.payload_offset ≤ 88 }
+    requires offset { fields.old.payload_offset ≤ 65700 }
     requires len { length bytes.now < fields.old.payload_len }
     requires family { version_of src_addr.now ≡ version_of dst_addr.now }
     ensures value { fields.new ≡ cut_tcp fields.old src_addr.now dst_addr.now bytes.now }

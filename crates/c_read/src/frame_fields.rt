@@ -1,16 +1,18 @@
 //! The values of a frame, stored in the struct of C.
 
-ghost use Rattle.std.specs.Prelude.{◌≡◌, ◌≤◌, ◌+◌, drop, length};
+ghost use Rattle.std.specs.Prelude.{◌≡◌, ◌≤◌, ◌+◌, IfSome, drop, length};
+ghost use Rattle.ip_wire.specs.IpAddress.{version_of};
 ghost use Rattle.ip_wire.specs.Arp as arp;
 ghost use Rattle.ip_wire.specs.Ethernet as ethernet;
 ghost use Rattle.ip_wire.specs.Ipv4 as ipv4;
 ghost use Rattle.ip_wire.specs.Ipv6 as ipv6;
-ghost use Rattle.ip_wire.specs.Ipv6Fragment as fragment;
-ghost use Rattle.ip_wire.specs.Protocol.{protocol_of};
 ghost use Rattle.c_structs.specs.Addresses.{endpoint_of};
-ghost use Rattle.c_read.specs.FrameFields.{after_header, fields_of, packet_fields_of, rejected, with_arp, with_fragment_by, with_fragment_header, with_frame, with_ipv4, with_ipv4_fields, with_ipv6, with_ipv6_fields, with_link, with_message, with_packet};
+ghost use Rattle.c_read.specs.FrameFields.{after_header, fields_of, packet_fields_of, rejected, with_arp, with_chain, with_extended, with_fragment_header, with_frame, with_ipv4, with_ipv4_fields, with_ipv6, with_ipv6_fields, with_link, with_message, with_packet};
+ghost use Rattle.c_read.specs.Ipv6Steps.{is_extension};
 
 use crate::faults::{ARP_LEN, arp_fault, ipv4_fault, ipv6_fault};
+use crate::ipv6_chain::{Chain, is_part};
+use crate::ipv6_steps::is_extension;
 use crate::transport_fields::store_transport;
 use crate::verdicts::ipv4_verdict;
 use byteorder::{ByteOrder, NetworkEndian};
@@ -20,16 +22,20 @@ use c_structs::{
 };
 use ip_wire::{
     ArpPacket, ArpRepr, ChecksumCapabilities, ETHERNET_HEADER_LEN, EthernetAddress, EthernetFrame,
-    EthernetProtocol, IPV6_HEADER_LEN, IpAddress, IpProtocol, Ipv4Address, Ipv4Packet, Ipv4Repr,
-    Ipv6FragmentHeader, Ipv6Packet, Ipv6Repr,
+    EthernetProtocol, IPV6_HEADER_LEN, IpAddress, Ipv4Address, Ipv4Packet, Ipv4Repr,
+    Ipv6FragmentRepr, Ipv6Packet, Ipv6Repr,
 };
 use net_base::array_at;
 
+// The numbers of the usual transports (IANA, protocol numbers).
+const TCP: u8 = 6;
+
+const UDP: u8 = 17;
+
+const ICMPV6: u8 = 58;
+
 // The byte of the EtherType in an Ethernet header.
 const ETHERTYPE: usize = 12;
-
-// The length of an IPv6 fragment header, in bytes (RFC 8200, section 4.5).
-pub(super) const FRAGMENT_HEADER_LEN: usize = 8;
 
 // An address of a header without ports.
 #[inline(always)]
@@ -86,7 +92,7 @@ fn store_packet(fields: &mut FrameFields, bytes: &[u8])
 
 // Moves the payload after a header of this length.
 pub(super) fn step_after(fields: &mut FrameFields, header_len: usize, payload_len: usize)
-    requires { fields.old.payload_offset + header_len ≤ 200 }
+    requires { fields.old.payload_offset + header_len ≤ 65900 }
     ensures { fields.new ≡ after_header fields.old header_len payload_len }
 {
     fields.payload_offset += header_len;
@@ -220,6 +226,7 @@ pub(super) fn store_ipv4_header(
     fields.ip.flow_label = 0;
     fields.ip.fragment_offset = fragment % MORE_FRAGMENTS * 8;
     fields.ip.protocol = packet.as_bytes()[9];
+    fields.protocol = packet.as_bytes()[9];
     fields.ip.hop_limit = header.hop_limit;
     fields.ip.dscp = service / 4;
     fields.ip.ecn = service % 4;
@@ -230,7 +237,7 @@ pub(super) fn store_ipv4_header(
     step_after(fields, header_len, payload_len);
 }
 
-// Stores an IPv6 packet. The payload after a fragment header is not parsed.
+// Stores an IPv6 packet. Its extension headers are stepped through out of line.
 #[inline(always)]
 pub(super) fn store_ipv6(fields: &mut FrameFields, bytes: &[u8])
     requires offset { fields.old.payload_offset ≤ 28 }
@@ -244,12 +251,26 @@ pub(super) fn store_ipv6(fields: &mut FrameFields, bytes: &[u8])
             let payload = packet.payload();
             store_ipv6_header(fields, &packet, &header, payload.len());
             let protocol = fields.ip.protocol;
-            store_fragment(fields, protocol, payload);
             let src_addr = IpAddress::Ipv6(header.src_addr);
             let dst_addr = IpAddress::Ipv6(header.dst_addr);
-            store_transport(fields, protocol, &src_addr, &dst_addr, payload);
+            if begins_chain(protocol) {
+                store_extended(fields, src_addr, dst_addr, payload);
+            } else {
+                store_transport(fields, protocol, &src_addr, &dst_addr, payload);
+            }
         }
         Err(_) => reject(fields, ipv6_fault(&packet)),
+    }
+}
+
+// Whether an extension header follows the IPv6 header. The usual transports are compared first, as `store_transport` does.
+#[inline(always)]
+fn begins_chain(protocol: u8) -> bool
+    ensures { result ≡ is_extension protocol }
+{
+    match protocol {
+        TCP | UDP | ICMPV6 => false,
+        _ => is_extension(protocol),
     }
 }
 
@@ -272,35 +293,55 @@ pub(super) fn store_ipv6_header(
     fields.dst = without_port(IpAddress::Ipv6(header.dst_addr));
     fields.ip.flow_label = first % FLOW_LABELS;
     fields.ip.protocol = packet.as_bytes()[6];
+    fields.protocol = packet.as_bytes()[6];
     fields.ip.hop_limit = header.hop_limit;
     fields.ip.dscp = (first / DSCP_UNIT % 64) as u8;
     fields.ip.ecn = (first / FLOW_LABELS % 4) as u8;
     step_after(fields, IPV6_HEADER_LEN, payload_len);
 }
 
-// Stores the fragment header that the payload of an IPv6 packet begins with, if the protocol number says
-// so and it is there as a whole. The payload begins at it.
-fn store_fragment(fields: &mut FrameFields, protocol: u8, bytes: &[u8])
-    ensures value { fields.new ≡ with_fragment_by fields.old (protocol_of protocol) bytes.now }
-    ensures offset { fields.new.payload_offset ≡ fields.old.payload_offset }
-    ensures len { fields.new.payload_len ≡ fields.old.payload_len }
+// Stores the extension headers that the payload of an IPv6 packet begins with, and what they lead to. Addresses are passed
+// by value: other packets need none in memory.
+#[inline(never)]
+fn store_extended(fields: &mut FrameFields, src_addr: IpAddress, dst_addr: IpAddress, bytes: &[u8])
+    requires offset { fields.old.payload_offset ≤ 68 }
+    requires len { fields.old.payload_len ≡ length bytes.now }
+    requires bounded { length bytes.now ≤ 65535 }
+    requires family { version_of src_addr ≡ version_of dst_addr }
+    ensures value { fields.new ≡ with_extended fields.old src_addr dst_addr bytes.now }
+    ensures within { fields.new.payload_offset + fields.new.payload_len ≤ fields.old.payload_offset + length bytes.now }
 {
-    if let IpProtocol::Ipv6Frag = IpProtocol::from(protocol)
-        && bytes.len() >= FRAGMENT_HEADER_LEN
-    {
-        store_fragment_header(fields, &Ipv6FragmentHeader::new_unchecked(&bytes[2..]));
+    let chain = Chain::of(fields.protocol, bytes.len(), bytes);
+    store_chain(fields, &chain);
+    let rest = &bytes[chain.len..];
+    store_transport(fields, chain.protocol, &src_addr, &dst_addr, rest);
+}
+
+// Stores the extension headers of an IPv6 packet.
+pub(super) fn store_chain(fields: &mut FrameFields, chain: &Chain)
+    requires offset { fields.old.payload_offset ≤ 68 }
+    requires len { chain.now.len ≤ fields.old.payload_len }
+    requires bounded { chain.now.len ≤ 65535 }
+    requires part { IfSome chain.now.fragment (λ v. v.frag_offset ≤ 8191) }
+    ensures { fields.new ≡ with_chain fields.old chain.now }
+{
+    step_after(fields, chain.len, fields.payload_len - chain.len);
+    fields.protocol = chain.protocol;
+    if let Some(header) = &chain.fragment {
+        store_fragment_header(fields, header);
+    }
+    if let Some(fault) = chain.fault {
+        reject(fields, fault);
     }
 }
 
 // Stores a fragment header.
-#[inline(always)]
-pub(super) fn store_fragment_header(fields: &mut FrameFields, header: &Ipv6FragmentHeader<'_>)
-    requires { 6 ≤ length (fragment.header_bytes header.now) }
-    ensures { fields.new ≡ with_fragment_header fields.old (fragment.header_of (fragment.header_bytes header.now)) }
+fn store_fragment_header(fields: &mut FrameFields, header: &Ipv6FragmentRepr)
+    requires { header.now.frag_offset ≤ 8191 }
+    ensures { fields.new ≡ with_fragment_header fields.old header.now }
 {
-    let (offset, more_fragments) = (header.frag_offset(), header.more_frags());
-    fields.ip.ident = header.ident();
-    fields.ip.fragment_offset = 8 * offset;
-    fields.ip.more_fragments = u8::from(more_fragments);
-    fields.is_fragment = u8::from(more_fragments || offset != 0);
+    fields.ip.ident = header.ident;
+    fields.ip.fragment_offset = 8 * header.frag_offset;
+    fields.ip.more_fragments = u8::from(header.more_frags);
+    fields.is_fragment = u8::from(is_part(header));
 }

@@ -56,7 +56,7 @@ pub(super) fn store_icmp(
     dst_addr: IpAddress,
     bytes: &[u8],
 )
-    requires offset { fields.old.payload_offset ≤ 88 }
+    requires offset { fields.old.payload_offset ≤ 65700 }
     requires len { fields.old.payload_len ≡ length bytes.now }
     requires header { 8 ≤ length bytes.now }
     requires family { version_of src_addr ≡ version_of dst_addr }
@@ -69,7 +69,7 @@ pub(super) fn store_icmp(
 // Stores the header of an ICMP message whose checksum has this verdict. The payload begins after it.
 #[inline(always)]
 pub(super) fn store_icmp_fields(fields: &mut FrameFields, packet: &IcmpPacket<'_>, verdict: Verdict)
-    requires offset { fields.old.payload_offset ≤ 88 }
+    requires offset { fields.old.payload_offset ≤ 65700 }
     requires len { 8 ≤ fields.old.payload_len }
     requires header { 8 ≤ length (packet_bytes packet.now) }
     ensures { fields.new ≡ with_icmp fields.old (packet_bytes packet.now) verdict }

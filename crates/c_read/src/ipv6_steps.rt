@@ -7,15 +7,17 @@ use byteorder::{ByteOrder, NetworkEndian};
 use c_structs::Ipv6HeaderPlace;
 use ip_wire::{IPV6_HEADER_LEN, Ipv6Packet};
 
-// The protocol of an IPv6 header, and the numbers of fragment headers and of what no header follows.
+// The protocols of an IPv6 header, of fragment and authentication headers, and of what no header follows.
 const IPV6: u8 = 41;
 
-const FRAGMENT: u8 = 44;
+pub(super) const FRAGMENT: u8 = 44;
+
+const AUTHENTICATION: u8 = 51;
 
 const NO_NEXT_HEADER: u8 = 59;
 
 // The length of the shortest extension header, and of a fragment header, in bytes.
-const UNIT: usize = 8;
+pub(super) const UNIT: usize = 8;
 
 /// Steps to the next header of a packet, first to the IPv6 header, and returns 1. Returns 0 if no extension header
 /// follows, and -1 if there is no IPv6 header or the next one is cut, and stores nothing then.
@@ -77,23 +79,26 @@ fn step_to(header: &mut Ipv6HeaderPlace, rest: &[u8], at: usize) -> i32
     1
 }
 
-// Whether this is the number of an extension header: hop-by-hop options, routing, fragment, destination options.
-fn is_extension(protocol: u8) -> bool
+// Whether this is the number of an extension header: hop-by-hop options, routing, fragment, authentication,
+// destination options.
+#[inline(always)]
+pub(super) fn is_extension(protocol: u8) -> bool
     ensures { result ≡ is_extension protocol }
 {
-    matches!(protocol, 0 | 43 | 44 | 60)
+    matches!(protocol, 0 | 43 | 44 | 51 | 60)
 }
 
 // The length of an extension header in bytes.
-fn extension_len(protocol: u8, bytes: &[u8]) -> usize
+pub(super) fn extension_len(protocol: u8, bytes: &[u8]) -> usize
     requires { 8 ≤ length bytes.now }
     ensures value { result ≡ extension_len protocol bytes.now }
+    ensures least { 8 ≤ result }
     ensures bounded { result ≤ 2048 }
 {
-    if protocol == FRAGMENT {
-        UNIT
-    } else {
-        UNIT + UNIT * usize::from(bytes[1])
+    match protocol {
+        FRAGMENT => UNIT,
+        AUTHENTICATION => UNIT + 4 * usize::from(bytes[1]),
+        _ => UNIT + UNIT * usize::from(bytes[1]),
     }
 }
 

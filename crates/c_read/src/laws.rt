@@ -2,7 +2,7 @@
 
 ghost use Rattle.std.specs.Prelude.{◌≡◌, ◌↔◌, ◌≢◌, ◌≤◌, ◌<◌, List, None, Some, drop, false, length, true, ℕ};
 ghost use Rattle.ip_wire.specs.Ethernet as ethernet;
-ghost use Rattle.ip_wire.specs.Frame.{Carried, ReadsFrame, datagram, packet, segment, type_of};
+ghost use Rattle.ip_wire.specs.Frame.{Carried, ReadsFrame, Transport, datagram, packet, segment, type_of};
 ghost use Rattle.ip_wire.specs.Ip.{ReadsHeader};
 ghost use Rattle.ip_wire.specs.Ipv4 as ipv4;
 ghost use Rattle.ip_wire.specs.declared.EthernetProtocol.TheVariants as ethertype;
@@ -11,9 +11,10 @@ ghost use Rattle.ip_wire.specs.Types.{EthernetRepr, IpRepr, Ipv4Repr, UdpRepr};
 ghost use Rattle.ip_wire.specs.Field.{field};
 ghost use Rattle.wire_link.specs.Link.{is_tag};
 ghost use Rattle.c_read.specs.FrameFields.{fields_of};
+ghost use Rattle.c_read.specs.Ipv6Chain.{IsThrough, LeadsTo, chain_of};
 ghost use Rattle.c_read.specs.Summary.{tcp_line, udp_line, with_verdicts};
 ghost use Rattle.c_structs.specs.Written.{Prints};
-ghost use Rattle.c_read.specs.Stored.{HasVerdicts, IsTypeOf, Stores, StoresFragment, StoresRejected, StoresUnread, in_frame, unchecked};
+ghost use Rattle.c_read.specs.Stored.{HasNoExtension, HasVerdicts, IsTypeOf, StepsFrame, Stores, StoresFragment, StoresRejected, StoresUnread, in_frame, unchecked};
 
 mod messages;
 
@@ -32,11 +33,24 @@ const LINKTYPE_ETHERNET: u32 = 1;
 /// value, and locates the innermost payload. The verified checksums are valid exactly if their fields
 /// say that they are right, or for UDP that the sender left them out.
 pub fn fields_are_parsed(frame: &[u8], caps: ChecksumCapabilities)
-    ensures stores { (v : EthernetRepr) (w : Carried) → ReadsFrame unchecked frame.now v w → Stores (fields_of frame.now) frame.now v w }
-    ensures verdicts { (v : EthernetRepr) (w : Carried) → ReadsFrame unchecked frame.now v w
-        → (ReadsFrame caps frame.now v w) ↔ (HasVerdicts caps (fields_of frame.now)) }
+    ensures stores { (v : EthernetRepr) (w : Carried) → StepsFrame unchecked frame.now v w → Stores (fields_of frame.now) frame.now v w }
+    ensures verdicts { (v : EthernetRepr) (w : Carried) → StepsFrame unchecked frame.now v w
+        → (StepsFrame caps frame.now v w) ↔ (HasVerdicts caps (fields_of frame.now)) }
     ensures only { (fields_of frame.now).reason ≡ 0 → (fields_of frame.now).network ≢ 0 → (fields_of frame.now).is_fragment ≡ 0
-        → (v : EthernetRepr) × (w : Carried) × ReadsFrame unchecked frame.now v w }
+        → (v : EthernetRepr) × (w : Carried) × StepsFrame unchecked frame.now v w }
+{}
+
+/// IPv6 extension headers that are stepped through lead to the protocol and the bytes at which the struct goes on. A frame
+/// without extension headers is parsed as it is.
+pub fn extensions_are_stepped(
+    payload: &[u8],
+    protocol: u8,
+    frame: &[u8],
+    caps: ChecksumCapabilities,
+)
+    ensures leads { let c = chain_of protocol (length payload.now) payload.now in IsThrough c → LeadsTo c.protocol (drop c.len payload.now) true protocol payload.now }
+    ensures plain { (v : EthernetRepr) (w : IpRepr) (t : Transport) → ReadsFrame caps frame.now v (packet w t) → HasNoExtension w
+        → StepsFrame caps frame.now v (packet w t) }
 {}
 
 /// At a fragment of IPv4, at a rejected header and at an unknown EtherType the struct stores the values
@@ -92,9 +106,9 @@ pub fn untagged_is_read(bytes: &[u8], linked: &mut FrameFields, frame: &mut Fram
 /// The line of a frame with a UDP packet or a TCP segment has the addresses, the ports and the length of the payload that
 /// the frame parses as.
 pub fn line_is_parsed(frame: &[u8], fields: &mut FrameFields, out: &mut [u8]) -> isize
-    ensures udp { (v : EthernetRepr) (ip : IpRepr) (ports : UdpRepr) (payload : List ℕ) → ReadsFrame unchecked frame.now v (packet ip (datagram ports payload))
+    ensures udp { (v : EthernetRepr) (ip : IpRepr) (ports : UdpRepr) (payload : List ℕ) → StepsFrame unchecked frame.now v (packet ip (datagram ports payload))
         → Prints (Some (with_verdicts (udp_line ip ports (length payload)) fields.new)) None out.old out.new result }
-    ensures tcp { (v : EthernetRepr) (ip : IpRepr) (header : TcpHeader) (payload : List ℕ) → ReadsFrame unchecked frame.now v (packet ip (segment header payload))
+    ensures tcp { (v : EthernetRepr) (ip : IpRepr) (header : TcpHeader) (payload : List ℕ) → StepsFrame unchecked frame.now v (packet ip (segment header payload))
         → Prints (Some (with_verdicts (tcp_line ip header fields.new.tcp (length payload)) fields.new)) None out.old out.new result }
 {
     read_frame(fields, frame);

@@ -29,7 +29,7 @@ pub(super) fn store_transport(
     dst_addr: &IpAddress,
     bytes: &[u8],
 )
-    requires offset { fields.old.payload_offset ≤ 88 }
+    requires offset { fields.old.payload_offset ≤ 65700 }
     requires len { fields.old.payload_len ≡ length bytes.now }
     requires family { version_of src_addr.now ≡ version_of dst_addr.now }
     ensures value { fields.new ≡ with_transport_by fields.old (protocol_of protocol) src_addr.now dst_addr.now bytes.now }
@@ -54,7 +54,7 @@ pub(super) fn store_udp(
     dst_addr: &IpAddress,
     bytes: &[u8],
 )
-    requires offset { fields.old.payload_offset ≤ 88 }
+    requires offset { fields.old.payload_offset ≤ 65700 }
     requires len { length bytes.now ≤ fields.old.payload_len }
     requires family { version_of src_addr.now ≡ version_of dst_addr.now }
     ensures value { fields.new ≡ with_udp fields.old src_addr.now dst_addr.now bytes.now }
@@ -123,7 +123,7 @@ pub(super) fn store_udp_fields(fields: &mut FrameFields, packet: &UdpPacket<'_>,
 // Stores a TCP segment. A rejected header is stored too, if it is there as a whole.
 #[inline(always)]
 fn store_tcp(fields: &mut FrameFields, src_addr: &IpAddress, dst_addr: &IpAddress, bytes: &[u8])
-    requires offset { fields.old.payload_offset ≤ 88 }
+    requires offset { fields.old.payload_offset ≤ 65700 }
     requires len { fields.old.payload_len ≡ length bytes.now }
     requires family { version_of src_addr.now ≡ version_of dst_addr.now }
     ensures value { fields.new ≡ with_tcp fields.old src_addr.now dst_addr.now bytes.now }

@@ -3,6 +3,7 @@ mod Editing
 mod Forwards
 mod Fragmenting
 mod NatCalls
+mod Reassembling
 mod RouteChoice
 mod RouteLists
 mod RouteTables

@@ -4,6 +4,7 @@ pub mod Forwarded
 pub mod Fragmented
 pub mod Lengths
 pub mod Nat
+pub mod Reassembled
 pub mod Rejections
 pub mod Routes
 pub mod Sources

@@ -1,22 +1,28 @@
-//! Fragments of the IPv4 packet in a frame.
+//! Fragments of the IP packet in a frame.
 
-ghost use Rattle.std.specs.Prelude.{◌+◌, ◌-◌, nat_lt, if◌then◌else◌, ◌≡◌, ◌≤◌, IfSome, None, Some, drop, length};
-ghost use Rattle.app_fragment.specs.Fragments.{cut_len};
-ghost use Rattle.app_fragment.specs.Ipv4Fragments.{MayBeFragmented, MayBegin};
-ghost use Rattle.c_routing.specs.Fragmented.{WritesFragment, fragment_failure, fragment_frame, frame_at, ident_of, is_ident, packet_failure, packet_of, place_of};
+ghost use Rattle.std.specs.Prelude.{◌≡◌, ◌≤◌, ◌==◌, IfSome, None, Some, drop, false, length};
+ghost use Rattle.app_fragment.specs.Ipv4Fragments as ipv4;
+ghost use Rattle.app_fragment.specs.Ipv6Fragments as ipv6_fragments;
+ghost use Rattle.c_routing.specs.Fragmented.{HasLengths, MayBeWritten, WritesFragment, fragment_at, fragment_failure, fragment_frame, frame_at, ident_of, ipv4_at, ipv4_failure, ipv6_at, ipv6_failure, is_extension, is_ident, is_long, packet_failure, packet_of, place_of};
 ghost use Rattle.c_structs.specs.Written.{Fills, Writes, max_len, within};
-ghost use Rattle.ip_wire.specs.Ipv4.{HasLengths, packet_bytes};
+ghost use Rattle.ip_wire.specs.Ipv4.{ip_version_of, packet_bytes};
+ghost use Rattle.ip_wire.specs.Ipv4 as ipv4_header;
+ghost use Rattle.ip_wire.specs.Ipv6 as ipv6;
 
-use app_fragment::fragment_ipv4;
+use app_fragment::{fragment_ipv4, fragment_ipv6, ipv4_place, ipv6_place};
 use c_structs::{Failure, MAX_LEN, within};
 use ip_wire::laws::field::bytes_fit;
 use ip_wire::{
-    ETHERNET_HEADER_LEN, EthernetFrame, EthernetProtocol, EthernetRepr, Ipv4Packet, parse_ipv4,
+    ETHERNET_HEADER_LEN, EthernetFrame, EthernetProtocol, EthernetRepr, Ipv4Packet, Ipv6Packet,
+    Ipv6Repr, parse_ipv4,
 };
+
+// The least MTU at which an IPv6 packet is cut: the fixed header, the fragment header and 8 bytes.
+const LEAST_MTU: usize = 56;
 
 /// Writes the fragment with this number of the packet in a frame, in a frame of its own. Returns its length, 0 after the
 /// last fragment, or a failure.
-pub fn write_fragment(frame: &[u8], mtu: usize, ident: i32, number: usize, out: &mut [u8]) -> isize
+pub fn write_fragment(frame: &[u8], mtu: usize, ident: i64, number: usize, out: &mut [u8]) -> isize
     ensures { WritesFragment (fragment_failure ident mtu (within frame.now)) (fragment_frame (ident_of ident) mtu number (within frame.now)) out.old out.new result }
 {
     let frame = within(frame);
@@ -30,34 +36,52 @@ pub fn write_fragment(frame: &[u8], mtu: usize, ident: i32, number: usize, out: 
 }
 
 // The identification of a packet of one's own.
-fn ident_of(number: i32) -> Option<u16>
+fn ident_of(number: i64) -> Option<u32>
     ensures { result ≡ ident_of number }
 {
-    u16::try_from(number).ok()
+    u32::try_from(number).ok()
 }
 
 // Whether the number is an identification, or -1.
-fn is_ident(number: i32) -> bool
+fn is_ident(number: i64) -> bool
     ensures { result ≡ is_ident number }
 {
     ident_of(number).is_some() || number == -1
 }
 
+// Whether the identification does not fit in an IPv4 header.
+fn is_long(ident: Option<u32>) -> bool
+    ensures { result ≡ is_long ident }
+{
+    match ident {
+        Some(number) => number > 65535,
+        None => false,
+    }
+}
+
+// Whether this is an IPv6 packet.
+fn is_ipv6(packet: &[u8]) -> bool
+    requires { 1 ≤ length packet.now }
+    ensures { result ≡ (ip_version_of packet.now == 6) }
+{
+    Ipv6Packet::new_unchecked(packet).version() == 6
+}
+
 // Why the packet of a frame is not fragmented.
 #[tactic(auto, unfolding(crate::specs::Fragmented::fragment_failure))]
-fn fragment_failure(frame: &[u8], mtu: usize, ident: i32) -> Option<Failure>
+fn fragment_failure(frame: &[u8], mtu: usize, ident: i64) -> Option<Failure>
     ensures { result ≡ fragment_failure ident mtu frame.now }
 {
     if !is_ident(ident) {
         return Some(Failure::BadField);
     }
     match packet_of(frame) {
-        Some(packet) => { packet_failure(&Ipv4Packet::new_unchecked(packet), mtu, ident_of(ident)) }
+        Some(packet) => packet_failure(packet, mtu, ident_of(ident)),
         None => Some(Failure::NoHeader),
     }
 }
 
-// The bytes of a frame from its IPv4 packet on.
+// The bytes of a frame from its IP packet on.
 fn packet_of(frame: &[u8]) -> Option<&[u8]>
     ensures none { result ≡ None → packet_of frame.now ≡ None }
     ensures some { IfSome result (λ packet. packet_of frame.now ≡ Some packet.now) }
@@ -70,19 +94,34 @@ fn packet_of(frame: &[u8]) -> Option<&[u8]>
             Ok(_) => Some(packet),
             Err(_) => None,
         },
+        EthernetProtocol::Ipv6 => match Ipv6Repr::parse(&Ipv6Packet::new_unchecked(packet)) {
+            Ok(_) => Some(packet),
+            Err(_) => None,
+        },
         _ => None,
     }
 }
 
 // Why a packet with a valid header is not fragmented.
-fn packet_failure(packet: &Ipv4Packet<'_>, mtu: usize, ident: Option<u16>) -> Option<Failure>
-    requires { HasLengths (packet_bytes packet.now) }
-    ensures { result ≡ packet_failure ident mtu (packet_bytes packet.now) }
+fn packet_failure(packet: &[u8], mtu: usize, ident: Option<u32>) -> Option<Failure>
+    requires { HasLengths packet.now }
+    ensures { result ≡ packet_failure ident mtu packet.now }
+{
+    if is_ipv6(packet) {
+        ipv6_failure(packet, mtu, ident)
+    } else {
+        ipv4_failure(&Ipv4Packet::new_unchecked(packet), mtu, ident)
+    }
+}
+
+fn ipv4_failure(packet: &Ipv4Packet<'_>, mtu: usize, ident: Option<u32>) -> Option<Failure>
+    requires { ipv4_header.HasLengths (packet_bytes packet.now) }
+    ensures { result ≡ ipv4_failure ident mtu (packet_bytes packet.now) }
 {
     let header_len = usize::from(packet.header_len());
     let total_len = usize::from(packet.total_len());
     let is_too_long = total_len > mtu;
-    if is_too_long && mtu < header_len + 8 {
+    if is_long(ident) || is_too_long && mtu < header_len + 8 {
         Some(Failure::BadField)
     } else if usize::from(packet.frag_offset()) + (total_len - header_len) > 65535 {
         Some(Failure::PayloadTooLong)
@@ -95,6 +134,30 @@ fn packet_failure(packet: &Ipv4Packet<'_>, mtu: usize, ident: Option<u16>) -> Op
     }
 }
 
+fn ipv6_failure(packet: &[u8], mtu: usize, ident: Option<u32>) -> Option<Failure>
+    requires { ipv6.HasLengths packet.now }
+    ensures { result ≡ ipv6_failure ident mtu packet.now }
+{
+    if Ipv6Packet::new_unchecked(packet).total_len() <= mtu {
+        None
+    } else if mtu < LEAST_MTU {
+        Some(Failure::BadField)
+    } else if ident.is_none() {
+        Some(Failure::DontFragment)
+    } else if is_extension(packet[6]) {
+        Some(Failure::NoHeader)
+    } else {
+        None
+    }
+}
+
+// Whether an IPv6 packet with this next header is not cut.
+fn is_extension(next: u8) -> bool
+    ensures { result ≡ is_extension next }
+{
+    next == 0 || next == 43 || next == 44 || next == 60
+}
+
 // Where a fragment begins in the payload of the packet in a frame.
 fn place_of(frame: &[u8], mtu: usize, number: usize) -> Option<usize>
     requires header { 14 ≤ length frame.now }
@@ -102,38 +165,17 @@ fn place_of(frame: &[u8], mtu: usize, number: usize) -> Option<usize>
     ensures { result ≡ place_of (drop 14 frame.now) mtu number }
 {
     let (_, packet) = frame.split_at(ETHERNET_HEADER_LEN);
-    let view = Ipv4Packet::new_unchecked(packet);
-    let header_len = usize::from(view.header_len());
-    let payload_len = usize::from(view.total_len()) - header_len;
-    let room = mtu.saturating_sub(header_len);
-    let len = if payload_len <= room {
-        payload_len
+    if is_ipv6(packet) {
+        ipv6_place(packet, mtu, number)
     } else {
-        room / 8 * 8
-    };
-    if number == 0 {
-        return Some(0);
-    }
-    let before = (number - 1).checked_mul(len)?;
-    end_of(before, room, payload_len)
-}
-
-// Where the fragment ends that begins at this place, unless it is the last.
-fn end_of(at: usize, room: usize, payload_len: usize) -> Option<usize>
-    ensures { let end = at + cut_len room (payload_len - at) in result ≡ (if nat_lt end payload_len then Some end else None) }
-{
-    if payload_len.saturating_sub(at) <= room {
-        None
-    } else {
-        Some(at + room / 8 * 8)
+        ipv4_place(packet, mtu, number)
     }
 }
 
 // Writes the frame with the fragment that begins at this place. Returns its length, or a failure.
-fn write_at(frame: &[u8], at: usize, mtu: usize, ident: Option<u16>, out: &mut [u8]) -> isize
+fn write_at(frame: &[u8], at: usize, mtu: usize, ident: Option<u32>, out: &mut [u8]) -> isize
     requires header { 14 ≤ length frame.now }
-    requires may { MayBeFragmented ident (drop 14 frame.now) mtu }
-    requires begin { MayBegin (drop 14 frame.now) at mtu }
+    requires may { MayBeWritten ident mtu (drop 14 frame.now) at }
     ensures { Writes (Some (frame_at ident mtu frame.now at)) None out.old out.new result }
 {
     if out.len() > MAX_LEN {
@@ -146,24 +188,88 @@ fn write_at(frame: &[u8], at: usize, mtu: usize, ident: Option<u16>, out: &mut [
 }
 
 // Writes the frame with the fragment that begins at this place.
-fn fill_at(frame: &[u8], at: usize, mtu: usize, ident: Option<u16>, out: &mut [u8]) -> Option<usize>
+fn fill_at(frame: &[u8], at: usize, mtu: usize, ident: Option<u32>, out: &mut [u8]) -> Option<usize>
     requires header { 14 ≤ length frame.now }
-    requires may { MayBeFragmented ident (drop 14 frame.now) mtu }
-    requires begin { MayBegin (drop 14 frame.now) at mtu }
+    requires may { MayBeWritten ident mtu (drop 14 frame.now) at }
     requires room { length out.old ≤ max_len }
     ensures { Fills (Some (frame_at ident mtu frame.now at)) out.old out.new result }
 {
     let (link, packet) = frame.split_at(ETHERNET_HEADER_LEN);
-    bytes_fit(packet);
     if out.len() < ETHERNET_HEADER_LEN {
         return None;
     }
     let (front, rest) = out.split_at_mut(ETHERNET_HEADER_LEN);
-    match fragment_ipv4(packet, at, mtu, ident, rest) {
-        Some(written) => {
+    match fill_packet(packet, at, mtu, ident, rest) {
+        Some(len) => {
             front.copy_from_slice(link);
-            Some(ETHERNET_HEADER_LEN + written.len)
+            Some(ETHERNET_HEADER_LEN + len)
         }
+        None => None,
+    }
+}
+
+// Writes the fragment that begins at this place.
+fn fill_packet(
+    packet: &[u8],
+    at: usize,
+    mtu: usize,
+    ident: Option<u32>,
+    out: &mut [u8],
+) -> Option<usize>
+    requires { MayBeWritten ident mtu packet.now at }
+    ensures { Fills (Some (fragment_at ident mtu packet.now at)) out.old out.new result }
+{
+    if is_ipv6(packet) {
+        fill_ipv6(packet, at, mtu, ident, out)
+    } else {
+        fill_ipv4(packet, at, mtu, ident, out)
+    }
+}
+
+fn fill_ipv4(
+    packet: &[u8],
+    at: usize,
+    mtu: usize,
+    ident: Option<u32>,
+    out: &mut [u8],
+) -> Option<usize>
+    requires short { is_long ident ≡ false }
+    requires may { ipv4.MayBeFragmented ident packet.now mtu }
+    requires begin { ipv4.MayBegin packet.now at mtu }
+    ensures { Fills (Some (ipv4_at ident mtu packet.now at)) out.old out.new result }
+{
+    bytes_fit(packet);
+    match fragment_ipv4(packet, at, mtu, short(ident), out) {
+        Some(written) => Some(written.len),
+        None => None,
+    }
+}
+
+// The identification of an IPv4 header.
+fn short(ident: Option<u32>) -> Option<u16>
+    requires { is_long ident ≡ false }
+    ensures { result ≡ ident }
+{
+    match ident {
+        Some(number) => Some(number as u16),
+        None => None,
+    }
+}
+
+fn fill_ipv6(
+    packet: &[u8],
+    at: usize,
+    mtu: usize,
+    ident: Option<u32>,
+    out: &mut [u8],
+) -> Option<usize>
+    requires may { ipv6_fragments.MayBeFragmented packet.now mtu }
+    requires begin { ipv6_fragments.MayBegin packet.now at mtu }
+    ensures { Fills (Some (ipv6_at ident mtu packet.now at)) out.old out.new result }
+{
+    bytes_fit(packet);
+    match fragment_ipv6(packet, at, mtu, ident.unwrap_or(0), out) {
+        Some(written) => Some(written.len),
         None => None,
     }
 }

@@ -7,6 +7,7 @@ mod forwarding;
 mod fragments;
 mod lengths;
 mod nat;
+mod reassembly;
 mod rejections;
 mod routes;
 mod sources;
@@ -19,6 +20,7 @@ pub use edits::{
 pub use forwarding::forward_frame;
 pub use fragments::write_fragment;
 pub use nat::{translate_in, translate_out};
+pub use reassembly::{expire_packet, reassemble_frame};
 pub use rejections::Rejection;
 pub use routes::{Route, choose_by_table, choose_route, index_routes, make_table};
 pub use sources::{check_addr, check_addr_by_table};

@@ -22,6 +22,8 @@ reason_code reason.BadFlags = 6
 reason_code reason.BadOptions = 7
 reason_code reason.HeaderCut = 8
 reason_code reason.UnknownLink = 9
+reason_code reason.HopsLeft = 10
+reason_code reason.BadOrder = 11
 
 -- the number of a network protocol (`enum lk_network`)
 abbrev pub network_code : NetworkKind → ℕ

@@ -64,6 +64,7 @@ nothing_of len = record {
   is_fragment = 0;
   ipv4_checksum = verdict_code verdict.None;
   transport_checksum = verdict_code verdict.None;
-  unused = replicate 5 0;
+  protocol = 0;
+  unused = replicate 4 0;
   icmp = no_icmp;
 }

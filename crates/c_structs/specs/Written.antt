@@ -35,6 +35,7 @@ failure_number failure.PayloadTooLong = 9
 failure_number failure.NoHeader = 10
 failure_number failure.NoRoom = 11
 failure_number failure.DontFragment = 12
+failure_number failure.Dropped = 13
 
 -- what a call returns for a failure: its number, times -(1 << 40)
 abbrev pub failure_code : Failure → ℤ

@@ -20,6 +20,10 @@ pub enum Reason {
     HeaderCut,
     /// The link type is not known.
     UnknownLink,
+    /// An IPv6 routing header has segments left.
+    HopsLeft,
+    /// IPv6 hop-by-hop options do not follow the IPv6 header directly.
+    BadOrder,
 }
 
 impl Reason {

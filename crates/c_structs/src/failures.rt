@@ -33,6 +33,8 @@ pub enum Failure {
     NoRoom,
     /// The packet is longer than the MTU, and has DF.
     DontFragment,
+    /// The packet of a fragment is dropped.
+    Dropped,
 }
 
 impl Failure {

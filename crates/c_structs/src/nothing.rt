@@ -85,7 +85,8 @@ impl FrameFields {
             is_fragment: 0,
             ipv4_checksum: Verdict::None.code(),
             transport_checksum: Verdict::None.code(),
-            unused: [0; 5],
+            protocol: 0,
+            unused: [0; 4],
             icmp: Icmp::none(),
         }
     }

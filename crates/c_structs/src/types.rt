@@ -172,7 +172,9 @@ pub struct FrameFields {
     pub is_fragment: u8,
     pub ipv4_checksum: u8,
     pub transport_checksum: u8,
+    /// The number of the transport header or of the payload, after IPv6 extension headers.
+    pub protocol: u8,
     /// Zeros, after which `icmp` is aligned.
-    pub unused: [u8; 5],
+    pub unused: [u8; 4],
     pub icmp: Icmp,
 }

@@ -54,6 +54,7 @@ told-once ours frame problem.RouteMissing mtu h k c d e g = told ours frame rout
 told-once ours frame problem.NeighbourMissing mtu h k c d e g = told ours frame router.NoNeighbour h k c d e g
 told-once ours frame problem.PortClosed mtu h k c d e g = error-once ours frame _ h k c d e g
 told-once ours frame problem.Prohibited mtu h k c d e g = told ours frame router.Prohibited h k c d e g
+told-once ours frame problem.FragmentMissing mtu h k c d e g = error-once ours frame _ h k c d e g
 
 pub errors_once : (own : Option Interface) (frame : List ℕ) (p : Problem) (mtu : ℕ) (old new other : List ℕ) (a b : ℤ) → WritesError own frame p mtu old new a
     → WritesError own frame p mtu old other b → (a ≡ b) × (new ≡ other)

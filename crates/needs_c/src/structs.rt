@@ -2,11 +2,11 @@
 
 ghost use Rattle.std.specs.Prelude.{◌≡◌, ◌≤◌, ◌+◌, List, ℕ, drop, false, length, true};
 ghost use Rattle.ip_wire.specs.Ethernet as ethernet;
-ghost use Rattle.ip_wire.specs.Frame.{ReadsFrame, datagram, packet, packet_payload};
+ghost use Rattle.ip_wire.specs.Frame.{datagram, packet, packet_payload};
 ghost use Rattle.ip_wire.specs.Ipv4 as ipv4;
 ghost use Rattle.ip_wire.specs.Types.{EthernetRepr, IpRepr, Ipv4, Ipv4Repr, UdpRepr};
 ghost use Rattle.ip_wire.specs.declared.EthernetProtocol.TheVariants as ethertype;
-ghost use Rattle.c_read.specs.Stored.{IsTypeOf, unchecked};
+ghost use Rattle.c_read.specs.Stored.{IsTypeOf, StepsFrame, unchecked};
 
 use c_read::{laws, read_frame};
 use c_structs::FrameFields;
@@ -14,7 +14,7 @@ use ip_wire::ChecksumCapabilities;
 
 /// The fields of a frame with a UDP packet: both ports, and the place of the payload.
 fn fields_are_parsed(frame: &[u8], caps: ChecksumCapabilities, fields: &mut FrameFields)
-    ensures { (v : EthernetRepr) (ip : IpRepr) (udp : UdpRepr) (payload : List ℕ) → ReadsFrame unchecked frame.now v (packet ip (datagram udp payload))
+    ensures { (v : EthernetRepr) (ip : IpRepr) (udp : UdpRepr) (payload : List ℕ) → StepsFrame unchecked frame.now v (packet ip (datagram udp payload))
         → (fields.new.src.port ≡ udp.src_port) × (fields.new.dst.port ≡ udp.dst_port) × (fields.new.payload_len ≡ length payload) }
 {
     read_frame(fields, frame);

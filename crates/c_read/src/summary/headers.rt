@@ -114,7 +114,7 @@ fn protocol_text(frame: &FrameFields) -> ArrayString<26>
 {
     let mut text = ArrayString::new();
     text.push_str(" proto=");
-    text.push_str(Buffer::new().format(frame.ip.protocol));
+    text.push_str(Buffer::new().format(frame.protocol));
     if frame.is_fragment != 0 {
         text.push_str(fragment_text(&frame.ip).as_str());
     }

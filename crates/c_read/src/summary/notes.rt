@@ -43,6 +43,8 @@ pub(crate) fn reason_note(reason: u8) -> &'static str
         7 => " (bad options)",
         8 => " (header cut)",
         9 => " (unknown link)",
+        10 => " (hops left)",
+        11 => " (bad order)",
         _ => "",
     }
 }

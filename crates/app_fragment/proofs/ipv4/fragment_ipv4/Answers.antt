@@ -11,5 +11,5 @@ returns-clause-reads c =
     let view : packet_bytes c.new_unchecked.result ≡ bytes = search rules in
     let header : c.from.result ≡ header_len bytes = c.from.ensures ∙ c.header_len.ensures ∙ ap header_len view in
     let f = subst (IsFragment c.args.ident bytes c.args.at next) (sym c.write.ensures)
-    (is_fragment c.args.ident bytes (drop _ c.args.out.now) c.args.at next c.bytes_fit.ensures may.lengths c.next_place-next.ensures.order c.next_place-next.ensures.within may.within) in
-    (f.lengths, f.version ∙ may.version, f.checksum, f.total ∙ sym (ap (λ n. n + (next - c.args.at)) header))
+    (is_fragment c.args.ident bytes (drop _ c.args.out.now) c.args.at next c.bytes_fit.ensures may.valid.lengths c.next_place-next.ensures.order c.next_place-next.ensures.within may.within) in
+    (f.lengths, f.version ∙ may.valid.version, f.checksum, f.total ∙ sym (ap (λ n. n + (next - c.args.at)) header))

@@ -1,9 +1,6 @@
 use Rattle.std.proofs.Common.{◌≡◌, drop, length, slice_range}
-use Rattle.ip_wire.specs.Field.{field}
 use Rattle.ip_wire.specs.Ipv6.{header_of}
-use Rattle.ip_wire.specs.Protocol.{protocol_of}
 use Rattle.c_read.proofs.CutBytes.{range-rest}
-use Rattle.c_read.specs.Captured.{cut_fragment_by}
 use Rattle.c_read.specs.FrameFields.{with_ipv6_fields}
 use Rattle.c_read.proofs.captured.store_begun_ipv6.Goals as goal
 
@@ -12,7 +9,6 @@ returns-clause-value c =
     let f = c.args.fields.now in
     let bytes = c.args.bytes.now in
     let v = header_of bytes in
-    let p = protocol_of (field bytes 48 8) in
     let next = with_ipv6_fields f bytes v v.payload_len in
     let rest : slice_range bytes 40 (length bytes) ≡ drop 40 bytes = range-rest 40 bytes in
     let src = rw c.new_unchecked-packet.ensures at c.src_addr.ensures in
@@ -27,5 +23,4 @@ returns-clause-value c =
       rw c.new_unchecked-packet.ensures at c.hop_limit.ensures,
     ) at c.store_ipv6_header.ensures
     in
-    let part : c.store_cut_fragment.new.fields ≡ cut_fragment_by next p (drop 40 bytes) = rw (header, rest) at c.store_cut_fragment.ensures.value in
-    rw (part, header, rest, src, dst) at c.store_cut_transport.ensures.value
+    rw (header, rest, src, dst) at c.store_cut_extended.ensures.value

@@ -1,7 +1,6 @@
 use Rattle.std.proofs.Common.{◌≡◌, List, None, drop, ℕ, of_z, refl, rules, subst, sym, to_z, w64}
-use Rattle.app_fragment.specs.Ipv4Fragments.{MayBeFragmented}
-use Rattle.c_routing.proofs.Fragmenting.{begins, cut, ended, wrote}
-use Rattle.c_routing.specs.Fragmented.{WritesFragment, fragment_failure, fragment_frame, ident_of}
+use Rattle.c_routing.proofs.Fragmenting.{begins, cut, ended, has-lengths, wrote}
+use Rattle.c_routing.specs.Fragmented.{MayBeWritten, WritesFragment, fragment_failure, fragment_frame, ident_of}
 use Rattle.c_routing.proofs.fragments.write_fragment.Goals as goal
 
 pub place_of-requires-clause-header : goal.place_of-requires-clause-header
@@ -12,7 +11,7 @@ place_of-requires-clause-header c =
 pub place_of-requires-clause-lengths : goal.place_of-requires-clause-lengths
 place_of-requires-clause-lengths c =
     let none : fragment_failure c.args.ident c.args.mtu c.within-frame.result.now ≡ None = search rules in
-    (cut c.args.ident c.args.mtu c.within-frame.result.now none).may.lengths
+    has-lengths (ident_of c.args.ident) c.args.mtu (drop 14 c.within-frame.result.now) (cut c.args.ident c.args.mtu c.within-frame.result.now none).may
 
 pub write_at-requires-clause-header : goal.write_at-requires-clause-header
 write_at-requires-clause-header c =
@@ -24,13 +23,8 @@ write_at-requires-clause-may c =
     let frame = c.within-frame.result.now in
     let none : fragment_failure c.args.ident c.args.mtu c.within-frame.result.now ≡ None = search rules in
     let ident : c.ident_of.result ≡ ident_of c.args.ident = search rules in
-    subst (λ i. MayBeFragmented i (drop 14 frame) c.args.mtu) (sym ident) (cut c.args.ident c.args.mtu frame none).may
-
-pub write_at-requires-clause-begin : goal.write_at-requires-clause-begin
-write_at-requires-clause-begin c =
-    let frame = c.within-frame.result.now in
-    let none : fragment_failure c.args.ident c.args.mtu c.within-frame.result.now ≡ None = search rules in
-    begins (ident_of c.args.ident) c.args.mtu c.args.number c.in-Some-place_of.at frame (cut c.args.ident c.args.mtu frame none) (search rules)
+    subst (λ i. MayBeWritten i c.args.mtu (drop 14 frame) c.in-Some-place_of.at) (sym ident)
+    (begins (ident_of c.args.ident) c.args.mtu c.args.number c.in-Some-place_of.at (drop 14 frame) (cut c.args.ident c.args.mtu frame none).may (search rules))
 
 pub returns-in-Some-place_of : goal.returns-in-Some-place_of
 returns-in-Some-place_of c =

@@ -1,0 +1,86 @@
+/* What the programs need for packets in fragments. */
+#ifndef FRAGMENTS_H
+#define FRAGMENTS_H
+
+#include <ip_wire.h>
+#include <stdlib.h>
+#include <string.h>
+#include <sys/random.h>
+
+/* How many packets are put together at a time, and the longest frame with a packet, which is of IPv6. */
+enum { MOST_PARTIALS = 64, LONGEST_WHOLE = 14 + 40 + 65535 };
+enum { PARTIALS_MEMORY = MOST_PARTIALS * LK_PARTIAL_MEMORY };
+
+struct fragments {
+    struct lk_partial *partials;
+    uint8_t *memory;
+    uint32_t ident;               /* of the next packet that leaves in fragments */
+    uint8_t whole[LONGEST_WHOLE]; /* the frame that was put together last */
+};
+
+/* Returns 0 if that fails. The kernel gives the memory only when it is written. */
+static inline int make_fragments(struct fragments *fragments)
+{
+    if (getrandom(&fragments->ident, sizeof fragments->ident, 0) != sizeof fragments->ident)
+        return 0;
+    fragments->partials = calloc(MOST_PARTIALS, sizeof *fragments->partials);
+    fragments->memory = calloc(MOST_PARTIALS, LK_PARTIAL_MEMORY);
+    return fragments->partials != NULL && fragments->memory != NULL;
+}
+
+/* Whether a frame has a fragment, also an atomic one (RFC 6946). */
+static inline int is_fragment(const struct lk_frame *in)
+{
+    return in->is_fragment || (in->network == LK_IPV6 && in->ip.protocol == 44);
+}
+
+static inline int is_fragment_for(const struct lk_host *host, const struct lk_frame *in)
+{
+    const struct lk_addr *own = in->network == LK_IPV4 ? &host->ipv4 : &host->ipv6;
+    return is_fragment(in) && in->ipv4_checksum != LK_WRONG && memcmp(in->ethernet.dst, host->hardware, 6) == 0
+           && memcmp(&in->dst.addr, own, sizeof *own) == 0;
+}
+
+/* Neighbour discovery must not come in fragments (RFC 6980, section 5), not even in atomic ones. */
+static inline int is_ndisc(const uint8_t *frame, size_t len)
+{
+    enum { LONGEST_HEADERS = 14 + 40 + 8, FIRST = 133, LAST = 137 };
+    struct lk_frame f;
+    lk_read_captured(frame, len < LONGEST_HEADERS ? len : LONGEST_HEADERS, len, &f);
+    return f.network == LK_IPV6 && f.transport == LK_ICMP && f.icmp.type >= FIRST && f.icmp.type <= LAST;
+}
+
+/* Returns the length of the frame in `whole`, or what lk_reassemble returns instead. */
+static inline ptrdiff_t reassemble(struct fragments *fragments, int64_t now, const uint8_t *frame, size_t len)
+{
+    ptrdiff_t whole_len =
+        lk_reassemble(fragments->partials, MOST_PARTIALS, fragments->memory, PARTIALS_MEMORY, (uint64_t)now, frame, len,
+                      fragments->whole, sizeof fragments->whole);
+    return whole_len > 0 && is_ndisc(fragments->whole, (size_t)whole_len) ? LK_DROPPED : whole_len;
+}
+
+/* Frees packets whose time is over, up to one that gets an ICMP error. Returns the length of its first fragment, in
+ * `whole`, or 0. */
+static inline size_t expire(struct fragments *fragments, int64_t now)
+{
+    return lk_expire(fragments->partials, MOST_PARTIALS, fragments->memory, PARTIALS_MEMORY, (uint64_t)now,
+                     fragments->whole, sizeof fragments->whole);
+}
+
+/* The time until the next call of `expire`, in milliseconds: a second, or -1 if no fragment waits for others. */
+static inline int until_expire(const struct fragments *fragments)
+{
+    for (const struct lk_partial *one = fragments->partials; one < fragments->partials + MOST_PARTIALS; one++)
+        if (one->expires != 0)
+            return 1000;
+    return -1;
+}
+
+/* The identification of the next packet that leaves in fragments. Over IPv4 it has 16 bits, over IPv6 32. */
+static inline int64_t next_ident(struct fragments *fragments, const uint8_t *frame)
+{
+    const uint32_t ident = fragments->ident++;
+    return frame[14] >> 4 == 4 ? ident % 65536 : ident;
+}
+
+#endif
