@@ -1030,11 +1030,11 @@ ptrdiff_t lk_reassemble(struct lk_partial *partials, size_t count, uint8_t *memo
                         const uint8_t *frame, size_t len, uint8_t *out, size_t cap);
 
 /* Frees packets whose time is over, up to one whose fragment with offset 0 was received. Writes the frame with this
- * fragment, and returns its length; 0: there is no such packet. An ICMP error tells its sender: time exceeded, code 1
- * (RFC 792; RFC 4443, section 3.3). Call it until it returns 0:
+ * fragment, and returns its length; 0: there is no such packet. An ICMP error tells its sender (RFC 792; RFC 4443,
+ * section 3.3). Call it until it returns 0:
  *
  *     while ((n = lk_expire(partials, COUNT, memory, sizeof memory, milliseconds(), out, sizeof out)) > 0)
- *         send_time_exceeded(out, n);
+ *         error_len = lk_emit_icmp_error(&own, LK_FRAGMENT_MISSING, 0, out, n, error, sizeof error);
  *
  * The frame has the Ethernet header of the fragment that came first. A packet that got LK_DROPPED, or that made room
  * for another one, gives no frame, and so does one that does not fit in `out`. A `cap` of 65589 always suffices. */
