@@ -952,11 +952,14 @@ int lk_clamp_mss_as(uint8_t *frame, size_t len, uint16_t max_seg_size, int offlo
  * Not supported: an IPv6 packet that has to be cut, and has hop-by-hop options, a routing header or destination options
  * directly after the IPv6 header.
  *
- * Fails with LK_BAD_FIELD if `ident` is below -1, or above the limit for the packet's version, or if the packet does not
- * fit and the MTU is less than its header and 8 bytes, 56 bytes over IPv6; with LK_PAYLOAD_TOO_LONG for an IPv4 fragment
- * that ends after byte 65535 of its packet; with LK_NO_HEADER if the frame has no IPv4 or IPv6 packet with a valid
- * header, or if `ident` is not LK_FORWARDED and the packet is a fragment, over IPv6 one that does not fit, or is not
- * supported; with LK_DONT_FRAGMENT, and with LK_NO_ROOM. */
+ * Fails with one of these:
+ *
+ * - LK_BAD_FIELD: `ident` is below -1, or above the limit for the packet's version. Or the packet does not fit, and the
+ *   MTU is less than its header and 8 bytes, over IPv6 less than 56 bytes.
+ * - LK_PAYLOAD_TOO_LONG: an IPv4 fragment ends after byte 65535 of its packet.
+ * - LK_NO_HEADER: the frame has no IP packet with a valid header. Or `ident` is not LK_FORWARDED, and the packet is an
+ *   IPv4 fragment, or an IPv6 packet that does not fit and is a fragment or not supported.
+ * - LK_DONT_FRAGMENT, LK_NO_ROOM. */
 ptrdiff_t lk_fragment(const uint8_t *frame, size_t len, size_t mtu, int64_t ident, size_t number, uint8_t *out,
                       size_t cap);
 
