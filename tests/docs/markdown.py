@@ -25,7 +25,7 @@ from sources import WORD, Sources  # noqa: E402
 # The pages that are written by hand, with the most lines that each may have, and that all may have.
 LONGEST = {
     "README.md": 120,
-    "docs/GUIDE.md": 220,
+    "docs/GUIDE.md": 250,
     "docs/CONTRACTS.md": 200,
     "docs/USES.md": 300,
     "docs/ROUTER.md": 200,
