@@ -22,11 +22,12 @@ FCS_LEN = 4
 MAX_FRAME_LEN = 262144
 MAX_BLOCK_LEN = 16 << 20
 
+# The byte order, and how many of its units of time are a second.
 PCAP_ORDERS = {
-    b"\xd4\xc3\xb2\xa1": "<",
-    b"\x4d\x3c\xb2\xa1": "<",
-    b"\xa1\xb2\xc3\xd4": ">",
-    b"\xa1\xb2\x3c\x4d": ">",
+    b"\xd4\xc3\xb2\xa1": ("<", 10**6),
+    b"\x4d\x3c\xb2\xa1": ("<", 10**9),
+    b"\xa1\xb2\xc3\xd4": (">", 10**6),
+    b"\xa1\xb2\x3c\x4d": (">", 10**9),
 }
 # The fields of the link type in a pcap header.
 LINK_TYPE = 0xFFFF
@@ -38,12 +39,14 @@ SECTION_ORDERS = {b"\x4d\x3c\x2b\x1a": "<", b"\x1a\x2b\x3c\x4d": ">"}
 # The types of pcapng blocks.
 SECTION, INTERFACE, PACKET, SIMPLE_PACKET, ENHANCED_PACKET = 0x0A0D0D0A, 1, 2, 3, 6
 # The types of pcapng options.
-OPTIONS_END, PACKET_FLAGS, FCS_LENGTH = 0, 2, 13
+OPTIONS_END, PACKET_FLAGS, TIME_RESOLUTION, FCS_LENGTH, TIME_OFFSET = 0, 2, 9, 13, 14
 FLAGS_FCS = 0x1E0
 
-Interface = namedtuple("Interface", "link_type snap_len has_fcs")
-# What a record says about a packet: where it comes from, its bytes and its length before truncation.
-Packet = namedtuple("Packet", "link_type has_fcs data original_len")
+# `units` of time are a second, and its times count from `start`, in seconds since 1970.
+Interface = namedtuple("Interface", "link_type snap_len has_fcs units start")
+# What a record says about a packet: where it comes from, its bytes and its length before truncation. `time` is in nanoseconds
+# since 1970; None: it has none.
+Packet = namedtuple("Packet", "link_type has_fcs data original_len time")
 
 
 def read_exactly(source, length, what):
@@ -53,32 +56,33 @@ def read_exactly(source, length, what):
     return data
 
 
-def read_packets(source):
-    """The packets of a capture of either format."""
+def read_packets(source, any_link=False):
+    """The packets of a capture of either format, which has Ethernet among its link types unless any will do."""
     magic = source.read(4)
     if not magic:
         raise Failure("the input is empty")
     if magic in PCAP_ORDERS:
-        return read_pcap(source, PCAP_ORDERS[magic])
+        return read_pcap(source, *PCAP_ORDERS[magic], any_link)
     if magic == SECTION_START:
-        return read_pcapng(source)
+        return read_pcapng(source, any_link)
     raise Failure("neither a pcap nor a pcapng file")
 
 
-def read_pcap(source, order):
+def read_pcap(source, order, units, any_link):
     """The packets of a pcap file, of which the magic number was already read."""
     header = read_exactly(source, 20, "the file header")
     major, minor, link = struct.unpack(order + "HH12xI", header)
     if (major, minor) != (2, 4):
         raise Failure(f"pcap version {major}.{minor} is not supported")
-    if link & LINK_TYPE != ETHERNET:
+    if link & LINK_TYPE != ETHERNET and not any_link:
         raise Failure(f"no Ethernet in this capture: link type {link & LINK_TYPE}")
     has_fcs = bool(link & FCS_PRESENT and link & FCS_WORDS)
     while first := source.read(1):
         record = first + read_exactly(source, 15, "the last frame")
-        data_len, original_len = struct.unpack(order + "8xII", record)
+        seconds, fraction, data_len, original_len = struct.unpack(order + "IIII", record)
         check_frame_len(data_len)
-        yield Packet(ETHERNET, has_fcs, read_exactly(source, data_len, "the last frame"), original_len)
+        time = seconds * 10**9 + fraction * 10**9 // units
+        yield Packet(link & LINK_TYPE, has_fcs, read_exactly(source, data_len, "the last frame"), original_len, time)
 
 
 def check_frame_len(length):
@@ -86,7 +90,7 @@ def check_frame_len(length):
         raise Failure(f"a frame of {length} bytes: the limit is {MAX_FRAME_LEN}")
 
 
-def read_pcapng(source):
+def read_pcapng(source, any_link):
     """The packets of a pcapng file, of which the type of the first block was already read."""
     interfaces = []
     link_types = set()
@@ -99,7 +103,7 @@ def read_pcapng(source):
             link_types.add(interfaces[-1].link_type)
         elif kind in PACKET_READERS:
             yield read_packet(PACKET_READERS[kind], order, body, interfaces)
-    if ETHERNET not in link_types:
+    if ETHERNET not in link_types and not any_link:
         raise Failure(f"no Ethernet in this capture: {link_type_list(link_types)}")
 
 
@@ -156,7 +160,11 @@ def read_options(order, rest):
 
 def read_interface(order, body):
     link_type, snap_len, rest = unpack(order + "H2xI", body)
-    return Interface(link_type, snap_len, any(read_options(order, rest).get(FCS_LENGTH, b"")))
+    options = read_options(order, rest)
+    resolution = (options.get(TIME_RESOLUTION) or b"\6")[0]
+    start = int.from_bytes(options.get(TIME_OFFSET, b""), "little" if order == "<" else "big", signed=True)
+    # The highest bit says whether the others are a power of 2 or of 10.
+    return Interface(link_type, snap_len, any(options.get(FCS_LENGTH, b"")), (2 if resolution & 128 else 10) ** (resolution & 127), start)
 
 
 def interface_at(number, interfaces):
@@ -166,27 +174,27 @@ def interface_at(number, interfaces):
 
 
 def read_enhanced(order, body, interfaces):
-    number, data_len, original_len, rest = unpack(order + "I8xII", body)
-    return interface_at(number, interfaces), data_len, original_len, rest
+    number, high, low, data_len, original_len, rest = unpack(order + "IIIII", body)
+    return interface_at(number, interfaces), data_len, original_len, high << 32 | low, rest
 
 
 def read_obsolete(order, body, interfaces):
-    number, data_len, original_len, rest = unpack(order + "H10xII", body)
-    return interface_at(number, interfaces), data_len, original_len, rest
+    number, high, low, data_len, original_len, rest = unpack(order + "H2xIIII", body)
+    return interface_at(number, interfaces), data_len, original_len, high << 32 | low, rest
 
 
 def read_simple(order, body, interfaces):
     """A simple packet has no length of its own: the snapshot length of the first interface limits it."""
     original_len, rest = unpack(order + "I", body)
     interface = interface_at(0, interfaces)
-    return interface, min(original_len, interface.snap_len or original_len), original_len, rest
+    return interface, min(original_len, interface.snap_len or original_len), original_len, None, rest
 
 
 PACKET_READERS = {PACKET: read_obsolete, SIMPLE_PACKET: read_simple, ENHANCED_PACKET: read_enhanced}
 
 
 def read_packet(reader, order, body, interfaces):
-    interface, data_len, original_len, rest = reader(order, body, interfaces)
+    interface, data_len, original_len, time, rest = reader(order, body, interfaces)
     check_frame_len(data_len)
     if len(rest) < data_len:
         raise Failure("a packet is longer than its block")
@@ -194,7 +202,9 @@ def read_packet(reader, order, body, interfaces):
     if reader is not read_simple:
         flags = read_options(order, rest[data_len + -data_len % 4 :]).get(PACKET_FLAGS, b"")
         has_fcs = has_fcs or bool(int.from_bytes(flags, "little" if order == "<" else "big") & FLAGS_FCS)
-    return Packet(interface.link_type, has_fcs, rest[:data_len], original_len)
+    if time is not None:
+        time = interface.start * 10**9 + time * 10**9 // interface.units
+    return Packet(interface.link_type, has_fcs, rest[:data_len], original_len, time)
 
 
 def link_type_list(link_types):

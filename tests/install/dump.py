@@ -7,9 +7,10 @@ it. All other cases need the built program.
 import json
 import re
 import shlex
+import struct
 import sys
 
-from captures import pcap
+from captures import block, interface, option, pcap, section
 from tools import RECORDED, Case, run_cases
 
 ECHO = "examples/echo.pcap"
@@ -171,6 +172,59 @@ OPTIONS = [
     ]],
 ]
 
+# The times are those of tshark.
+ECHO_TIMES = [f"2026-11-22 17:03:33.759{n}" for n in (133, 243, 249, 268, 275, 280, 284, 288)]
+ECHO_LINES = [f"{number} {time} {line}\n" for number, time, line in zip(range(1, 9), ECHO_TIMES, [
+    "ARP 192.0.2.1 > 192.0.2.2 op=1 hardware=02-00-00-00-00-01 len=0",
+    "ARP 192.0.2.2 > 192.0.2.1 op=2 hardware=02-00-00-00-00-02 len=0",
+    "IPv4 192.0.2.1:41319 > 192.0.2.2:7 UDP len=4 (partial checksum correct)",
+    "IPv4 192.0.2.2:7 > 192.0.2.1:41319 UDP len=4 (partial checksum correct)",
+    "IPv6 2001:db8::1 > ff02::1:ff00:2 ICMP neighbor solicitation len=24",
+    "IPv6 2001:db8::2 > 2001:db8::1 ICMP neighbor advertisement len=24",
+    "IPv6 [2001:db8::1]:41518 > [2001:db8::2]:7 UDP len=4 (partial checksum correct)",
+    "IPv6 [2001:db8::2]:7 > [2001:db8::1]:41518 UDP len=4 (partial checksum correct)"])]
+# UDP without a checksum: whole, and in two fragments.
+UDP_8 = "10e1 0007 0010 0000" + b"01234567".hex()
+HEADER = "4500 {0} 0007 {1} 40 11 {2} c0000201 c0000202"
+FRAGMENTS = [HEADER.format("001c", "2000", "d6c6") + UDP_8[: 8 * 2 + 3], HEADER.format("001c", "0001", "f6c5") + UDP_8[8 * 2 + 3 :]]
+PACKET = HEADER.format("0024", "0000", "f6be") + UDP_8
+START = "1970-01-01 00:00:00.000000 "
+LATER = "2001-09-09 01:46:40.123456 "
+
+
+def linktype(number, *packets, **header):
+    return pcap([bytes.fromhex(packet) for packet in packets], link=number, **header)
+
+
+LINES = [
+    case(f"--lines {ECHO}", "".join(ECHO_LINES)),
+    case(f"--lines -n < <(gzip -c {ECHO})", "".join(ECHO_LINES)),
+    *[case(f"--lines {words} {ECHO}", "".join(ECHO_LINES[number - 1] for number in numbers)) for words, numbers in [
+        ("-c 2", (1, 2)), ("--proto icmp", (5, 6)), ("--proto 17 -c 1", (3,)), ("--port 41518", (7, 8)),
+        ("--host 192.0.2.0/24 --port 7", (3, 4)), ("--host ff02::1:ff00:2 --host 192.0.2.2 --proto 0 --proto 58", (5,)),
+    ]],
+    case("--lines", f"1 {START}IPv4 192.0.2.1:4321 > 192.0.2.2:7 UDP len=8 (no checksum)\n", data=linktype(101, PACKET), name="--lines raw"),
+    case("--lines", f"1 {START}IPv4 192.0.2.1:4321 > 192.0.2.2:7 UDP len=8 (no checksum)\n",
+         data=linktype(113, "0000 0001 0006 020000000001 0000 0800" + PACKET), name="--lines cooked"),
+    case("--lines", f"1 {START}vlan 7 IPv4 192.0.2.1:4321 > 192.0.2.2:7 UDP len=8 (no checksum)\n",
+         data=linktype(1, OTHER + "8100 6007 0800" + PACKET), name="--lines of a VLAN"),
+    case("--lines --whole", f"1 {START}IPv4 192.0.2.1 > 192.0.2.2 proto=17 fragment=0+ len=8\n"
+         f"2 {START}IPv4 192.0.2.1 > 192.0.2.2 proto=17 fragment=8 len=8\n"
+         f"2 {START}whole IPv4 192.0.2.1:4321 > 192.0.2.2:7 UDP len=8 (no checksum)\n",
+         data=linktype(101, *FRAGMENTS), name="--lines --whole"),
+    case("--lines", f"1 {START}Ethernet 00-00-00-00-00-00 > 00-00-00-00-00-00 type=0x0000 len=1 (unknown link)\n",
+         "of an unknown link type: 1 packet", data=linktype(147, "02"), name="--lines of an unknown link"),
+    case("--lines", f"1 {LATER}IPv4 192.0.2.1:4321 > 192.0.2.2:7 UDP len=8 (no checksum)\n",
+         data=section() + interface(link=101, options=option(9, b"\t")) + block(6, struct.pack("<IIIII", 0, *divmod(
+             1_000_000_000_123_456_789, 1 << 32), 36, 36) + bytes.fromhex(PACKET)), name="--lines of nanoseconds"),
+    *[case(words, "", error, 2) for words, error in [
+        ("-c 1", "-c needs --lines"), ("--lines -c", "-c needs a value"), ("--lines -c x", "-c x: not a number"),
+        ("--lines --changed", "--changed and --lines exclude each other"),
+        ("--lines --host 1.2.3", "--host 1.2.3: no address or block"), ("--lines --port http", "--port http: no number"),
+        ("--lines --proto x", "--proto x: no name or number of a protocol"),
+    ]],
+]
+
 # Three packets of tcpdump with lines that are no dump, and that become one as 0x0000.
 SUMMARIES = "".join(f"17:03:3{n}.7 IP x\n\t0y0000:  {LINE}\n" for n in range(3))
 MANY = f"yes {LINE} | head -n 5000"
@@ -252,7 +306,7 @@ PROGRAMS = [
 
 # The script names the version of the library.
 VERSION = Case("ip_dump: --version", "examples/ip_dump --version | diff - <(echo ip_dump $(c/version))", b"", "", "", 0)
-CASES = [*FORMS, *OPTIONS, *FILES, PROGRESS, *PROGRAMS, VERSION]
+CASES = [*FORMS, *OPTIONS, *LINES, *FILES, PROGRESS, *PROGRAMS, VERSION]
 
 if __name__ == "__main__":
     sys.exit(run_cases(CASES))

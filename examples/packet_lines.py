@@ -1,0 +1,180 @@
+"""One line for each packet of a capture, of any link type that the library knows: ip_dump --lines.
+
+The Python package `ip_wire` parses and prints. It is beside ip_dump in an installation and in the source tree.
+"""
+import ipaddress
+import os
+import sys
+import time
+from collections import namedtuple
+from datetime import datetime, timedelta, timezone
+
+import frame_lines
+import lines_of_capture
+from frame_lines import Failure, counted
+
+HERE = os.path.dirname(os.path.realpath(__file__))
+# Of an installation, and of the source tree.
+PACKAGES = ("python", "../bindings/python")
+LIBRARIES = ("../../lib/libip_wire.so", "../out/lib/libip_wire.so")
+ETHERNET, FCS_LEN = lines_of_capture.ETHERNET, lines_of_capture.FCS_LEN
+PROTOCOLS = {"icmp": [1, 58], "tcp": [6], "udp": [17]}
+KINDS = {"--host": "address or block", "--port": "number", "--proto": "name or number of a protocol"}
+EPOCH = datetime(1970, 1, 1, tzinfo=timezone.utc)
+POLL = 0.2  # seconds
+# On a terminal a line with one of these notes is red.
+RED, RESET = "\033[31m", "\033[0m"
+BAD = ("incorrect)", "(too short)", "(bad ", "(port zero)", "(header cut)")
+# The types of ICMP by name (IANA's registries of ICMP and ICMPv6).
+ICMP = {0: "echo reply", 3: "unreachable", 5: "redirect", 8: "echo request", 9: "router advertisement",
+        10: "router solicitation", 11: "time exceeded", 12: "parameter problem", 13: "timestamp", 14: "timestamp reply"}
+ICMPV6 = {1: "unreachable", 2: "packet too big", 3: "time exceeded", 4: "parameter problem", 128: "echo request",
+          129: "echo reply", 130: "listener query", 131: "listener report", 132: "listener done",
+          133: "router solicitation", 134: "router advertisement", 135: "neighbor solicitation",
+          136: "neighbor advertisement", 137: "redirect", 143: "listener report v2"}
+
+
+def package():
+    """The Python package, with the library beside it if there is one."""
+    sys.path.extend(os.path.join(HERE, place) for place in PACKAGES)
+    for path in (os.path.join(HERE, place) for place in LIBRARIES):
+        if os.path.exists(path):
+            os.environ.setdefault("IP_WIRE_LIBRARY", path)
+    try:
+        import ip_wire
+    except (ImportError, OSError) as error:
+        raise Failure(f"the Python package ip_wire is not usable: {error}") from None
+    return ip_wire
+
+
+def block_of(text):
+    return ipaddress.ip_network(text, strict=False)
+
+
+def protocols_of(text):
+    return PROTOCOLS.get(text.lower()) or [int(text)]
+
+
+def value_of(option, parse, text):
+    try:
+        return parse(text)
+    except ValueError:
+        raise Failure(f"{option} {text}: no {KINDS[option]}") from None
+
+
+class Filter(namedtuple("Filter", "blocks ports protocols")):
+    """Which packets are printed: those of one of the blocks, one of the ports and one of the protocols. Without blocks,
+    ports or protocols these do not count."""
+
+    @classmethod
+    def of(cls, hosts, ports, protocols):
+        return cls([value_of("--host", block_of, text) for text in hosts],
+                   {value_of("--port", int, text) for text in ports},
+                   {number for text in protocols for number in value_of("--proto", protocols_of, text)})
+
+    def accepts(self, frame):
+        ends = () if frame.src is None else (frame.src, frame.dst)
+        return ((not self.protocols or frame.protocol in self.protocols)
+                and (not self.ports or any(end.port in self.ports for end in ends))
+                and (not self.blocks or any(end.addr in block for end in ends for block in self.blocks)))
+
+
+class Growing:
+    """A file that is read again for more at its end."""
+
+    def __init__(self, file):
+        self.file = file
+
+    def read(self, length):
+        data = self.file.read(length)
+        while len(data) < length:
+            time.sleep(POLL)
+            data += self.file.read(length - len(data))
+        return data
+
+
+class Lines:
+    """Prints the lines of captures."""
+
+    def __init__(self, output, options):
+        self.output, self.library = output, package()
+        self.filter = Filter.of(*(options.get(name, []) for name in ("--host", "--port", "--proto")))
+        self.left = int(options["-c"][-1]) if "-c" in options else None
+        self.reassembler = self.library.Reassembler() if "--whole" in options else None
+        self.has_colors = os.isatty(1)
+        self.is_followed = "--follow" in options
+        self.count, self.clock = 0, 0
+
+    def print_file(self, source, prefix):
+        """Returns after the last packet, or the last one that is wanted."""
+        if self.is_followed:
+            source = Growing(source)
+        unknown = 0
+        for number, packet in enumerate(lines_of_capture.read_packets(source, any_link=True), 1):
+            if self.left == 0:
+                break
+            self.count += 1
+            unknown += not self.print_packet(f"{prefix}{number} {when(packet.time)}", packet)
+            if self.is_followed:
+                self.output.flush()
+        if unknown:
+            frame_lines.report(f"of an unknown link type: {counted(unknown, 'packet')}")
+
+    def print_packet(self, prefix, packet):
+        """Returns whether its link type is known."""
+        length = max(packet.original_len, len(packet.data)) - (FCS_LEN if packet.has_fcs else 0)
+        frame = self.library.parse_linktype(packet.link_type, packet.data, max(length, 0))
+        if self.filter.accepts(frame):
+            self.print_line(prefix, frame, self.tags(packet))
+        if self.reassembler is not None and frame.is_fragment:
+            self.print_whole(prefix, packet, frame)
+        return frame.reason is not self.library.Reason.UNKNOWN_LINK
+
+    def print_whole(self, prefix, packet, fragment):
+        """Prints the packet whose last missing fragment this is."""
+        self.clock = max(self.clock, (packet.time or 0) // 10**6)
+        link = bytes(12) + (b"\x86\xdd" if fragment.src.addr.version == 6 else b"\x08\0")
+        try:
+            whole = self.reassembler.reassemble(link + packet.data[fragment.network_offset :], self.clock)
+        except self.library.WireError:
+            return
+        if whole is not None and self.filter.accepts(frame := self.library.parse_frame(whole)):
+            self.print_line(prefix, frame, "whole ")
+
+    def tags(self, packet):
+        """The VLANs of an Ethernet frame."""
+        if packet.link_type != ETHERNET or packet.data[12:14] not in (b"\x81\0", b"\x88\xa8", b"\x91\0"):
+            return ""
+        try:
+            return "".join(f"vlan {tag & 0xFFF} " for tag in self.library.parse_link(ETHERNET, packet.data).tags)
+        except self.library.Rejected:
+            return ""
+
+    def print_line(self, prefix, frame, words):
+        line = str(frame)
+        if frame.transport is self.library.Transport.ICMP:
+            line = with_name(line, frame)
+        if self.has_colors and any(bad in line for bad in BAD):
+            line = f"{RED}{line}{RESET}"
+        self.output.add_text(f"{prefix}{words}{line}\n")
+        if self.left is not None:
+            self.left -= 1
+            if self.left == 0:
+                self.output.flush()
+
+
+def with_name(line, frame):
+    """The line of an ICMP message, with the name of its type."""
+    name = (ICMP if frame.protocol == 1 else ICMPV6).get(frame.icmp.type)
+    return line if name is None else line.replace(f"type={frame.icmp.type} ", f"{name} ", 1).replace(" code=0", "", 1)
+
+
+def when(nanoseconds):
+    """The time of a packet, in UTC."""
+    if nanoseconds is None:
+        return ""
+    seconds, rest = divmod(nanoseconds, 10**9)
+    try:
+        return f"{EPOCH + timedelta(seconds=seconds):%Y-%m-%d %H:%M:%S}.{rest // 1000:06} "
+    except OverflowError:
+        return f"{seconds}.{rest // 1000:06} "
