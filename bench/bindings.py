@@ -58,6 +58,10 @@ def write_frames(path, data):
     path.write_bytes(b"".join(struct.pack("<I", len(frame)) + frame for frame in data))
 
 
+def skip(reason):
+    print(f"skipped: {reason}", file=sys.stderr)
+
+
 def run(label, job, data, total):
     """The time of a run, in nanoseconds for a frame. A job that returns a sum must return the right one."""
     begun = time.perf_counter()
@@ -147,7 +151,7 @@ def python_rows(room, data, total):
     jobs = []
     for name, its in (("ip_wire", own_jobs), ("dpkt", dpkt_jobs), ("scapy", scapy_jobs)):
         if importlib.util.find_spec(name) is None:
-            print(f"skipped: {sys.executable} has no {name}")
+            skip(f"{sys.executable} has no {name}")
         else:
             jobs += its()
     return least((label, run(label, job, data, total)) for _ in range(ROUNDS) for label, job in jobs)
@@ -164,7 +168,7 @@ def go_rows(room, data, total):
         link.symlink_to(TOP / target)
     has_peer = (GOPACKET / "src/github.com/google/gopacket").exists()
     if not has_peer:
-        print("skipped: there is no gopacket")
+        skip("there is no gopacket")
     environment = {**os.environ, "GO111MODULE": "off", "GOFLAGS": "", "GOPATH": f"{room}:{GOPACKET}", "GOCACHE": f"{room}/cache"}
     words = ["-tags", "gopacket"] if has_peer else []
     command = ["go", "test", "-bench", ".", "-benchtime", f"{8 * COUNT}x", "-count", str(ROUNDS), *words, "bench"]
@@ -205,7 +209,7 @@ def main(folder):
         print("| Language | Call | ns |\n|---|---|---|")
         for language, tool, rows in LANGUAGES:
             if not shutil.which(tool):
-                print(f"skipped: there is no {tool}")
+                skip(f"there is no {tool}")
                 continue
             for label, number in rows(room, data, total):
                 print(f"| {language} | {label} | {number:,.0f} |", flush=True)
