@@ -2,6 +2,36 @@ package ipwire
 
 /*
 #include <ip_wire.h>
+
+// The texts are not copied, and the calls return structs, so that Go allocates nothing. Version 0: it does not parse.
+static struct lk_addr parse_addr(_GoString_ text)
+{
+    struct lk_addr addr = {.version = 0};
+    lk_parse_addr(_GoStringPtr(text), _GoStringLen(text), &addr);
+    return addr;
+}
+
+static struct lk_endpoint parse_endpoint(_GoString_ text)
+{
+    struct lk_endpoint endpoint = {.addr.version = 0};
+    lk_parse_endpoint(_GoStringPtr(text), _GoStringLen(text), &endpoint);
+    return endpoint;
+}
+
+static struct lk_block parse_block(_GoString_ text)
+{
+    struct lk_block block = {.addr.version = 0};
+    lk_parse_block(_GoStringPtr(text), _GoStringLen(text), &block);
+    return block;
+}
+
+// The address is the source. The EtherType says whether there is one.
+static struct lk_ethernet parse_ethernet(_GoString_ text)
+{
+    struct lk_ethernet header = {.type = 0};
+    header.type = lk_parse_ethernet(_GoStringPtr(text), _GoStringLen(text), header.src) != 0;
+    return header;
+}
 */
 import "C"
 
@@ -19,9 +49,8 @@ type HardwareAddr [6]byte
 
 // ParseAddr parses an IPv4 or IPv6 address. Other than by netip, leading zeros are accepted, and a zone is rejected.
 func ParseAddr(text string) (netip.Addr, error) {
-	var addr C.struct_lk_addr
-	ptr, length := characters(text)
-	if C.lk_parse_addr(ptr, length, &addr) == 0 {
+	addr := C.parse_addr(text)
+	if addr.version == 0 {
 		return netip.Addr{}, ErrText
 	}
 	return addrOf(&addr), nil
@@ -37,9 +66,8 @@ func PrintAddr(addr netip.Addr) (string, error) {
 // ParseEndpoint parses an address, ':' and a port, with an IPv6 address in brackets; or an address by itself, which
 // has port 0.
 func ParseEndpoint(text string) (netip.AddrPort, error) {
-	var endpoint C.struct_lk_endpoint
-	ptr, length := characters(text)
-	if C.lk_parse_endpoint(ptr, length, &endpoint) == 0 {
+	endpoint := C.parse_endpoint(text)
+	if endpoint.addr.version == 0 {
 		return netip.AddrPort{}, ErrText
 	}
 	return endpointOf(&endpoint), nil
@@ -54,9 +82,8 @@ func PrintEndpoint(endpoint netip.AddrPort) (string, error) {
 
 // ParsePrefix parses a CIDR block. The address keeps all its bits.
 func ParsePrefix(text string) (netip.Prefix, error) {
-	var block C.struct_lk_block
-	ptr, length := characters(text)
-	if C.lk_parse_block(ptr, length, &block) == 0 {
+	block := C.parse_block(text)
+	if block.addr.version == 0 {
 		return netip.Prefix{}, ErrText
 	}
 	return netip.PrefixFrom(addrOf(&block.addr), int(block.prefix_len)), nil
@@ -89,12 +116,11 @@ func IsUnicast(addr netip.Addr) bool {
 
 // ParseHardwareAddr parses six groups of 1 or 2 hex digits, all joined by '-' or all by ':'.
 func ParseHardwareAddr(text string) (HardwareAddr, error) {
-	var addr HardwareAddr
-	ptr, length := characters(text)
-	if C.lk_parse_ethernet(ptr, length, addr.ptr()) == 0 {
-		return addr, ErrText
+	header := C.parse_ethernet(text)
+	if header._type == 0 {
+		return HardwareAddr{}, ErrText
 	}
-	return addr, nil
+	return hardwareOf(&header.src), nil
 }
 
 // String returns six pairs of hex digits, joined by '-'.
@@ -108,12 +134,6 @@ func (a *HardwareAddr) ptr() *C.uint8_t {
 	return (*C.uint8_t)(&a[0])
 }
 
-// characters returns the pointer and the length of a copy of a text.
-func characters(text string) (*C.char, C.size_t) {
-	ptr, length := memory([]byte(text))
-	return (*C.char)(unsafe.Pointer(ptr)), length
-}
-
 // printed returns the text that a call wrote.
 func printed(out []C.char, length C.ptrdiff_t) (string, error) {
 	if length < 0 {
@@ -124,34 +144,28 @@ func printed(out []C.char, length C.ptrdiff_t) (string, error) {
 
 // ---- values in C
 
-// bytesOf returns the memory of an array in C, whose size is that of T.
-func bytesOf[T any](array *T) []byte {
-	return unsafe.Slice((*byte)(unsafe.Pointer(array)), unsafe.Sizeof(*array))
-}
-
-func cAddr(addr netip.Addr) C.struct_lk_addr {
-	var value C.struct_lk_addr
-	copy(bytesOf(&value.octets), addr.AsSlice())
+func cAddr(addr netip.Addr) (value C.struct_lk_addr) {
+	octets := unsafe.Pointer(&value.octets)
 	switch {
 	case addr.Is4():
 		value.version = 4
+		*(*[4]byte)(octets) = addr.As4()
 	case addr.Is6():
 		value.version = 6
+		*(*[16]byte)(octets) = addr.As16()
 	}
 	return value
 }
 
 func addrOf(value *C.struct_lk_addr) netip.Addr {
-	octets := bytesOf(&value.octets)
+	octets := unsafe.Pointer(&value.octets)
 	switch value.version {
 	case 4:
-		octets = octets[:4]
+		return netip.AddrFrom4(*(*[4]byte)(octets))
 	case 6:
-	default:
-		octets = nil
+		return netip.AddrFrom16(*(*[16]byte)(octets))
 	}
-	addr, _ := netip.AddrFromSlice(octets)
-	return addr
+	return netip.Addr{}
 }
 
 func cEndpoint(endpoint netip.AddrPort) C.struct_lk_endpoint {

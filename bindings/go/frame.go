@@ -2,6 +2,35 @@ package ipwire
 
 /*
 #include <ip_wire.h>
+
+// The calls return structs, since Go would allocate one that a call has a pointer to.
+static struct lk_frame read_frame(const uint8_t *ptr, size_t len)
+{
+    struct lk_frame frame;
+    lk_read_frame(ptr, len, &frame);
+    return frame;
+}
+
+static struct lk_frame read_packet(const uint8_t *ptr, size_t len)
+{
+    struct lk_frame frame;
+    lk_read_packet(ptr, len, &frame);
+    return frame;
+}
+
+static struct lk_frame read_captured(const uint8_t *ptr, size_t count, size_t len)
+{
+    struct lk_frame frame;
+    lk_read_captured(ptr, count, len, &frame);
+    return frame;
+}
+
+static struct lk_frame read_captured_packet(const uint8_t *ptr, size_t count, size_t len)
+{
+    struct lk_frame frame;
+    lk_read_captured_packet(ptr, count, len, &frame);
+    return frame;
+}
 */
 import "C"
 
@@ -83,10 +112,17 @@ type Frame struct {
 
 // ReadFrame parses an Ethernet frame.
 func ReadFrame(frame []byte) Frame {
-	var f C.struct_lk_frame
 	ptr, length := memory(frame)
-	C.lk_read_frame(ptr, length, &f)
-	return frameOf(frame, &f)
+	return frameOf(frame, C.read_frame(ptr, length))
+}
+
+// ReadFrameInto parses an Ethernet frame into a Frame, whose values it replaces, and returns what Check returns. It
+// allocates nothing, and copies less than ReadFrame.
+func ReadFrameInto(frame *Frame, data []byte) error {
+	ptr, length := memory(data)
+	value := C.read_frame(ptr, length)
+	frame.fill(data, &value)
+	return frame.Check()
 }
 
 // ReadFrameOptions parses an Ethernet frame and the options of its TCP header. They are nil if no TCP header was read.
@@ -96,18 +132,16 @@ func ReadFrameOptions(frame []byte) (Frame, *TCPOptions) {
 	ptr, length := memory(frame)
 	C.lk_read_frame_options(ptr, length, &f, &set)
 	if f.transport != C.LK_TCP {
-		return frameOf(frame, &f), nil
+		return frameOf(frame, f), nil
 	}
 	options := optionsOf(&set)
-	return frameOf(frame, &f), &options
+	return frameOf(frame, f), &options
 }
 
 // ReadPacket parses a packet that begins with its IPv4 or IPv6 header.
 func ReadPacket(packet []byte) Frame {
-	var f C.struct_lk_frame
 	ptr, length := memory(packet)
-	C.lk_read_packet(ptr, length, &f)
-	return frameOf(packet, &f)
+	return frameOf(packet, C.read_packet(ptr, length))
 }
 
 // sizeOf returns the length of a frame, as the library takes it: at most LK_MAX_LEN.
@@ -121,41 +155,41 @@ func sizeOf(length int) C.size_t {
 // ReadCaptured parses an Ethernet frame of this length, of which only the first bytes were captured. If the length is
 // not known, math.MaxInt serves: the lengths in the headers count.
 func ReadCaptured(captured []byte, length int) Frame {
-	var f C.struct_lk_frame
 	ptr, count := memory(captured)
-	C.lk_read_captured(ptr, count, sizeOf(length), &f)
-	return frameOf(captured, &f)
+	return frameOf(captured, C.read_captured(ptr, count, sizeOf(length)))
 }
 
 // ReadCapturedPacket does the same with a packet that begins with its IPv4 or IPv6 header.
 func ReadCapturedPacket(captured []byte, length int) Frame {
-	var f C.struct_lk_frame
 	ptr, count := memory(captured)
-	C.lk_read_captured_packet(ptr, count, sizeOf(length), &f)
-	return frameOf(captured, &f)
+	return frameOf(captured, C.read_captured_packet(ptr, count, sizeOf(length)))
 }
 
-func frameOf(data []byte, f *C.struct_lk_frame) Frame {
-	frame := Frame{
-		Headers:           headersOf(f),
-		Reason:            Reason(f.reason),
-		Network:           Network(f.network),
-		Transport:         Transport(f.transport),
-		Rejected:          Transport(f.rejected),
-		Protocol:          uint8(f.protocol),
-		IsFragment:        f.is_fragment != 0,
-		IPv4Checksum:      Verdict(f.ipv4_checksum),
-		TransportChecksum: Verdict(f.transport_checksum),
-		NetworkOffset:     int(f.network_offset),
-		TransportOffset:   int(f.transport_offset),
-		PayloadOffset:     int(f.payload_offset),
-		PayloadLen:        int(f.payload_len),
-	}
-	frame.Payload = part(data, frame.PayloadOffset, frame.PayloadLen)
-	if frame.Transport == TransportTCP {
-		frame.TCPHeader = part(data, frame.TransportOffset, int(f.tcp.header_len))
-	}
+func frameOf(data []byte, value C.struct_lk_frame) (frame Frame) {
+	frame.fill(data, &value)
 	return frame
+}
+
+// fill replaces all values by those of a struct, which was read from these bytes.
+func (f *Frame) fill(data []byte, value *C.struct_lk_frame) {
+	f.Headers.fill(value)
+	f.Reason = Reason(value.reason)
+	f.Network = Network(value.network)
+	f.Transport = Transport(value.transport)
+	f.Rejected = Transport(value.rejected)
+	f.Protocol = uint8(value.protocol)
+	f.IsFragment = value.is_fragment != 0
+	f.IPv4Checksum = Verdict(value.ipv4_checksum)
+	f.TransportChecksum = Verdict(value.transport_checksum)
+	f.NetworkOffset = int(value.network_offset)
+	f.TransportOffset = int(value.transport_offset)
+	f.PayloadOffset = int(value.payload_offset)
+	f.PayloadLen = int(value.payload_len)
+	f.Payload = part(data, f.PayloadOffset, f.PayloadLen)
+	f.TCPHeader = nil
+	if f.Transport == TransportTCP {
+		f.TCPHeader = part(data, f.TransportOffset, int(value.tcp.header_len))
+	}
 }
 
 // part returns the bytes from a place on, as far as they are there.

@@ -5,7 +5,10 @@ package ipwire
 */
 import "C"
 
-import "net/netip"
+import (
+	"net/netip"
+	"unsafe"
+)
 
 // Ethernet is an Ethernet header. The calls Emit.. fill in Type.
 type Ethernet struct {
@@ -113,49 +116,45 @@ func (h *Headers) c() C.struct_lk_frame {
 }
 
 // headersOf returns the headers of a struct.
-func headersOf(f *C.struct_lk_frame) Headers {
-	return Headers{
-		Ethernet: Ethernet{hardwareOf(&f.ethernet.src), hardwareOf(&f.ethernet.dst), uint16(f.ethernet._type)},
-		Src:      endpointOf(&f.src),
-		Dst:      endpointOf(&f.dst),
-		IP: IP{
-			Ident:          uint32(f.ip.ident),
-			FlowLabel:      uint32(f.ip.flow_label),
-			FragmentOffset: uint16(f.ip.fragment_offset),
-			Protocol:       uint8(f.ip.protocol),
-			HopLimit:       uint8(f.ip.hop_limit),
-			DSCP:           uint8(f.ip.dscp),
-			ECN:            uint8(f.ip.ecn),
-			MoreFragments:  f.ip.more_fragments != 0,
-			DontFragment:   f.ip.dont_fragment != 0,
-		},
-		TCP: TCP{
-			SeqNumber: uint32(f.tcp.seq_number),
-			AckNumber: uint32(f.tcp.ack_number),
-			WindowLen: uint16(f.tcp.window_len),
-			UrgentAt:  uint16(f.tcp.urgent_at),
-			Flags:     uint8(f.tcp.flags),
-		},
-		ICMP: ICMP{Word: uint32(f.icmp.word), Type: uint8(f.icmp._type), Code: uint8(f.icmp.code)},
-		ARP: ARP{
-			Operation:   uint16(f.arp.operation),
-			SrcHardware: hardwareOf(&f.arp.src_hardware),
-			DstHardware: hardwareOf(&f.arp.dst_hardware),
-		},
-	}
+func headersOf(value *C.struct_lk_frame) (h Headers) {
+	h.fill(value)
+	return h
+}
+
+// fill replaces the headers by those of a struct.
+func (h *Headers) fill(value *C.struct_lk_frame) {
+	h.Ethernet.Src = hardwareOf(&value.ethernet.src)
+	h.Ethernet.Dst = hardwareOf(&value.ethernet.dst)
+	h.Ethernet.Type = uint16(value.ethernet._type)
+	h.Src = endpointOf(&value.src)
+	h.Dst = endpointOf(&value.dst)
+	h.IP.Ident = uint32(value.ip.ident)
+	h.IP.FlowLabel = uint32(value.ip.flow_label)
+	h.IP.FragmentOffset = uint16(value.ip.fragment_offset)
+	h.IP.Protocol = uint8(value.ip.protocol)
+	h.IP.HopLimit = uint8(value.ip.hop_limit)
+	h.IP.DSCP = uint8(value.ip.dscp)
+	h.IP.ECN = uint8(value.ip.ecn)
+	h.IP.MoreFragments = value.ip.more_fragments != 0
+	h.IP.DontFragment = value.ip.dont_fragment != 0
+	h.TCP.SeqNumber = uint32(value.tcp.seq_number)
+	h.TCP.AckNumber = uint32(value.tcp.ack_number)
+	h.TCP.WindowLen = uint16(value.tcp.window_len)
+	h.TCP.UrgentAt = uint16(value.tcp.urgent_at)
+	h.TCP.Flags = uint8(value.tcp.flags)
+	h.ICMP.Word = uint32(value.icmp.word)
+	h.ICMP.Type = uint8(value.icmp._type)
+	h.ICMP.Code = uint8(value.icmp.code)
+	h.ARP.Operation = uint16(value.arp.operation)
+	h.ARP.SrcHardware = hardwareOf(&value.arp.src_hardware)
+	h.ARP.DstHardware = hardwareOf(&value.arp.dst_hardware)
 }
 
 // c returns the address as C has it.
-func (a HardwareAddr) c() (octets [6]C.uint8_t) {
-	for place, octet := range a {
-		octets[place] = C.uint8_t(octet)
-	}
-	return octets
+func (a HardwareAddr) c() [6]C.uint8_t {
+	return *(*[6]C.uint8_t)(unsafe.Pointer(&a))
 }
 
-func hardwareOf(octets *[6]C.uint8_t) (a HardwareAddr) {
-	for place, octet := range octets {
-		a[place] = byte(octet)
-	}
-	return a
+func hardwareOf(octets *[6]C.uint8_t) HardwareAddr {
+	return *(*HardwareAddr)(unsafe.Pointer(octets))
 }

@@ -143,6 +143,41 @@ func TestReading(t *testing.T) {
 	}
 }
 
+// A Frame that is used again is like a new one, also after a frame with other headers.
+func TestReadingInto(t *testing.T) {
+	var again Frame
+	udp := unhex(t, ethernet+header+ports+"0000"+"70696e67")
+	headers := ReadFrame(udp).Headers
+	headers.TCP = TCP{Flags: SYN}
+	syn, err := headers.EmitTCP(nil, nil, make([]byte, 100))
+	if err != nil {
+		t.Fatal(err)
+	}
+	for _, data := range [][]byte{udp, syn, udp[:40], syn, nil, udp} {
+		wanted := ReadFrame(data)
+		if err := ReadFrameInto(&again, data); err != wanted.Check() || !reflect.DeepEqual(again, wanted) {
+			t.Errorf("ReadFrameInto: %v, %+v, and not %+v", err, again, wanted)
+		}
+	}
+}
+
+func TestAllocations(t *testing.T) {
+	data := unhex(t, ethernet+header+ports+"1234"+"70696e67")
+	var frame Frame
+	for name, call := range map[string]func(){
+		"ReadFrame":         func() { frame = ReadFrame(data) },
+		"ReadFrameInto":     func() { _ = ReadFrameInto(&frame, data) },
+		"ParseAddr":         func() { _, _ = ParseAddr("2001:db8::1") },
+		"ParseEndpoint":     func() { _, _ = ParseEndpoint("192.0.2.1:80") },
+		"ParsePrefix":       func() { _, _ = ParsePrefix("192.0.2.0/24") },
+		"ParseHardwareAddr": func() { _, _ = ParseHardwareAddr("02:00:00:00:00:01") },
+	} {
+		if allocations := testing.AllocsPerRun(100, call); allocations != 0 {
+			t.Errorf("%s: %v allocations", name, allocations)
+		}
+	}
+}
+
 // Scapy packed the packet: hop-by-hop options, and UDP with the payload f1f2f3.
 func TestExtensionHeaders(t *testing.T) {
 	packet := unhex(t, "6becdef10013003e20010db800000000000000000000000120010db8000000000000000000000002"+

@@ -2,6 +2,13 @@ package ipwire
 
 /*
 #include <ip_wire.h>
+
+static struct lk_frame read_linktype(uint32_t type, const uint8_t *ptr, size_t count, size_t len)
+{
+    struct lk_frame frame;
+    lk_read_linktype(type, ptr, count, len, &frame);
+    return frame;
+}
 */
 import "C"
 
@@ -31,8 +38,6 @@ func ReadLink(linkType uint32, captured []byte) (Link, error) {
 // ReadLinkType parses a packet of this length, of any link type that ReadLink knows, of which only the first bytes were
 // captured. Ethernet.Type is the EtherType after the VLAN tags. Only link type 1 has Ethernet addresses.
 func ReadLinkType(linkType uint32, captured []byte, length int) Frame {
-	var f C.struct_lk_frame
 	ptr, count := memory(captured)
-	C.lk_read_linktype(C.uint32_t(linkType), ptr, count, sizeOf(length), &f)
-	return frameOf(captured, &f)
+	return frameOf(captured, C.read_linktype(C.uint32_t(linkType), ptr, count, sizeOf(length)))
 }

@@ -14,6 +14,7 @@ reject_bad_input() {
         rejects 'make bench: there is no library /no/such' bench/bench.py --calls /no/such &&
         rejects 'make bench: there is no program /no/such' bench/bench.py --program /no/such &&
         rejects 'make bench: odd option --odd' bench/bench.py --odd &&
+        rejects "bench/bindings.py: there is no /no/such/libip_wire.so: make build makes it" bench/bindings.py /no/such &&
         rejects 'bench/run: OLD NEW [SEED] are needed' bench/run &&
         rejects 'bench/run: /no/such is no checkout' bench/run . /no/such &&
         rejects 'lines_of_capture.py: neither a pcap nor a pcapng file' examples/lines_of_capture.py < README.md

@@ -22,7 +22,7 @@ from .addresses import (
 from .arithmetic import add_seq, checksum, compare_seq, subtract_seq, update_checksum, update_checksum_bytes
 from .editing import fill_checksum, set_addr, set_bytes, set_dscp, set_hop_limit, set_port
 from .frames import (
-    Frame, Link, Network, Transport, Verdict, ethertype_name, parse_captured, parse_frame, parse_frame_options,
+    Frame, Link, Network, Transport, Verdict, ethertype_name, parse_captured, parse_frame, parse_frame_options, parse_frames,
     parse_link, parse_linktype, parse_packet, protocol_name,
 )  # fmt: skip
 from .headers import (
@@ -45,7 +45,7 @@ __all__ = [
     "emit_arp_packet", "emit_ethernet_header", "emit_icmp", "emit_icmp_message", "emit_ip_header", "emit_ndisc",
     "emit_tcp", "emit_tcp_segment", "emit_udp", "emit_udp_packet", "ethertype_name", "fill_checksum", "forward",
     "fragments", "ipv6_headers", "is_multicast", "is_unicast", "parse_addr", "parse_block", "parse_captured", "parse_endpoint",
-    "parse_ethernet", "parse_frame", "parse_frame_options", "parse_link", "parse_linktype", "parse_ndisc",
+    "parse_ethernet", "parse_frame", "parse_frame_options", "parse_frames", "parse_link", "parse_linktype", "parse_ndisc",
     "parse_packet", "parse_tcp_options", "print_addr", "print_block", "print_ethernet", "protocol_name",
     "raw_tcp_options", "rebuild", "set_addr", "set_bytes", "set_dscp", "set_hop_limit", "set_port", "subtract_seq",
     "tcp_header_len", "translate", "update_checksum", "update_checksum_bytes", "wrap_tcp", "wrap_udp",

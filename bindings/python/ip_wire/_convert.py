@@ -12,10 +12,11 @@ from __future__ import annotations
 
 import ctypes
 import operator
+import struct
 from ctypes import c_int, c_int32, c_int64, c_size_t, c_uint8, c_uint16, c_uint32, c_uint64
-from functools import lru_cache
+from functools import lru_cache, partial
 from ipaddress import IPv4Address, IPv4Interface, IPv4Network, IPv6Address, IPv6Interface, IPv6Network
-from typing import Any, Callable, Dict, List, Tuple, Type, TypeVar, Union, get_type_hints
+from typing import Any, Callable, Dict, Iterable, List, Tuple, Type, TypeVar, Union, get_type_hints
 
 from . import _c as c
 
@@ -26,6 +27,7 @@ Data = Union[bytes, bytearray, memoryview]
 T = TypeVar("T")
 
 _NUMBERS = {c_int, c_int32, c_int64, c_size_t, c_uint8, c_uint16, c_uint32, c_uint64}
+_LETTERS = {1: "B", 2: "H", 4: "I", 8: "Q"}  # of unsigned numbers, by their size
 _classes: Dict[Any, type] = {}  # of a struct, the class that represents it
 
 
@@ -155,36 +157,68 @@ def _struct(kind: Any, given: Dict[str, Any]) -> Any:
 # ---- from C
 
 
-def address_of(addr: Any) -> Any:
-    """The address in a struct, or None."""
-    data = bytes(addr.octets)
-    if addr.version == 4:
-        return IPv4Address(data[:4])
-    return IPv6Address(data) if addr.version == 6 else None
+def address_of(octets: bytes) -> Any:
+    """The address in the bytes of a `struct lk_addr`, or None."""
+    version = octets[16]
+    if version == 4:
+        return IPv4Address(int.from_bytes(octets[:4], "big"))
+    return IPv6Address(int.from_bytes(octets[:16], "big")) if version == 6 else None
 
 
-@lru_cache(maxsize=None)
-def _readers(cls: Any, kind: Any) -> List[Tuple[str, bool, Callable[[Any], Any]]]:
-    """Of each field of a class whether it may be None, and how it is read from the struct."""
-    found = []
-    for name, hint in get_type_hints(cls).items():
-        field, is_optional = _members(kind)[name]
-        read: Callable[[Any], Any] = bytes
-        if field is c.Addr:
-            read = address_of
-        elif isinstance(hint, type):
-            read = hint
-        found.append((name, is_optional, read))
+def _format(kind: Any, names: Iterable[str]) -> str:
+    """The format of these fields of a struct for the module `struct`: numbers, and bytes for arrays and structs."""
+    found, end = "=", 0
+    for name in names:
+        field = getattr(kind, name)
+        is_number = _members(kind)[name][0] in _NUMBERS
+        found += f"{field.offset - end}x" + (_LETTERS[field.size] if is_number else f"{field.size}s")
+        end = field.offset + field.size
     return found
 
 
-def from_c(cls: Callable[..., T], struct: Any) -> T:
+def _maker(cls: Any, names: Iterable[str]) -> Callable[[Iterable[Any]], Any]:
+    """The function that makes an object of a class from the values of its fields, without a call of its `__init__`."""
+    if issubclass(cls, tuple):
+        return partial(tuple.__new__, cls)
+
+    def make(values: Iterable[Any]) -> Any:
+        found = object.__new__(cls)
+        found.__dict__.update(zip(names, values))
+        return found
+
+    return make
+
+
+@lru_cache(maxsize=None)
+def reader(cls: Callable[..., T], kind: Any) -> Callable[[Any, int], T]:
+    """The function that makes the object of a class from a struct, which begins at a place of some memory."""
+    hints, members = get_type_hints(cls), _members(kind)
+    names = [name for name in members if name in hints or name.startswith("has_") and name[len("has_") :] in hints]
+    unpack = struct.Struct(_format(kind, names)).unpack_from
+    arranged, make = operator.itemgetter(*map(names.index, hints)), _maker(cls, [*hints])
+    optional = [(names.index(name), names.index("has_" + name)) for name in hints if members[name][1]]
+    converted: List[Tuple[int, Callable[[Any], Any]]] = []
+    for name, hint in hints.items():
+        if members[name][0] is c.Addr:
+            converted.append((names.index(name), address_of))
+        elif hint not in (int, bytes) and isinstance(hint, type):
+            converted.append((names.index(name), lru_cache(maxsize=256)(hint)))  # to call an enum is slow
+
+    def read(memory: Any, place: int) -> Any:
+        values = [*unpack(memory, place)]
+        for at, convert in converted:
+            values[at] = convert(values[at])
+        for at, has in optional:
+            if not values[has]:
+                values[at] = None
+        return make(arranged(values))
+
+    return read
+
+
+def from_c(cls: Callable[..., T], value: Any) -> T:
     """The object with the fields of a struct."""
-    values: Dict[str, Any] = {}
-    for name, is_optional, read in _readers(cls, struct.__class__):
-        is_there = not is_optional or getattr(struct, "has_" + name)
-        values[name] = read(getattr(struct, name)) if is_there else None
-    return cls(**values)
+    return reader(cls, value.__class__)(value, 0)
 
 
 # ---- calls

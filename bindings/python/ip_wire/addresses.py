@@ -21,7 +21,7 @@ class Endpoint(NamedTuple):
 
 def parse_addr(text: str) -> Address:
     """Parses an address. Other than by `ipaddress`, leading zeros are accepted, and a scope (%eth0) is rejected."""
-    addr: Address = address_of(parsed(c.Addr(), "lk_parse_addr", text))
+    addr: Address = address_of(bytes(parsed(c.Addr(), "lk_parse_addr", text)))
     return addr
 
 
@@ -38,7 +38,7 @@ def parse_endpoint(text: str) -> Endpoint:
 def parse_block(text: str) -> Block:
     """Parses a CIDR block. It keeps all bits of its address."""
     block: Any = parsed(c.Block(), "lk_parse_block", text)
-    return ip_interface((address_of(block.addr), block.prefix_len))
+    return ip_interface((address_of(bytes(block.addr)), block.prefix_len))
 
 
 def print_block(block: AnyBlock) -> str:

@@ -4,10 +4,11 @@ from __future__ import annotations
 from ctypes import c_int, c_size_t
 from dataclasses import dataclass, field
 from enum import IntEnum
-from typing import Any, Callable, Optional, Tuple
+from struct import Struct
+from typing import Any, Callable, Dict, Iterable, Iterator, Optional, Tuple, Type
 
 from . import _c as c
-from ._convert import Data, address_of, call, data_of, from_c, number_of, to_c, written
+from ._convert import Data, call, data_of, from_c, number_of, reader, to_c, written
 from .addresses import Endpoint
 from .headers import Arp, Ethernet, Headers, Icmp, Ip, Reason, Rejected, Tcp, TcpOptions, options_from_c
 
@@ -50,7 +51,7 @@ class Link:
 
 @dataclass(frozen=True)
 class Frame:
-    """A frame that was parsed. A header that is not there is None.
+    """A frame that was parsed. A header that is not there is None. A value is made when it is asked for first.
 
     The headers before a rejected one are there, and the payload begins at the rejected header. So call `check`
     first, if the payload is to be trusted.
@@ -77,11 +78,11 @@ class Frame:
     transport_offset: Optional[int]
     payload_offset: int
     payload_len: int  # of the whole frame: the payload may end past the captured bytes
-    _struct: Any = field(repr=False, compare=False)
+    _struct: bytes = field(repr=False, compare=False)
 
     def __str__(self) -> str:
         """One line: the addresses, the innermost header, the length of the payload and what is wrong."""
-        return written(275, "lk_print_frame", self._struct).decode()
+        return written(275, "lk_print_frame", c.Frame.from_buffer_copy(self._struct)).decode()
 
     @property
     def payload(self) -> bytes:
@@ -108,65 +109,138 @@ class Frame:
         return Headers(from_c(Ethernet, frame.ethernet), *ends, from_c(Ip, frame.ip))
 
 
+# ---- how the values of a parsed frame are made
+
+
+def _member(name: str, enum: Type[IntEnum]) -> Callable[[Frame], Any]:
+    """The member of an enum. It is None for 0 if the enum has no such member."""
+    place = getattr(c.Frame, name).offset
+    members: Dict[int, Optional[IntEnum]] = {0: None}
+    members.update((int(member), member) for member in enum)
+    return lambda frame: members[frame._struct[place]]
+
+
+def _size(name: str) -> Callable[[Frame], Any]:
+    place, unpack = getattr(c.Frame, name).offset, Struct("N").unpack_from
+    return lambda frame: unpack(frame._struct, place)[0]
+
+
+def _object(cls: Callable[..., Any], name: str) -> Callable[[Frame], Any]:
+    place, read = getattr(c.Frame, name).offset, reader(cls, dict(c.Frame._fields_)[name])
+    return lambda frame: read(frame._struct, place)
+
+
+def _if(is_there: Callable[[Frame], Any], make: Callable[[Frame], Any]) -> Callable[[Frame], Any]:
+    """The value, or None."""
+    return lambda frame: make(frame) if is_there(frame) else None
+
+
+def _end(name: str) -> Callable[[Frame], Optional[Endpoint]]:
+    version = getattr(c.Frame, name).offset + c.Addr.version.offset
+    return _if(lambda frame: frame._struct[version], _object(Endpoint, name))
+
+
 def _arp_of(frame: Any) -> Arp:
-    hardware = bytes(frame.arp.src_hardware), bytes(frame.arp.dst_hardware)
-    return Arp(frame.arp.operation, *hardware, address_of(frame.src.addr), address_of(frame.dst.addr))
+    arp = c.Frame.from_buffer_copy(frame._struct).arp
+    return Arp(arp.operation, bytes(arp.src_hardware), bytes(arp.dst_hardware), frame.src.addr, frame.dst.addr)
 
 
-def _parse(name: str, data: bytes, *length: int) -> Frame:
-    frame = c.Frame()
-    call(name, data, *length, frame)
-    return _frame_of(frame, data, "packet" not in name)
-
-
-def _frame_of(frame: Any, data: bytes, is_ethernet: bool) -> Frame:
-    network = Network(frame.network) if frame.network else None
-    transport = Transport(frame.transport) if frame.transport else None
-    rejected = Transport(frame.rejected) if frame.rejected else None
-    has_ethernet = is_ethernet and frame.payload_offset >= 14
-    has_ends = frame.src.addr.version != 0
+def _tcp_header_of(frame: Frame) -> bytes:
     start = frame.transport_offset
-    return Frame(
-        data=data,
-        reason=Reason(frame.reason) if frame.reason else None,
-        ethernet=from_c(Ethernet, frame.ethernet) if has_ethernet else None,
-        network=network,
-        arp=_arp_of(frame) if network == Network.ARP else None,
-        ip=from_c(Ip, frame.ip) if network in (Network.IPV4, Network.IPV6) else None,
-        src=from_c(Endpoint, frame.src) if has_ends else None,
-        dst=from_c(Endpoint, frame.dst) if has_ends else None,
-        protocol=frame.protocol if network in (Network.IPV4, Network.IPV6) else None,
-        is_fragment=bool(frame.is_fragment),
-        transport=transport,
-        rejected=rejected,
-        tcp=from_c(Tcp, frame.tcp) if Transport.TCP in (transport, rejected) else None,
-        tcp_header=data[start : start + frame.tcp.header_len] if transport == Transport.TCP else b"",
-        icmp=from_c(Icmp, frame.icmp) if transport == Transport.ICMP else None,
-        ipv4_checksum=Verdict(frame.ipv4_checksum),
-        transport_checksum=Verdict(frame.transport_checksum),
-        network_offset=frame.network_offset if network else None,
-        transport_offset=start if transport or rejected else None,
-        payload_offset=frame.payload_offset,
-        payload_len=frame.payload_len,
-        _struct=frame,
-    )
+    length = frame._struct[c.Frame.tcp.offset + c.Tcp.header_len.offset]
+    return frame.data[start : start + length] if frame.transport == Transport.TCP and start is not None else b""
+
+
+def _is_ip(frame: Frame) -> bool:
+    return frame.network in (Network.IPV4, Network.IPV6)
+
+
+_MAKERS: Dict[str, Callable[[Frame], Any]] = {
+    "reason": _member("reason", Reason),
+    "ethernet": _if(lambda frame: frame.payload_offset >= 14, _object(Ethernet, "ethernet")),
+    "network": _member("network", Network),
+    "arp": _if(lambda frame: frame.network == Network.ARP, _arp_of),
+    "ip": _if(_is_ip, _object(Ip, "ip")),
+    "src": _end("src"),
+    "dst": _end("dst"),
+    "protocol": _if(_is_ip, lambda frame: frame._struct[c.Frame.protocol.offset]),
+    "is_fragment": lambda frame: frame._struct[c.Frame.is_fragment.offset] != 0,
+    "transport": _member("transport", Transport),
+    "rejected": _member("rejected", Transport),
+    "tcp": _if(lambda frame: Transport.TCP in (frame.transport, frame.rejected), _object(Tcp, "tcp")),
+    "tcp_header": _tcp_header_of,
+    "icmp": _if(lambda frame: frame.transport == Transport.ICMP, _object(Icmp, "icmp")),
+    "ipv4_checksum": _member("ipv4_checksum", Verdict),
+    "transport_checksum": _member("transport_checksum", Verdict),
+    "network_offset": _if(lambda frame: frame.network, _size("network_offset")),
+    "transport_offset": _if(lambda frame: frame.transport or frame.rejected, _size("transport_offset")),
+    "payload_offset": _size("payload_offset"),
+    "payload_len": _size("payload_len"),
+}
+
+
+class _Value:
+    """A value that is made when it is asked for, and kept. Where an object has it already, this is not used."""
+
+    def __init__(self, name: str, make: Callable[[Frame], Any]) -> None:
+        self.name, self.make = name, make
+
+    def __get__(self, frame: Optional[Frame], cls: Type[Frame]) -> Any:
+        if frame is None:
+            raise AttributeError(self.name)
+        value = frame.__dict__[self.name] = self.make(frame)
+        return value
+
+
+for _name_of_value, _make in _MAKERS.items():
+    setattr(Frame, _name_of_value, _Value(_name_of_value, _make))
+
+
+def _frame_of(struct: bytes, data: bytes, is_ethernet: bool = True) -> Frame:
+    frame = object.__new__(Frame)
+    values = frame.__dict__
+    values["data"], values["_struct"] = data, struct
+    if not is_ethernet:
+        values["ethernet"] = None
+    return frame
+
+
+# ---- parsing
+
+_read_frame = c.library.lk_read_frame
+
+
+def _parse(read: Callable[..., int], data: bytes, *length: int, is_ethernet: bool = True) -> Frame:
+    frame = c.Frame()
+    read(data, len(data), *length, frame)
+    return _frame_of(bytes(frame), data, is_ethernet)
 
 
 def parse_frame(data: Data) -> Frame:
     """Parses an Ethernet frame."""
-    return _parse("lk_read_frame", data_of(data))
+    return _parse(_read_frame, data_of(data))
+
+
+def parse_frames(frames: Iterable[Data]) -> Iterator[Frame]:
+    """Parses Ethernet frames, each one when the loop asks for it. This is faster than `parse_frame` for each."""
+    frame = c.Frame()
+    for data in frames:
+        octets = data_of(data)
+        _read_frame(octets, len(octets), frame)
+        yield _frame_of(bytes(frame), octets)
 
 
 def parse_frame_options(data: Data) -> Tuple[Frame, Optional[TcpOptions]]:
     """Parses an Ethernet frame and the options of its TCP header. None: no TCP header was read."""
-    frame, options, octets = c.Frame(), c.TcpOptions(), data_of(data)
-    call("lk_read_frame_options", octets, frame, options)
-    return _frame_of(frame, octets, True), options_from_c(options) if frame.transport == Transport.TCP else None
+    struct, options, octets = c.Frame(), c.TcpOptions(), data_of(data)
+    call("lk_read_frame_options", octets, struct, options)
+    frame = _frame_of(bytes(struct), octets)
+    return frame, options_from_c(options) if frame.transport == Transport.TCP else None
 
 
 def parse_packet(data: Data) -> Frame:
     """Parses a packet that begins with its IPv4 or IPv6 header."""
-    return _parse("lk_read_packet", data_of(data))
+    return _parse(c.library.lk_read_packet, data_of(data), is_ethernet=False)
 
 
 def _len_of(length: int) -> int:
@@ -179,7 +253,8 @@ def parse_captured(data: Data, length: int, *, is_packet: bool = False) -> Frame
     `sys.maxsize` serves: the lengths in the headers count."""
     length = _len_of(length)
     captured = data_of(data)[:length]
-    return _parse("lk_read_captured_packet" if is_packet else "lk_read_captured", captured, length)
+    read = c.library.lk_read_captured_packet if is_packet else c.library.lk_read_captured
+    return _parse(read, captured, length, is_ethernet=not is_packet)
 
 
 def parse_link(link_type: int, data: Data) -> Link:
@@ -201,7 +276,7 @@ def parse_linktype(link_type: int, data: Data, length: Optional[int] = None) -> 
     captured = captured[:length]
     frame = c.Frame()
     call("lk_read_linktype", link_type, captured, length, frame)
-    return _frame_of(frame, captured, link_type == 1)
+    return _frame_of(bytes(frame), captured, link_type == 1)
 
 
 def _name(name_of: Callable[[int], bytes], number: int, what: str) -> str:

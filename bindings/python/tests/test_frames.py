@@ -1,8 +1,10 @@
 """Tests frames and packets: parsing, writing, hosts."""
+import copy
+import pickle
 import random
 import sys
 import unittest
-from dataclasses import replace
+from dataclasses import FrozenInstanceError, asdict, fields, replace
 from ipaddress import IPv4Address, IPv6Address, ip_address
 
 import ip_wire
@@ -147,6 +149,76 @@ class Reading(unittest.TestCase):
             self.assertEqual(len(frame.payload), frame.payload_len)
             ip_wire.parse_tcp_options(frame.tcp_header)
             self.assertLessEqual(len(ip_wire.rebuild(changed)) if len(changed) >= 14 else 0, len(changed))
+
+
+class Values(unittest.TestCase):
+    """A frame is a frozen dataclass. The order in which its values are made changes nothing."""
+
+    FRAMES = [
+        ip_wire.emit_udp(IPV4, b"ping"),
+        ip_wire.emit_tcp(IPV6, Tcp(flags=TcpFlag.SYN), OPTIONS),
+        EXTENDED,
+        ip_wire.emit_icmp(IPV6, Icmp(128), b""),
+        ip_wire.emit_arp(IPV4.ethernet, Arp(1, CLIENT, SERVER, IPV4.src.addr, IPV4.dst.addr)),
+        b"short",
+    ]
+
+    def test_order(self):
+        names, rng = [field.name for field in fields(ip_wire.Frame)], random.Random(1)
+        for data in self.FRAMES:
+            first = ip_wire.parse_frame(data)
+            values = {name: getattr(first, name) for name in names}
+            for _ in range(9):
+                frame = ip_wire.parse_frame(data)
+                for name in rng.sample(names, len(names)):
+                    self.assertEqual(getattr(frame, name), values[name], name)
+                self.assertIs(frame.src, frame.src)
+            self.assertEqual(ip_wire.Frame(**values), first)
+            self.assertEqual(repr(ip_wire.Frame(**values)), repr(ip_wire.parse_frame(data)))
+
+    def test_repr(self):
+        text = repr(ip_wire.parse_frame(b"short"))
+        self.assertEqual(
+            text,
+            "Frame(reason=<Reason.TOO_SHORT: 1>, ethernet=None, network=None, arp=None, ip=None, src=None, dst=None, "
+            "protocol=None, is_fragment=False, transport=None, rejected=None, tcp=None, tcp_header=b'', icmp=None, "
+            "ipv4_checksum=<Verdict.NO_CHECKSUM: 0>, transport_checksum=<Verdict.NO_CHECKSUM: 0>, network_offset=None, "
+            "transport_offset=None, payload_offset=0, payload_len=5)",
+        )
+
+    def test_equality(self):
+        for data in self.FRAMES:
+            frame, same = ip_wire.parse_frame(data), ip_wire.parse_frame(bytearray(data))
+            self.assertEqual((frame, hash(frame)), (same, hash(same)))
+            self.assertNotEqual(frame, ip_wire.parse_frame(data + b"!"))
+            self.assertNotEqual(ip_wire.parse_frame(data), ip_wire.parse_packet(data))
+            self.assertNotEqual(replace(frame, payload_len=99), same)
+        self.assertNotEqual(frame, data)
+
+    def test_copies(self):
+        for data in self.FRAMES:
+            for made in ("", "src"):
+                frame = ip_wire.parse_frame(data)
+                getattr(frame, made, None)
+                for same in (copy.copy(frame), copy.deepcopy(frame), pickle.loads(pickle.dumps(frame))):
+                    self.assertEqual((same, str(same), same.payload), (ip_wire.parse_frame(data), str(frame), frame.payload))
+
+    def test_attributes(self):
+        frame = ip_wire.parse_frame(self.FRAMES[0])
+        self.assertRaises(FrozenInstanceError, setattr, frame, "src", None)
+        self.assertRaises(FrozenInstanceError, delattr, frame, "src")
+        self.assertRaises(AttributeError, getattr, frame, "source")
+        self.assertFalse(hasattr(ip_wire.Frame, "src"))
+        self.assertEqual(asdict(frame)["ip"], asdict(frame.ip))
+
+    def test_many(self):
+        found = ip_wire.parse_frames(iter([*map(bytearray, self.FRAMES), memoryview(b"more")]))
+        self.assertEqual([*found], [*map(ip_wire.parse_frame, [*self.FRAMES, b"more"])])
+        self.assertIsNone(next(found, None))
+        found = ip_wire.parse_frames([b"short", "text"])
+        self.assertEqual(next(found).payload, b"short")
+        self.assertRaises(TypeError, next, found)
+        self.assertRaises(TypeError, next, ip_wire.parse_frames(5))
 
 
 class Writing(unittest.TestCase):

@@ -52,6 +52,30 @@ impl<'a> Frame<'a> {
         Self::read(bytes, false, |c, fields| unsafe { c.lk_read_frame(bytes.as_ptr(), bytes.len(), fields) })
     }
 
+    /// Parses an Ethernet frame into a value that is there, and replaces it. In a loop over frames this copies less than
+    /// [`Frame::parse`].
+    ///
+    /// ```
+    /// # use ip_wire::Frame;
+    /// fn payload_len(frames: &[&[u8]]) -> usize {
+    ///     let mut frame = Frame::parse(&[]);
+    ///     let mut len = 0;
+    ///     for bytes in frames {
+    ///         Frame::parse_into(bytes, &mut frame);
+    ///         len += frame.payload_len();
+    ///     }
+    ///     len
+    /// }
+    /// # assert_eq!(payload_len(&[&[0; 20], &[0; 16]]), 6 + 2);
+    /// ```
+    #[inline]
+    pub fn parse_into(bytes: &'a [u8], frame: &mut Self) {
+        frame.bytes = bytes;
+        frame.is_packet = false;
+        // SAFETY: there are `len` bytes at `ptr`, and only `fields` is written.
+        unsafe { library().lk_read_frame(bytes.as_ptr(), bytes.len(), &mut frame.fields) };
+    }
+
     /// Parses an Ethernet frame and the options of its TCP header, in one call. The options are those of
     /// [`Frame::tcp_options`].
     #[must_use]

@@ -39,6 +39,20 @@ fn a_udp_frame_has_its_values() {
 }
 
 #[test]
+fn a_value_is_parsed_into_again() {
+    let (short, udp, syn) =
+        (vec![0; 13], udp(&ipv4(), b"ping"), tcp(&ipv6(), TcpFlags::SYN, &TcpOptions::default()));
+    for first in [&short, &udp, &syn] {
+        for bytes in [&udp, &syn, &short] {
+            for mut frame in [Frame::parse(first), Frame::parse_packet(first)] {
+                Frame::parse_into(bytes, &mut frame);
+                assert_eq!(frame, Frame::parse(bytes));
+            }
+        }
+    }
+}
+
+#[test]
 fn a_tcp_frame_has_its_values() {
     let options = TcpOptions { max_seg_size: Some(1460), window_scale: Some(7), ..TcpOptions::default() };
     let bytes = tcp(&ipv6(), TcpFlags::SYN, &options);
