@@ -8,6 +8,7 @@ import sys
 import time
 from collections import namedtuple
 from datetime import datetime, timedelta, timezone
+from functools import lru_cache
 
 import frame_lines
 import lines_of_capture
@@ -73,6 +74,8 @@ class Filter(namedtuple("Filter", "blocks ports protocols")):
                    {number for text in protocols for number in value_of("--proto", protocols_of, text)})
 
     def accepts(self, frame):
+        if not any(self):
+            return True
         ends = () if frame.src is None else (frame.src, frame.dst)
         return ((not self.protocols or frame.protocol in self.protocols)
                 and (not self.ports or any(end.port in self.ports for end in ends))
@@ -103,7 +106,7 @@ class Lines:
         self.reassembler = self.library.Reassembler() if "--whole" in options else None
         self.has_colors = os.isatty(1)
         self.is_followed = "--follow" in options
-        self.count, self.clock = 0, 0
+        self.count, self.clock, self.are_known = 0, 0, {}
 
     def print_file(self, source, prefix):
         """Returns after the last packet, or the last one that is wanted."""
@@ -128,7 +131,9 @@ class Lines:
             self.print_line(prefix, frame, self.tags(packet))
         if self.reassembler is not None and frame.is_fragment:
             self.print_whole(prefix, packet, frame)
-        return frame.reason is not self.library.Reason.UNKNOWN_LINK
+        if packet.link_type not in self.are_known:
+            self.are_known[packet.link_type] = frame.reason is not self.library.Reason.UNKNOWN_LINK
+        return self.are_known[packet.link_type]
 
     def print_whole(self, prefix, packet, fragment):
         """Prints the packet whose last missing fragment this is."""
@@ -152,7 +157,7 @@ class Lines:
 
     def print_line(self, prefix, frame, words):
         line = str(frame)
-        if frame.transport is self.library.Transport.ICMP:
+        if " ICMP type=" in line:
             line = with_name(line, frame)
         if self.has_colors and any(bad in line for bad in BAD):
             line = f"{RED}{line}{RESET}"
@@ -169,12 +174,18 @@ def with_name(line, frame):
     return line if name is None else line.replace(f"type={frame.icmp.type} ", f"{name} ", 1).replace(" code=0", "", 1)
 
 
+@lru_cache(maxsize=1)
+def second_of(seconds):
+    """The time in UTC. Packets that come together have the same."""
+    try:
+        return f"{EPOCH + timedelta(seconds=seconds):%Y-%m-%d %H:%M:%S}"
+    except OverflowError:
+        return str(seconds)
+
+
 def when(nanoseconds):
-    """The time of a packet, in UTC."""
+    """The time of a packet."""
     if nanoseconds is None:
         return ""
     seconds, rest = divmod(nanoseconds, 10**9)
-    try:
-        return f"{EPOCH + timedelta(seconds=seconds):%Y-%m-%d %H:%M:%S}.{rest // 1000:06} "
-    except OverflowError:
-        return f"{seconds}.{rest // 1000:06} "
+    return f"{second_of(seconds)}.{rest // 1000:06} "

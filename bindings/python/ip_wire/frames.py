@@ -1,14 +1,14 @@
 """Frames and packets that are parsed."""
 from __future__ import annotations
 
-from ctypes import c_int, c_size_t
+from ctypes import c_int, c_size_t, c_uint32, create_string_buffer
 from dataclasses import dataclass, field
 from enum import IntEnum
 from struct import Struct
 from typing import Any, Callable, Dict, Iterable, Iterator, Optional, Tuple, Type
 
 from . import _c as c
-from ._convert import Data, call, data_of, from_c, number_of, reader, to_c, written
+from ._convert import Data, call, data_of, from_c, number_of, reader, to_c
 from .addresses import Endpoint
 from .headers import Arp, Ethernet, Headers, Icmp, Ip, Reason, Rejected, Tcp, TcpOptions, options_from_c
 
@@ -49,6 +49,9 @@ class Link:
     tags: Tuple[int, ...]  # the control information of each VLAN tag, the outer one first; at most 2
 
 
+_LINE = 276  # LK_FRAME_TEXT
+
+
 @dataclass(frozen=True)
 class Frame:
     """A frame that was parsed. A header that is not there is None. A value is made when it is asked for first.
@@ -82,7 +85,9 @@ class Frame:
 
     def __str__(self) -> str:
         """One line: the addresses, the innermost header, the length of the payload and what is wrong."""
-        return written(275, "lk_print_frame", c.Frame.from_buffer_copy(self._struct)).decode()
+        out = create_string_buffer(_LINE)
+        c.library.lk_print_frame(c.Frame.from_buffer_copy(self._struct), out, _LINE)
+        return out.value.decode()
 
     @property
     def payload(self) -> bytes:
@@ -275,7 +280,7 @@ def parse_linktype(link_type: int, data: Data, length: Optional[int] = None) -> 
     length = len(captured) if length is None else _len_of(length)
     captured = captured[:length]
     frame = c.Frame()
-    call("lk_read_linktype", link_type, captured, length, frame)
+    c.library.lk_read_linktype(number_of(c_uint32, link_type, "link_type"), captured, len(captured), length, frame)
     return _frame_of(bytes(frame), captured, link_type == 1)
 
 
