@@ -12,13 +12,20 @@ if shutil.which("mandoc"):
     NAV["c/index.html"] = "C calls"
 
 
+# At the foot of each page: the signs of the contracts.
+LEGEND = "<footer>" + " &middot; ".join(f"<code>{sign}</code> {meaning}" for sign, meaning in {
+    "a ≡ b": "equal", "P × Q": "and", "P ⊎ Q": "or", "P → Q": "if P then Q", "P ↔ Q": "exactly if", "¬ P": "not",
+    "λ v. P": "P about v", "x.now": "what &amp;x refers to", "x.old, x.new": "what &amp;mut x refers to before and after the call",
+}.items()) + "</footer>"
+
+
 def page(title, body, depth=""):
     """A page with its head. `depth` leads to the folder of the reference."""
     links = "".join(f'<a href="{depth}{url}">{name}</a>' for url, name in NAV.items())
     return ('<!doctype html>\n<html lang="en"><head><meta charset="utf-8">'
             '<meta name="viewport" content="width=device-width, initial-scale=1">'
             f'<title>{html.escape(title)}</title><link rel="stylesheet" href="{depth}style.css"></head>\n'
-            f"<body><nav>{links}</nav>\n<main>\n<h1>{html.escape(title)}</h1>\n{body}</main></body></html>\n")
+            f"<body><nav>{links}</nav>\n<main>\n<h1>{html.escape(title)}</h1>\n{body}</main>\n{LEGEND}</body></html>\n")
 
 
 def doc(lines):
@@ -157,7 +164,9 @@ class Pages:
         out += [self.contents(calls), *(self.call(*one) for one in calls)]
         out += ['<h2 id="traits">Traits</h2>', *map(self.trait, traits)] if traits else []
         shown = {name for name in names if not name.endswith("View")}
-        laws = [self.law_row(law) for law in self.reference.laws if shown & set(re.findall(r"\w+", law.item.text))]
+        laws = [self.law_row(law) for law in self.reference.laws
+                if any(self.reference.sources.meaning(law.crate.name, law.module.path, name) in subject.paths
+                       for name in shown & set(re.findall(r"\w+", law.item.text)))]
         out += ["<h2>Laws</h2>", table(laws)] if laws else []
         title = f"{subject.title} and {subject.title}Mut" if subject.title + "Mut" in names else subject.title
         return page(title, "".join(out))

@@ -403,7 +403,11 @@ class Words:
             first = {"take": self.operand, "drop": self.operand, "is_some": self.subject, "is_none": self.subject}
             return VALUES[short].format(first.get(short, self.thing)(given[0]), *map(self.thing, given[1:]))
         if found and found.comment and (found.is_bool or not is_statement(found.comment)):
-            return self.linked(head, noun_of(self.about(found, given))) + self.which(head, given, True)
+            noun, which = noun_of(self.about(found, given)), self.which(head, given, True)
+            of = re.fullmatch(r"(.*\b(?:of|in) )(?:an?|the) [\w ]+", noun) if len(given) == 1 and which else None
+            if of and "," not in which:  # "the version of an address (src)" is the version of src
+                return self.linked(head, of[1] + re.sub(r"^<var>\w+</var> = ", "", which[2:-1]))
+            return self.linked(head, noun) + which
         return f"{self.linked(head, code(short))} of {in_a_row([self.thing(one) for one in given])}"
 
     def bytes_from(self, first, end):
