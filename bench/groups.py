@@ -2,6 +2,8 @@
 import re
 import statistics
 
+from chart import cells_of
+
 # A group: its name, the calls in it, and the goals for floor / ours: the median, and the least. A call is in
 # the first group that has it.
 GROUPS = [
@@ -22,10 +24,8 @@ GROUPS = [
 
 def rows(table):
     """(call, speed, floor / ours) of each line of a Markdown table; a ratio that it lacks is None."""
-    for line in table:
-        cells = [cell.strip() for cell in line.strip().strip("|").split("|")]
-        if len(cells) == 9 and cells[1].isdigit():
-            yield cells[0], *(float(cell) if cell else None for cell in cells[5:7])
+    for cells in cells_of(table):
+        yield cells[0], *(float(cell) if cell else None for cell in cells[5:7])
 
 
 def group_of(call):

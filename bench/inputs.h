@@ -4,7 +4,7 @@
 #include "../c/ip_wire.h"
 
 enum {
-    MOST_BYTES = 1 << 20,
+    MOST_BYTES = 1 << 16,
     MOST_PAYLOAD = 1460,
     ADDRESSES = 256,
     MOST_TEXT = 39, /* of an address */

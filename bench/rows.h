@@ -127,7 +127,7 @@ REPEAT(call_print_frame, print_frame, &out.frame, (char *)OUT)
 
 static const struct call checksum_rows[] = {{"checksum", prepare_bytes, call_checksum}};
 static const size_t checksum_sizes[] = {20, 28, 40, 60, 64, 100, 128, 256, 512, 1500, 4096, 9000};
-static const size_t long_sizes[] = {1 << 16, 1 << 20};
+static const size_t long_sizes[] = {1 << 16}; /* a longer sum wraps in the reference */
 
 static const struct call arp_rows[] = {
     {"read ARP", prepare_arp, call_read},
