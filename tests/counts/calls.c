@@ -6,7 +6,7 @@
 #include "../../bench/rows.h"
 
 #define OWN(name) .name = lk_##name,
-static const struct library ours = {PACKET_CALLS(OWN) ROUTER_CALLS(OWN) TEXT_CALLS(OWN) OWN_CALLS(OWN)};
+static const struct library ours = {PACKET_CALLS(OWN) FRAME_CALLS(OWN) TEXT_CALLS(OWN) OWN_CALLS(OWN)};
 
 static void count(const struct row *row)
 {
