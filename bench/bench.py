@@ -2,6 +2,7 @@
 """Times the library's calls and the program.
 
 bench/bench.py [--calls LIBRARY.so] [--program PROGRAM [WORD..]]
+bench/bench.py --equal [COUNT]      compares the floor with ours on so many damaged frames, 1000000
 
 LIBRARY.so has the calls of c/ip_wire.h (bench/reference.rs has them over smoltcp): they are
 timed in one process with ours, and with those of bench/floor.c. PROGRAM is timed on the same
@@ -117,14 +118,25 @@ def with_count(line, counts):
     return f"{line.rstrip()} {count:>12} |\n"
 
 
-def time_calls(room, reference):
+def compile_calls(room):
+    """The program that times calls, and the floor."""
     program, floor = f"{room}/calls", f"{room}/floor.so"
     jumps = FLOOR_JUMPS if "clang" in run_compiler("--version").stdout else f"-Wa,{FLOOR_JUMPS}"
     compile_c("-O3", "-falign-functions=64", jumps, "-shared", "-fPIC", "-o", floor, FLOOR)
     compile_c("-O2", "-o", program, CALLS, LIBRARY, "-ldl")
+    return [program, floor]
+
+
+def compare_calls(count):
+    with tempfile.TemporaryDirectory() as room:
+        return subprocess.run([*compile_calls(room), "--equal", count]).returncode
+
+
+def time_calls(room, reference):
+    calls = compile_calls(room)
     print(f"{commit()}; {machine()}\n")
     table, counts = [], record.read()
-    with subprocess.Popen([program, floor] + reference, stdout=subprocess.PIPE, text=True) as timing:
+    with subprocess.Popen(calls + reference, stdout=subprocess.PIPE, text=True) as timing:
         for line in timing.stdout:
             line = with_count(line, counts)
             print(line, end="", flush=True)
@@ -168,6 +180,8 @@ def options(words):
 
 
 def main():
+    if sys.argv[1:2] == ["--equal"]:
+        sys.exit(compare_calls(sys.argv[2] if len(sys.argv) > 2 else "1000000"))
     library, program = options(sys.argv[1:])
     with tempfile.TemporaryDirectory() as room:
         time_calls(room, library)

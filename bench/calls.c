@@ -91,15 +91,6 @@ static struct time time_of(double samples[ROUNDS])
     return (struct time){samples[ROUNDS / 2], samples[0]};
 }
 
-/* A library may write anything there. */
-static void clear_padding(struct lk_frame *frame)
-{
-    size_t tcp_end = offsetof(struct lk_frame, tcp) + offsetof(struct lk_tcp, header_len) + 1;
-    size_t icmp_end = offsetof(struct lk_frame, icmp) + offsetof(struct lk_icmp, code) + 1;
-    memset((char *)frame + tcp_end, 0, offsetof(struct lk_frame, ethernet) - tcp_end);
-    memset((char *)frame + icmp_end, 0, sizeof *frame - icmp_end);
-}
-
 /* Whether two libraries return and store the same. */
 static int agree(const struct row *row, const struct library *ours, const struct library *other)
 {

@@ -56,15 +56,15 @@ static void insert(size_t at, size_t count)
         subject.bytes[at + i] = (uint8_t)draw(256);
 }
 
-static void add_to_word(size_t at, size_t count)
+static size_t word_at(size_t at) { return (size_t)subject.bytes[at] << 8 | subject.bytes[at + 1]; }
+
+static void write_word(size_t at, size_t word)
 {
-    size_t word = (size_t)subject.bytes[at] << 8 | subject.bytes[at + 1];
-    word += count;
     subject.bytes[at] = (uint8_t)(word >> 8);
     subject.bytes[at + 1] = (uint8_t)word;
 }
 
-static int is_type(uint8_t high, uint8_t low) { return subject.bytes[12] == high && subject.bytes[13] == low; }
+static int is_of_type(size_t type) { return subject.len >= 14 && word_at(12) == type; }
 
 /* Inserts IPv4 options of no operation, an IPv6 extension header, or a VLAN tag. */
 static void lengthen(void)
@@ -72,12 +72,12 @@ static void lengthen(void)
     static const uint8_t extensions[] = {0, 43, 44, 51, 60, 135};
     if (subject.len < 54 || draw(8))
         return;
-    if (is_type(8, 0) && draw(2)) {
+    if (is_of_type(0x0800) && draw(2)) {
         insert(34, 4);
         memset(subject.bytes + 34, 1, 4);
         subject.bytes[14]++;
-        add_to_word(16, 4);
-    } else if (is_type(0x86, 0xdd) && draw(4)) {
+        write_word(16, word_at(16) + 4);
+    } else if (is_of_type(0x86dd) && draw(4)) {
         insert(54, 8);
         subject.bytes[54] = subject.bytes[20];
         subject.bytes[55] = 0;
@@ -85,17 +85,20 @@ static void lengthen(void)
         if (draw(2))
             memset(subject.bytes + 56, 0, 2);
         subject.bytes[20] = extensions[draw(sizeof extensions)];
-        add_to_word(18, 8);
+        write_word(18, word_at(18) + 8);
     } else {
         insert(12, 4);
-        subject.bytes[12] = 0x81;
-        subject.bytes[13] = 0;
+        write_word(12, 0x8100);
     }
 }
 
-/* Changes some bytes, most of them of headers. */
+/* Changes some bytes, most of them of headers, and some words to what calls look for. */
 static void damage(void)
 {
+    static const uint16_t words[] = {0, 0xffff, 2, 10, 24, 770, 803, 824, 22, 53, 54, 1024, 1500, 0x0800, 0x0806, 0x86dd,
+                                     0x8100, 0x88a8, 0x9100, 0x2000, 0x4000};
+    for (uint64_t count = draw(3); count && subject.len >= 64; count--)
+        write_word(2 * draw(30), words[draw(COUNT(words))]);
     for (uint64_t count = draw(4); count; count--) {
         size_t end = draw(3) && subject.len > 80 ? 80 : subject.len;
         if (end)
@@ -109,13 +112,28 @@ static void damage(void)
 static void repair(void)
 {
     size_t len = (size_t)subject.bytes[14] % 16 * 4;
-    if (is_type(8, 0) && len >= 20 && subject.len >= 14 + len) {
-        memset(subject.bytes + 24, 0, 2);
-        uint16_t sum = (uint16_t)~lk_checksum(subject.bytes + 14, len);
-        subject.bytes[24] = (uint8_t)(sum >> 8);
-        subject.bytes[25] = (uint8_t)sum;
+    if (is_of_type(0x0800) && len >= 20 && subject.len >= 14 + len) {
+        write_word(24, 0);
+        write_word(24, (uint16_t)~lk_checksum(subject.bytes + 14, len));
     }
     lk_fill_checksum(subject.bytes, subject.len);
+}
+
+/* Leaves the checksum of a UDP or TCP packet out, or to the device: its field is the sum of the pseudo-header. */
+static void leave_checksum(void)
+{
+    int is_ipv4 = is_of_type(0x0800);
+    size_t at = is_ipv4 ? 34 : 54, addr_len = is_ipv4 ? 8 : 32, protocol;
+    uint8_t pseudo[36] = {0};
+    if ((!is_ipv4 && !is_of_type(0x86dd)) || subject.len < at + 20)
+        return;
+    protocol = subject.bytes[is_ipv4 ? 23 : 20];
+    size_t len = protocol == UDP ? word_at(at + 4) : is_ipv4 ? word_at(16) - 20 : word_at(18);
+    memcpy(pseudo, subject.bytes + at - addr_len, addr_len);
+    pseudo[addr_len + 1] = (uint8_t)protocol;
+    pseudo[addr_len + 2] = (uint8_t)(len >> 8);
+    pseudo[addr_len + 3] = (uint8_t)len;
+    write_word(at + (protocol == UDP ? 6 : 16), draw(2) ? 0 : lk_checksum(pseudo, addr_len + 4));
 }
 
 static void draw_subject(void)
@@ -127,6 +145,8 @@ static void draw_subject(void)
     damage();
     if (draw(4))
         repair();
+    if (!draw(8))
+        leave_checksum();
     subject.number = drawn;
     subject.now += draw(8) ? draw(1000) : draw(400000);
 }
@@ -210,7 +230,14 @@ static const struct {
     RUN(set_bytes) RUN(fill_checksum) RUN(translate_out) RUN(translate_in) RUN(print_frame)
 };
 
-static void clear_padding(struct lk_frame *frame);
+/* A library may write anything there. */
+static void clear_padding(struct lk_frame *frame)
+{
+    size_t tcp_end = offsetof(struct lk_frame, tcp) + offsetof(struct lk_tcp, header_len) + 1;
+    size_t icmp_end = offsetof(struct lk_frame, icmp) + offsetof(struct lk_icmp, code) + 1;
+    memset((char *)frame + tcp_end, 0, offsetof(struct lk_frame, ethernet) - tcp_end);
+    memset((char *)frame + icmp_end, 0, sizeof *frame - icmp_end);
+}
 
 /* What a call leaves, in a result that is zeros but for its mappings. */
 static void leave(runner *run, const struct library *library, struct result *result)
@@ -219,6 +246,11 @@ static void leave(runner *run, const struct library *library, struct result *res
     run(library, result);
     if (run == run_read_frame || run == run_read_frame_options || run == run_read_linktype)
         clear_padding(&result->frame);
+}
+
+static size_t compared_size(runner *run)
+{
+    return run == run_translate_out || run == run_translate_in ? sizeof(struct result) : offsetof(struct result, mappings);
 }
 
 static void print_difference(const char *name, const struct result *ours, const struct result *other)
@@ -245,7 +277,7 @@ static int compare_on_damaged(const struct library *ours, const struct library *
             leave(compared[j].run, ours, &left[0]);
             leave(compared[j].run, floor, &left[1]);
             answered[j] += left[0].answer != 0;
-            if (memcmp(&left[0], &left[1], i % 64 ? offsetof(struct result, mappings) : sizeof left[0])) {
+            if (memcmp(&left[0], &left[1], compared_size(compared[j].run))) {
                 if (differ[j]++ == 0)
                     print_difference(compared[j].name, &left[0], &left[1]);
                 left[1] = left[0];
