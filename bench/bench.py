@@ -2,7 +2,8 @@
 """Times the library's calls and the program.
 
 bench/bench.py [--calls LIBRARY.so] [--program PROGRAM [WORD..]]
-bench/bench.py --equal [COUNT]      compares the floor with ours on so many damaged frames, 1000000
+bench/bench.py --equal [COUNT [LIBRARY.so]]
+                        compares the floor, or a library of another commit, with ours on so many damaged frames, 1000000
 
 LIBRARY.so has the calls of c/ip_wire.h (bench/reference.rs has them over smoltcp): they are
 timed in one process with ours, and with those of bench/floor.c. PROGRAM is timed on the same
@@ -127,9 +128,10 @@ def compile_calls(room):
     return [program, floor]
 
 
-def compare_calls(count):
+def compare_calls(count="1000000", library=None):
     with tempfile.TemporaryDirectory() as room:
-        return subprocess.run([*compile_calls(room), "--equal", count]).returncode
+        program, floor = compile_calls(room)
+        return subprocess.run([program, library or floor, "--equal", count]).returncode
 
 
 def time_calls(room, reference):
@@ -181,7 +183,7 @@ def options(words):
 
 def main():
     if sys.argv[1:2] == ["--equal"]:
-        sys.exit(compare_calls(sys.argv[2] if len(sys.argv) > 2 else "1000000"))
+        sys.exit(compare_calls(*sys.argv[2:4]))
     library, program = options(sys.argv[1:])
     with tempfile.TemporaryDirectory() as room:
         time_calls(room, library)
