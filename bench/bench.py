@@ -119,11 +119,10 @@ def with_count(line, counts):
     return f"{line.rstrip()} {count:>12} |\n"
 
 
-def compile_calls(room):
-    """The program that times calls, and the floor."""
+def compile_calls(room, *words):
+    """The program that times calls, and the floor, with these options."""
     program, floor = f"{room}/calls", f"{room}/floor.so"
-    jumps = FLOOR_JUMPS if "clang" in run_compiler("--version").stdout else f"-Wa,{FLOOR_JUMPS}"
-    compile_c("-O3", "-falign-functions=64", jumps, "-shared", "-fPIC", "-o", floor, FLOOR)
+    compile_c("-O3", *words, "-shared", "-fPIC", "-o", floor, FLOOR)
     compile_c("-O2", "-o", program, CALLS, LIBRARY, "-ldl")
     return [program, floor]
 
@@ -135,7 +134,8 @@ def compare_calls(count="1000000", library=None):
 
 
 def time_calls(room, reference):
-    calls = compile_calls(room)
+    jumps = FLOOR_JUMPS if "clang" in run_compiler("--version").stdout else f"-Wa,{FLOOR_JUMPS}"
+    calls = compile_calls(room, "-falign-functions=64", jumps)
     print(f"{commit()}; {machine()}\n")
     table, counts = [], record.read()
     with subprocess.Popen(calls + reference, stdout=subprocess.PIPE, text=True) as timing:
