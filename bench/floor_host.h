@@ -149,13 +149,10 @@ static OUTLINE ptrdiff_t answer_solicitation(const struct lk_host *host, const u
     return lk_emit_ndisc_frame(frame, &advert, out, cap);
 }
 
+/* Mobility, HIP and Shim6 headers are stepped through too. */
 INLINE int is_error_extension(uint8_t protocol)
 {
-    switch (protocol) {
-    case 0: case 43: case 44: case 51: case 60: case 135: case 139: case 140:
-        return 1;
-    }
-    return 0;
+    return is_extension(protocol) || protocol == 135 || protocol == 139 || protocol == 140;
 }
 
 /* Steps to the header after the IPv6 extension headers. Returns 0 if one does not end within the packet. */
@@ -165,10 +162,10 @@ INLINE int step_to_upper(struct packet *packet)
         const uint8_t *ptr = packet->payload;
         if (packet->len < 8)
             return 0;
-        size_t len = packet->protocol == 44 ? 8 : packet->protocol == 51 ? 4 * ((size_t)ptr[1] + 2) : 8 * ((size_t)ptr[1] + 1);
+        size_t len = extension_len(packet);
         if (packet->len < len)
             return 0;
-        if (packet->protocol == 44 && load_16(ptr + 2) & swap_16(0xfff8))
+        if (packet->protocol == PROTOCOL_IPV6_FRAGMENT && load_16(ptr + 2) & swap_16(0xfff8))
             packet->len = len;
         packet->protocol = ptr[0];
         packet->payload += len;

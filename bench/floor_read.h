@@ -244,6 +244,19 @@ INLINE int is_extension(uint8_t protocol)
     return protocol <= 60 && 0x1008180000000001 >> protocol & 1;
 }
 
+/* The length of the extension header that begins a payload of at least 8 bytes. */
+INLINE size_t extension_len(const struct packet *packet)
+{
+    size_t units = packet->payload[1];
+    switch (packet->protocol) {
+    case PROTOCOL_IPV6_FRAGMENT:
+        return 8;
+    case PROTOCOL_AUTHENTICATION:
+        return 8 + 4 * units;
+    }
+    return 8 + 8 * units;
+}
+
 /* Returns an `lk_reason`. */
 INLINE int extension_reason(const struct packet *packet, size_t len, int is_first)
 {
@@ -261,9 +274,7 @@ static OUTLINE int step_through(struct packet *packet, struct lk_frame *frame)
         const uint8_t *ptr = packet->payload;
         if (packet->len < 8)
             return LK_TOO_SHORT;
-        size_t len = packet->protocol == PROTOCOL_IPV6_FRAGMENT    ? 8
-                     : packet->protocol == PROTOCOL_AUTHENTICATION ? 8 + 4 * (size_t)ptr[1]
-                                                                   : 8 + 8 * (size_t)ptr[1];
+        size_t len = extension_len(packet);
         int reason = extension_reason(packet, len, is_first);
         if (reason != LK_READ)
             return reason;
