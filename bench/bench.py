@@ -2,12 +2,15 @@
 """Times the library's calls and the program.
 
 bench/bench.py [--calls LIBRARY.so] [--program PROGRAM [WORD..]]
+bench/bench.py --equal [COUNT [LIBRARY.so]]
+                        compares the floor, or a library of another commit, with ours on so many damaged frames, 1000000
 
 LIBRARY.so has the calls of c/ip_wire.h (bench/reference.rs has them over smoltcp): they are
 timed in one process with ours, and with those of bench/floor.c. PROGRAM is timed on the same
 lines as ours. Where there is one, "speed" is its time divided by ours, so that 1.00 is as fast
-and 2.00 twice as fast. Times are medians; the last two cells of a call are ratios of the least
-times. The tables are in Markdown; some rows are drawn in out/speed.svg.
+and 2.00 twice as fast. Times are medians. The last three cells of a call are ratios of the least
+times, and our recorded instructions (tests/counts). The tables are in Markdown; some rows are
+drawn in out/speed.svg.
 """
 import os
 import random
@@ -20,6 +23,9 @@ import time
 
 import chart
 import groups
+
+sys.path.append("tests/counts")
+import record  # noqa: E402
 
 CALLS = "bench/calls.c"
 FLOOR = "bench/floor.c"
@@ -88,21 +94,59 @@ def machine():
     return f"{processor}; {run_compiler('--version').stdout.splitlines()[0]}"
 
 
-def time_calls(room, reference):
+def git(*words):
+    """What git prints. Nothing in a copy without history."""
+    try:
+        return subprocess.run(["git", *words], stdout=subprocess.PIPE, stderr=subprocess.DEVNULL, text=True).stdout.strip()
+    except OSError:
+        return ""
+
+
+def commit():
+    """The commit of the sources."""
+    name = git("rev-parse", "--short=8", "HEAD") or "no commit"
+    return f"{name} with changes" if git("status", "--porcelain", "--untracked-files=no") else name
+
+
+def with_count(line, counts):
+    """A line of the table, with the recorded instructions of the call."""
+    cells = [cell.strip() for cell in line.split("|")]
+    if line.startswith("|--"):
+        return f"{line.rstrip()}---|\n"
+    if len(cells) < 3 or not cells[2].isdigit():
+        return f"{line.rstrip()} instructions |\n"
+    count = counts.get((cells[1], int(cells[2])), [""])[0]
+    return f"{line.rstrip()} {count:>12} |\n"
+
+
+def compile_calls(room, *words):
+    """The program that times calls, and the floor, with these options."""
     program, floor = f"{room}/calls", f"{room}/floor.so"
-    jumps = FLOOR_JUMPS if "clang" in run_compiler("--version").stdout else f"-Wa,{FLOOR_JUMPS}"
-    compile_c("-O3", "-falign-functions=64", jumps, "-shared", "-fPIC", "-o", floor, FLOOR)
+    compile_c("-O3", *words, "-shared", "-fPIC", "-o", floor, FLOOR)
     compile_c("-O2", "-o", program, CALLS, LIBRARY, "-ldl")
-    print(f"{machine()}\n")
-    table = []
-    with subprocess.Popen([program, floor] + reference, stdout=subprocess.PIPE, text=True) as timing:
+    return [program, floor]
+
+
+def compare_calls(count="1000000", library=None):
+    with tempfile.TemporaryDirectory() as room:
+        program, floor = compile_calls(room)
+        return subprocess.run([program, library or floor, "--equal", count]).returncode
+
+
+def time_calls(room, reference):
+    jumps = FLOOR_JUMPS if "clang" in run_compiler("--version").stdout else f"-Wa,{FLOOR_JUMPS}"
+    calls = compile_calls(room, "-falign-functions=64", jumps)
+    print(f"{commit()}; {machine()}\n")
+    table, counts = [], record.read()
+    with subprocess.Popen(calls + reference, stdout=subprocess.PIPE, text=True) as timing:
         for line in timing.stdout:
+            line = with_count(line, counts)
             print(line, end="", flush=True)
             table.append(line)
     if timing.returncode:
         sys.exit(1)  # it said why
     with open(CHART, "w", encoding="utf-8") as file:
-        file.write(chart.draw(table))
+        file.write(chart.draw(table, commit()))
     print(f"\n{groups.summary(table)}")
 
 
@@ -138,6 +182,8 @@ def options(words):
 
 
 def main():
+    if sys.argv[1:2] == ["--equal"]:
+        sys.exit(compare_calls(*sys.argv[2:4]))
     library, program = options(sys.argv[1:])
     with tempfile.TemporaryDirectory() as room:
         time_calls(room, library)

@@ -2,6 +2,7 @@
  * are libraries with the same calls. Each is called as a C program calls it: in a loop, with nothing between two calls.
  *
  * usage: calls FLOOR.so [REFERENCE.so]
+ *        calls FLOOR.so --equal COUNT      compares the floor with ours on so many damaged frames
  *
  * Each row has the medians of many rounds; its last two cells are ratios of the least times. A round times the libraries
  * in turn, so that what else the machine does meets all of them. Before each block of rows the time of a call that does
@@ -13,6 +14,7 @@
 #include <stdlib.h>
 #include <time.h>
 #include "rows.h"
+#include "equal.h"
 
 enum { ROUNDS = 201 };
 enum { OURS, REFERENCE, FLOOR, LIBRARIES };
@@ -45,7 +47,7 @@ static struct library load(const char *path, int is_floor)
         give_up("cannot load a library", dlerror());
     PACKET_CALLS(LOAD)
     if (is_floor) {
-        ROUTER_CALLS(LOAD)
+        FRAME_CALLS(LOAD)
     } else {
         TEXT_CALLS(LOAD)
         *(void **)&library.ipv4_parsed_by_core = symbol(handle, path, "core_parse_ipv4");
@@ -89,15 +91,6 @@ static struct time time_of(double samples[ROUNDS])
     return (struct time){samples[ROUNDS / 2], samples[0]};
 }
 
-/* Compares what is no padding. */
-static int is_same_frame(const struct lk_frame *a, const struct lk_frame *b)
-{
-    size_t tcp_end = offsetof(struct lk_frame, tcp) + offsetof(struct lk_tcp, header_len) + 1;
-    size_t begin = offsetof(struct lk_frame, ethernet), end = offsetof(struct lk_frame, transport_checksum) + 1;
-    return memcmp(a, b, tcp_end) == 0 && memcmp((const char *)a + begin, (const char *)b + begin, end - begin) == 0
-           && a->icmp.word == b->icmp.word && a->icmp.type == b->icmp.type && a->icmp.code == b->icmp.code;
-}
-
 /* Whether two libraries return and store the same. */
 static int agree(const struct row *row, const struct library *ours, const struct library *other)
 {
@@ -105,13 +98,14 @@ static int agree(const struct row *row, const struct library *ours, const struct
     memset(&out, 0, sizeof out);
     next_frame = 0;
     uint64_t answer = row->repeat(ours, row, 1);
+    clear_padding(&out.frame);
     stored = out;
     memset(&out, 0, sizeof out);
     next_frame = 0;
-    return row->repeat(other, row, 1) == answer && is_same_frame(&out.frame, &stored.frame)
-           && memcmp(&out.options, &stored.options, sizeof out.options) == 0
-           && memcmp(&out.ndisc, &stored.ndisc, sizeof out.ndisc) == 0
-           && memcmp(out.bytes, stored.bytes, sizeof out.bytes) == 0;
+    if (row->repeat(other, row, 1) != answer)
+        return 0;
+    clear_padding(&out.frame);
+    return memcmp(&out, &stored, sizeof out) == 0;
 }
 
 static void print_cell(int digits, double value)
@@ -193,16 +187,18 @@ int main(int argc, char **argv)
 #define OWN(name) .name = lk_##name,
     static const struct library ours = {
         PACKET_CALLS(OWN)
-        ROUTER_CALLS(OWN)
+        FRAME_CALLS(OWN)
         TEXT_CALLS(OWN)
         OWN_CALLS(OWN)
         .ipv4_parsed_by_core = lk_parse_addr,
         .ipv6_parsed_by_core = lk_parse_addr,
     };
     static struct library floor, reference;
-    if (argc != 2 && argc != 3)
-        give_up("usage", "calls FLOOR.so [REFERENCE.so]");
+    if (argc < 2 || argc > 4)
+        give_up("usage", "calls FLOOR.so [REFERENCE.so | --equal COUNT]");
     floor = load(argv[1], 1);
+    if (argc == 4)
+        return compare_on_damaged(&ours, &floor, strtoull(argv[3], NULL, 10));
     libraries[OURS] = &ours;
     libraries[FLOOR] = &floor;
     if (argc == 3) {

@@ -17,17 +17,24 @@ ROWS = [
 ]
 SERIES = [("ours", "ip_wire", "#0b6e99"), ("reference", "smoltcp", "#b8bec4"), ("floor", "C by hand", "#e0a030")]
 LEFT, BARS, RIGHT, TOP = 230, 380, 90, 40
+GREY = 'font-size="10" fill="#666"'
 BAR, GAP = 11, 12  # height of a bar, and space between rows
 
 
-def times(table):
-    """{(call, bytes): {series: nanoseconds}} of the lines of a Markdown table."""
-    rows = {}
+def cells_of(table):
+    """The cells of each line of a Markdown table that has a number of bytes."""
     for line in table:
         cells = [cell.strip() for cell in line.strip().strip("|").split("|")]
-        if len(cells) == 9 and cells[1].isdigit():
-            named = zip(("ours", "reference", "floor"), cells[2:5])
-            rows[cells[0], int(cells[1])] = {name: float(cell) for name, cell in named if cell}
+        if len(cells) == 10 and cells[1].isdigit():
+            yield cells
+
+
+def times(table):
+    """{(call, bytes): ({series: nanoseconds}, instructions)} of the lines of a Markdown table."""
+    rows = {}
+    for call, size, *cells in cells_of(table):
+        named = zip(("ours", "reference", "floor"), cells)
+        rows[call, int(size)] = {name: float(cell) for name, cell in named if cell}, cells[-1]
     return rows
 
 
@@ -46,23 +53,24 @@ def bars(row, y):
             y += BAR
 
 
-def draw(table):
-    """The chart of those ROWS that the table has."""
+def draw(table, commit):
+    """The chart of those ROWS that the table has. tests/docs/speed.py finds the instructions in it."""
     rows = times(table)
     shown = [key for key in ROWS if key in rows]
     parts, y = [], TOP
     for call, size in shown:
-        row = rows[call, size]
-        middle = y + BAR * len(row) / 2 + 4
-        label = f"{call}, {size} bytes"
-        parts += [text(LEFT - 10, middle, label, 'text-anchor="end"'), *bars(row, y)]
+        row, count = rows[call, size]
+        middle = y + BAR * len(row) / 2
+        parts += [text(LEFT - 10, middle, f"{call}, {size} bytes", 'text-anchor="end"'),
+                  text(LEFT - 10, middle + 12, f"{count} instructions", f'text-anchor="end" {GREY}'), *bars(row, y)]
         y += BAR * len(row) + GAP
     x = LEFT
     for name, title, colour in SERIES:
-        if any(name in rows[key] for key in shown):
+        if any(name in rows[key][0] for key in shown):
             parts += [f'<rect x="{x}" y="14" width="12" height="12" fill="{colour}"/>', text(x + 17, 24, title)]
             x += 110
     width = LEFT + BARS + RIGHT
+    parts.append(text(width - 10, 24, commit, f'text-anchor="end" {GREY}'))
     head = (f'<svg xmlns="http://www.w3.org/2000/svg" width="{width}" height="{y}" viewBox="0 0 {width} {y}" '
             'font-family="sans-serif" font-size="12" fill="#222">')
     return "\n".join([head, f'<rect width="{width}" height="{y}" fill="#fff"/>', *parts, "</svg>", ""])

@@ -458,3 +458,8 @@ ptrdiff_t lk_rebuild(const uint8_t *ptr, size_t len, uint8_t *out, size_t cap)
 }
 
 #include "floor_icmp.h"
+#include "floor_edit.h"
+#include "floor_host.h"
+#include "floor_link.h"
+#include "floor_nat.h"
+#include "floor_print.h"

@@ -6,13 +6,16 @@
 enum { ETHERNET_LEN = 14, ARP_LEN = 28, IPV4_LEN = 20, IPV6_LEN = 40 };
 enum { UDP_LEN = 8, ICMP_LEN = 8, TCP_LEN = 20, MOST_TCP_LEN = 60 };
 enum { TYPE_IPV4 = 0x0800, TYPE_ARP = 0x0806, TYPE_IPV6 = 0x86dd };
-enum { PROTOCOL_ICMP = 1, PROTOCOL_TCP = 6, PROTOCOL_UDP = 17, PROTOCOL_IPV6_FRAGMENT = 44, PROTOCOL_ICMPV6 = 58 };
+enum { PROTOCOL_ICMP = 1, PROTOCOL_TCP = 6, PROTOCOL_UDP = 17, PROTOCOL_ICMPV6 = 58 };
+enum { PROTOCOL_HOP_BY_HOP, PROTOCOL_ROUTING = 43, PROTOCOL_IPV6_FRAGMENT, PROTOCOL_AUTHENTICATION = 51, PROTOCOL_OPTIONS = 60 };
 enum { OPTION_END, OPTION_NONE, OPTION_SIZE, OPTION_SCALE, OPTION_PERMITTED, OPTION_RANGES, OPTION_TIMESTAMP = 8 };
 
 static const uint8_t ethernet_ipv4[8] = {0, 1, 8, 0, 6, 4};
 
 /* Whether a length is at least that many bytes; one above LK_MAX_LEN is none. */
 INLINE int reaches(size_t len, size_t least) { return len - least <= LK_MAX_LEN - least; }
+
+#include "floor_options.h"
 
 /* An IP packet that was parsed. Its payload is what the headers after it are parsed from. */
 struct packet {
@@ -105,117 +108,6 @@ INLINE int read_udp(const struct packet *packet, size_t *len)
     return load_16(packet->payload + 2) ? LK_READ : LK_PORT_ZERO;
 }
 
-/* The length of an option that is right, from its kind on, or 0. */
-INLINE size_t option_len(const uint8_t *ptr, const uint8_t *end)
-{
-    if (end - ptr < 2 || ptr[1] < 2 || end - ptr < ptr[1])
-        return 0;
-    size_t len = ptr[1];
-    switch (ptr[0]) {
-    case OPTION_SIZE:
-        return len == 4 ? len : 0;
-    case OPTION_SCALE:
-        return len == 3 ? len : 0;
-    case OPTION_PERMITTED:
-        return len == 2 ? len : 0;
-    case OPTION_RANGES:
-        return len >= 10 && len <= 34 && len % 8 == 2 ? len : 0;
-    }
-    return len;
-}
-
-/* The usual options of data: two of no operation and a timestamp. */
-INLINE int is_stamp_alone(const uint8_t *ptr, const uint8_t *end)
-{
-    return end - ptr == 12 && load_32(ptr) == 0x0a080101;
-}
-
-INLINE int has_options(const uint8_t *ptr, const uint8_t *end)
-{
-    if (is_stamp_alone(ptr, end))
-        return 1;
-    while (ptr != end && *ptr != OPTION_END) {
-        size_t len = *ptr == OPTION_NONE ? 1 : option_len(ptr, end);
-        if (!len)
-            return 0;
-        ptr += len;
-    }
-    return 1;
-}
-
-/* More than one of SYN, FIN and RST. */
-INLINE int has_two_controls(uint8_t flags)
-{
-    return 0xe8 >> (flags & (LK_SYN | LK_FIN | LK_RST)) & 1;
-}
-
-INLINE void store_option(const uint8_t *ptr, size_t len, struct lk_tcp_options *options)
-{
-    switch (ptr[0]) {
-    case OPTION_SIZE:
-        options->has_max_seg_size = 1;
-        options->max_seg_size = swap_16(load_16(ptr + 2));
-        break;
-    case OPTION_SCALE:
-        options->has_window_scale = 1;
-        options->window_scale = ptr[2] < 14 ? ptr[2] : 14;
-        break;
-    case OPTION_PERMITTED:
-        options->sack_permitted = 1;
-        break;
-    case OPTION_RANGES:
-        options->sack_range_count = (uint8_t)(len / 8);
-        for (size_t i = 0; i < 4; i++)
-            options->sack_ranges[i] = i < len / 8 ? (struct lk_sack_range){swap_32(load_32(ptr + 8 * i + 2)),
-                                                                          swap_32(load_32(ptr + 8 * i + 6))}
-                                                  : (struct lk_sack_range){0, 0};
-        break;
-    case OPTION_TIMESTAMP:
-        if (len == 10) {
-            options->has_timestamp = 1;
-            options->tsval = swap_32(load_32(ptr + 2));
-            options->tsecr = swap_32(load_32(ptr + 6));
-        }
-    }
-}
-
-/* With three vectors: for so few bytes compilers use an instruction that starts slowly. */
-INLINE void clear_options(struct lk_tcp_options *options)
-{
-    typedef uint64_t pair __attribute__((vector_size(16), may_alias, aligned(4)));
-    _Static_assert(sizeof *options == 48, "three vectors");
-    pair *to = (pair *)options;
-    to[0] = to[1] = to[2] = (pair){0};
-}
-
-/* Stores both numbers of a timestamp by one swap. */
-INLINE void store_stamp(const uint8_t *ptr, struct lk_tcp_options *options)
-{
-    uint64_t both = __builtin_bswap64(load_64(ptr));
-    both = both << 32 | both >> 32;
-    memcpy(&options->tsval, &both, 8);
-    options->has_timestamp = 1;
-}
-
-INLINE int read_options(const uint8_t *ptr, const uint8_t *end, struct lk_tcp_options *options)
-{
-    *options = (struct lk_tcp_options){.tsval = 0};
-    if (is_stamp_alone(ptr, end)) {
-        options->has_timestamp = 1;
-        options->tsval = swap_32(load_32(ptr + 4));
-        options->tsecr = swap_32(load_32(ptr + 8));
-        return 1;
-    }
-    for (size_t len; ptr != end && *ptr != OPTION_END; ptr += len) {
-        len = *ptr == OPTION_NONE ? 1 : option_len(ptr, end);
-        if (!len)
-            return 0;
-        if (*ptr != OPTION_NONE)
-            store_option(ptr, len, options);
-    }
-    return 1;
-}
-
 /* Returns an `lk_reason`, and stores the length of a TCP header, and its options unless `options` is null. */
 INLINE int read_tcp(const struct packet *packet, size_t *len, struct lk_tcp_options *options)
 {
@@ -231,36 +123,6 @@ INLINE int read_tcp(const struct packet *packet, size_t *len, struct lk_tcp_opti
         return LK_BAD_FLAGS;
     const uint8_t *at = ptr + TCP_LEN, *end = ptr + *len;
     return (options ? read_options(at, end, options) : has_options(at, end)) ? LK_READ : LK_BAD_OPTIONS;
-}
-
-int lk_read_tcp_options(const uint8_t *ptr, size_t len, struct lk_tcp_options *options)
-{
-    if (!reaches(len, TCP_LEN))
-        return 0;
-    size_t header_len = ptr[12] / 16 * 4;
-    if (header_len == TCP_LEN) {
-        clear_options(options);
-        return 1;
-    }
-    if (header_len < TCP_LEN || len < header_len)
-        return 0;
-    ptr += TCP_LEN;
-    const uint8_t *end = ptr + header_len - TCP_LEN;
-    if (is_stamp_alone(ptr, end)) {
-        clear_options(options);
-        store_stamp(ptr + 4, options);
-        return 1;
-    }
-    if (!has_options(ptr, end))
-        return 0;
-    clear_options(options);
-    /* The lengths of the options were tested. */
-    for (size_t n; ptr != end && *ptr != OPTION_END; ptr += n) {
-        n = *ptr == OPTION_NONE ? 1 : ptr[1];
-        if (*ptr != OPTION_NONE)
-            store_option(ptr, n, options);
-    }
-    return 1;
 }
 
 /* The next header is at `payload_offset`, and a payload of so many bytes follows it. */
@@ -355,7 +217,7 @@ INLINE int store_ipv4(const uint8_t *ptr, size_t len, struct lk_frame *frame, st
         return reason;
     uint16_t fragment = swap_16(load_16(ptr + 6));
     frame->network = LK_IPV4;
-    frame->network_offset = ETHERNET_LEN;
+    frame->network_offset = frame->payload_offset;
     memcpy(frame->src.addr.octets, ptr + 12, 4);
     memcpy(frame->dst.addr.octets, ptr + 16, 4);
     frame->src.addr.version = frame->dst.addr.version = 4;
@@ -369,23 +231,67 @@ INLINE int store_ipv4(const uint8_t *ptr, size_t len, struct lk_frame *frame, st
         .more_fragments = fragment >> 13 & 1,
         .dont_fragment = fragment >> 14 & 1,
     };
+    frame->protocol = ptr[9];
     frame->is_fragment = (uint8_t)packet.is_fragment;
     frame->ipv4_checksum = ipv4_holds(&packet) ? LK_RIGHT : LK_WRONG;
     follow(frame, (size_t)(packet.payload - ptr), packet.len);
     return packet.is_fragment ? LK_READ : store_transport(&packet, frame, options);
 }
 
-/* The payload begins at a fragment header. One that is cut off has no values. */
-INLINE int store_ipv6_fragment(const struct packet *packet, struct lk_frame *frame)
+/* Whether it is the protocol of an extension header. The usual protocols are none. */
+INLINE int is_extension(uint8_t protocol)
 {
-    const uint8_t *ptr = packet->payload;
-    if (packet->len < 8)
-        return LK_READ;
-    uint16_t fragment = swap_16(load_16(ptr + 2));
-    frame->is_fragment = (fragment & 0xfff9) != 0;
-    frame->ip.fragment_offset = fragment & 0xfff8;
-    frame->ip.more_fragments = fragment & 1;
-    frame->ip.ident = swap_32(load_32(ptr + 4));
+    return protocol <= 60 && 0x1008180000000001 >> protocol & 1;
+}
+
+/* The length of the extension header that begins a payload of at least 8 bytes. */
+INLINE size_t extension_len(const struct packet *packet)
+{
+    size_t units = packet->payload[1];
+    switch (packet->protocol) {
+    case PROTOCOL_IPV6_FRAGMENT:
+        return 8;
+    case PROTOCOL_AUTHENTICATION:
+        return 8 + 4 * units;
+    }
+    return 8 + 8 * units;
+}
+
+/* Returns an `lk_reason`. */
+INLINE int extension_reason(const struct packet *packet, size_t len, int is_first)
+{
+    if (packet->len < len)
+        return LK_TOO_SHORT;
+    if (packet->protocol == PROTOCOL_ROUTING && packet->payload[3])
+        return LK_HOPS_LEFT;
+    return packet->protocol == PROTOCOL_HOP_BY_HOP && !is_first ? LK_BAD_ORDER : LK_READ;
+}
+
+/* Steps through extension headers, up to one of a fragment. Returns an `lk_reason`. */
+static OUTLINE int step_through(struct packet *packet, struct lk_frame *frame)
+{
+    for (int is_first = 1; is_extension(packet->protocol); is_first = 0) {
+        const uint8_t *ptr = packet->payload;
+        if (packet->len < 8)
+            return LK_TOO_SHORT;
+        size_t len = extension_len(packet);
+        int reason = extension_reason(packet, len, is_first);
+        if (reason != LK_READ)
+            return reason;
+        if (packet->protocol == PROTOCOL_IPV6_FRAGMENT) {
+            uint16_t fragment = swap_16(load_16(ptr + 2));
+            frame->is_fragment = (fragment & 0xfff9) != 0;
+            frame->ip.fragment_offset = fragment & 0xfff8;
+            frame->ip.more_fragments = fragment & 1;
+            frame->ip.ident = swap_32(load_32(ptr + 4));
+            if (frame->is_fragment)
+                return LK_READ;
+        }
+        frame->protocol = packet->protocol = ptr[0];
+        packet->payload += len;
+        packet->len -= len;
+        follow(frame, len, packet->len);
+    }
     return LK_READ;
 }
 
@@ -397,7 +303,7 @@ INLINE int store_ipv6(const uint8_t *ptr, size_t len, struct lk_frame *frame, st
         return reason;
     uint32_t first = swap_32(load_32(ptr));
     frame->network = LK_IPV6;
-    frame->network_offset = ETHERNET_LEN;
+    frame->network_offset = frame->payload_offset;
     memcpy(frame->src.addr.octets, ptr + 8, 16);
     memcpy(frame->dst.addr.octets, ptr + 24, 16);
     frame->src.addr.version = frame->dst.addr.version = 6;
@@ -408,9 +314,14 @@ INLINE int store_ipv6(const uint8_t *ptr, size_t len, struct lk_frame *frame, st
         .dscp = first >> 22 & 63,
         .ecn = first >> 20 & 3,
     };
+    frame->protocol = ptr[6];
     follow(frame, IPV6_LEN, packet.len);
-    return packet.protocol == PROTOCOL_IPV6_FRAGMENT ? store_ipv6_fragment(&packet, frame)
-                                                     : store_transport(&packet, frame, options);
+    if (is_extension(packet.protocol)) {
+        reason = step_through(&packet, frame);
+        if (reason != LK_READ || frame->is_fragment)
+            return reason;
+    }
+    return store_transport(&packet, frame, options);
 }
 
 INLINE int store_arp(const uint8_t *ptr, size_t len, struct lk_frame *frame)
@@ -420,7 +331,7 @@ INLINE int store_arp(const uint8_t *ptr, size_t len, struct lk_frame *frame)
     if (!is_arp(ptr, len))
         return LK_OTHER_ARP;
     frame->network = LK_ARP;
-    frame->network_offset = ETHERNET_LEN;
+    frame->network_offset = frame->payload_offset;
     frame->arp.operation = swap_16(load_16(ptr + 6));
     memcpy(frame->arp.src_hardware, ptr + 8, 6);
     memcpy(frame->src.addr.octets, ptr + 14, 4);

@@ -2,18 +2,26 @@
 import re
 import statistics
 
+from chart import cells_of
+
 # A group: its name, the calls in it, and the goals for floor / ours: the median, and the least. A call is in
 # the first group that has it.
 GROUPS = [
     ("checksum", r"checksum", 0.90, None),
-    ("read a frame", r"read (ARP|IPv4|IPv6|solicitation|(UDP|TCP|ICMP)/.*)", 0.80, 0.60),
+    ("read a frame", r"read (ARP|IPv4|IPv6|(UDP|TCP|ICMP)/.*)", 0.80, 0.60),
     ("read mixed frames", r"read mixed frames.*", None, None),
+    ("read a neighbour solicitation", r"read solicitation", 0.50, None),
+    ("read a link type", r"read link.*", None, None),
     ("read TCP options", r"read options .*", 0.80, 0.60),
     ("read a frame and TCP options", r"read frame, options .*", 0.80, 0.60),
     ("emit one layer", r"emit (?!frame|ICMP error).*", 0.90, 0.70),
-    ("emit a whole frame", r"emit frame .*", 0.90, 0.70),
+    ("emit a whole frame", r"(emit|wrap) frame .*", 0.90, 0.70),
     ("rebuild", r"rebuild .*", 0.80, 0.60),
     ("forward, translate", r"(forward|translate) .*", 0.90, None),
+    ("NAT", r"NAT .*", None, None),
+    ("answer, ICMP error", r"(answer|emit ICMP error).*", 0.83, None),
+    ("edit a packet", r"(set|fill|clamp) .*", 0.50, None),
+    ("print a frame", r"print frame .*", 0.55, None),
     ("an address in a block", r".*contains.*", None, None),
     ("parse texts", r"parse .*", None, None),
     ("print texts", r"print .*", None, None),
@@ -22,10 +30,8 @@ GROUPS = [
 
 def rows(table):
     """(call, speed, floor / ours) of each line of a Markdown table; a ratio that it lacks is None."""
-    for line in table:
-        cells = [cell.strip() for cell in line.strip().strip("|").split("|")]
-        if len(cells) == 9 and cells[1].isdigit():
-            yield cells[0], *(float(cell) if cell else None for cell in cells[5:7])
+    for cells in cells_of(table):
+        yield cells[0], *(float(cell) if cell else None for cell in cells[5:7])
 
 
 def group_of(call):

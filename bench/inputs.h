@@ -4,33 +4,33 @@
 #include "../c/ip_wire.h"
 
 enum {
-    MOST_BYTES = 1 << 20,
+    MOST_BYTES = 1 << 16,
     MOST_PAYLOAD = 1460,
     ADDRESSES = 256,
     MOST_TEXT = 39, /* of an address */
 };
 
-/* The calls of a library: on packets, of a router, on ICMP and on frames with their options, of texts, and those that
- * only ours has. The floor has the first two kinds, the reference the first and the third. */
+/* The calls of a library: on packets, more on frames, of texts, and those that only ours has. The floor has the first two
+ * kinds, the reference the first and the third. */
 #define PACKET_CALLS(X)                                                                                     \
     X(checksum) X(read_frame) X(read_tcp_options) X(rebuild) X(emit_arp) X(emit_ip) X(emit_udp) X(emit_tcp) \
     X(emit_arp_frame) X(emit_udp_frame) X(emit_tcp_frame) X(contains)
-#define ROUTER_CALLS(X) \
-    X(forward) X(translate) X(emit_icmp) X(emit_icmp_frame) X(read_ndisc) X(emit_ndisc_frame) X(read_frame_options)
+#define FRAME_CALLS(X)                                                                               \
+    X(forward) X(translate) X(emit_icmp) X(emit_icmp_frame) X(read_ndisc) X(emit_ndisc_frame)          \
+    X(read_frame_options) X(wrap_udp_frame) X(wrap_tcp_frame) X(answer) X(emit_icmp_error)             \
+    X(clamp_mss) X(translate_out) X(translate_in) X(read_link) X(read_linktype) X(print_frame)         \
+    X(set_hop_limit) X(set_dscp) X(set_addr) X(set_port) X(set_bytes) X(fill_checksum)
 #define TEXT_CALLS(X) X(parse_addr) X(parse_block) X(print_addr) X(print_block) X(print_endpoint)
 #define OWN_CALLS(X)                                                                                   \
-    X(index_routes) X(choose_route) X(check_source) X(translate_out) X(translate_in) X(answer)         \
-    X(parse_endpoint) X(parse_ethernet) X(print_ethernet) X(read_packet) X(read_captured)              \
-    X(next_tcp_option) X(wrap_udp_frame) X(wrap_tcp_frame) X(update_checksum) X(update_checksum_addr)  \
-    X(update_udp_checksum) X(update_udp_checksum_addr) X(update_checksum_bytes)                        \
-    X(update_udp_checksum_bytes) X(emit_icmp_error) X(clamp_mss) X(read_link) X(read_linktype)         \
-    X(print_frame) X(set_hop_limit) X(set_dscp) X(set_addr) X(set_port) X(set_bytes) X(fill_checksum)  \
-    X(make_route_table) X(choose_route_by_table) X(check_source_by_table) X(fragment) X(reassemble)
+    X(index_routes) X(choose_route) X(check_source) X(parse_endpoint) X(parse_ethernet)                \
+    X(print_ethernet) X(read_packet) X(read_captured) X(next_tcp_option) X(update_checksum)            \
+    X(update_checksum_addr) X(update_udp_checksum) X(update_udp_checksum_addr)                         \
+    X(update_checksum_bytes) X(update_udp_checksum_bytes) X(make_route_table) X(choose_route_by_table) X(check_source_by_table) X(fragment) X(reassemble)
 #define CALL(name) __typeof__(lk_##name) *name;
 
 struct library {
     PACKET_CALLS(CALL)
-    ROUTER_CALLS(CALL)
+    FRAME_CALLS(CALL)
     TEXT_CALLS(CALL)
     OWN_CALLS(CALL)
     __typeof__(lk_parse_addr) *ipv4_parsed_by_core; /* ours beside Rust's core::net */

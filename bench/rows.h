@@ -127,7 +127,7 @@ REPEAT(call_print_frame, print_frame, &out.frame, (char *)OUT)
 
 static const struct call checksum_rows[] = {{"checksum", prepare_bytes, call_checksum}};
 static const size_t checksum_sizes[] = {20, 28, 40, 60, 64, 100, 128, 256, 512, 1500, 4096, 9000};
-static const size_t long_sizes[] = {1 << 16, 1 << 20};
+static const size_t long_sizes[] = {1 << 16}; /* a longer sum wraps in the reference */
 
 static const struct call arp_rows[] = {
     {"read ARP", prepare_arp, call_read},
@@ -295,14 +295,16 @@ static const struct call own_rows[] = {
     {"read packet UDP/IPv4", prepare_udp_ipv4, call_read_packet},
     {"read captured UDP/IPv4", prepare_udp_ipv4, call_read_captured},
     {"read captured ICMP/IPv4", prepare_echo_ipv4, call_read_captured},
+};
+static const struct call link_rows[] = {
     {"read link Ethernet", prepare_udp_ipv4, call_read_link},
     {"read link type UDP/IPv4", prepare_udp_ipv4, call_read_linktype},
     {"wrap frame UDP/IPv4", prepare_udp_ipv4, call_wrap_udp_frame},
     {"print frame UDP/IPv4", prepare_udp_line, call_print_frame},
 };
-static const struct call own_tcp_rows[] = {
+static const struct call own_tcp_rows[] = {{"next options", prepare_tcp_ipv4, call_next_options}};
+static const struct call line_rows[] = {
     {"wrap frame TCP/IPv4", prepare_tcp_ipv4, call_wrap_tcp_frame},
-    {"next options", prepare_tcp_ipv4, call_next_options},
     {"print frame TCP/IPv4", prepare_tcp_line, call_print_frame},
 };
 static const struct call update_rows[] = {
@@ -315,7 +317,9 @@ static const struct call update_rows[] = {
 };
 static const size_t own_sizes[] = {64};
 static const struct block own_block = BLOCK(own_rows, own_sizes, IN_OURS, 1);
+static const struct block link_block = BLOCK(link_rows, own_sizes, IN_FLOOR, 1);
 static const struct block own_tcp_block = BLOCK(own_tcp_rows, own_sizes, IN_OURS, 1);
+static const struct block line_block = BLOCK(line_rows, own_sizes, IN_FLOOR, 1);
 static const struct block update_block = BLOCK(update_rows, no_size, IN_OURS, 1);
 
 /* Visits the rows of a block, each with each size and with a header where they are of TCP. */
@@ -369,7 +373,9 @@ static void visit_rows(visitor *visit)
     for (size_t i = 0; i < COUNT(routing_blocks); i++)
         visit_block(&routing_blocks[i], NULL, visit);
     visit_block(&own_block, NULL, visit);
+    visit_block(&link_block, NULL, visit);
     visit_block(&own_tcp_block, &headers[1], visit);
+    visit_block(&line_block, &headers[1], visit);
     visit_block(&update_block, NULL, visit);
     visit_block(&address_block, NULL, visit);
     visit_texts(address_texts, COUNT(address_texts), IN_REFERENCE, visit);

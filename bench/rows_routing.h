@@ -284,7 +284,7 @@ static const struct block routing_blocks[] = {
     BLOCK(by_table_rows, most_routes, IN_OURS, 0),   BLOCK(kind_rows, kind_counts, IN_OURS, 128),
     BLOCK(few_by_table_rows, few_counts, IN_OURS, 128),
     BLOCK(dual_by_table_rows, dual_counts, IN_OURS, 128),
-    BLOCK(nat_rows, nat_sizes, IN_OURS, 64),         BLOCK(host_rows, host_sizes, IN_OURS, 1),
-    BLOCK(message_rows, message_sizes, IN_OURS, 1),  BLOCK(ndisc_rows, host_sizes, IN_FLOOR, 1),
-    BLOCK(edit_rows, nat_sizes, IN_OURS, 1),         BLOCK(fragment_rows, message_sizes, IN_OURS, 1),
+    BLOCK(nat_rows, nat_sizes, IN_FLOOR, 64),        BLOCK(host_rows, host_sizes, IN_FLOOR, 1),
+    BLOCK(message_rows, message_sizes, IN_FLOOR, 1), BLOCK(ndisc_rows, host_sizes, IN_FLOOR, 1),
+    BLOCK(edit_rows, nat_sizes, IN_FLOOR, 1),        BLOCK(fragment_rows, message_sizes, IN_OURS, 1),
 };

@@ -1,4 +1,5 @@
-/* A library to be preloaded: a program prints at its end, to standard error, how many instructions of its own it executed. */
+/* A library to be preloaded: a program prints at its end, to standard error, how many instructions of its own it executed,
+ * and its calls of memcpy and the like with their bytes. */
 #define _GNU_SOURCE
 #include <stdio.h>
 #include "steps.h"
@@ -12,5 +13,6 @@ __attribute__((constructor)) static void begin(void)
 __attribute__((destructor)) static void end(void)
 {
     end_steps();
-    dprintf(2, "%llu\n", (unsigned long long)steps);
+    dprintf(2, "%llu %llu %llu\n", (unsigned long long)steps, (unsigned long long)libc_calls,
+            (unsigned long long)libc_bytes);
 }

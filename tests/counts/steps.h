@@ -1,19 +1,36 @@
 /* Counts the instructions that a program or a library executes: with the trap flag the processor stops before each of
- * them. Those of other files of the process are not counted, since the C library has another memcpy for another
- * processor. Compile with -mno-red-zone: the flags go over the stack. */
+ * them. Those of other files of the process are not counted, since libc has another memcpy for another processor. In
+ * their place the calls of memcpy and the like are counted, and their bytes. This needs LD_BIND_NOW in the environment.
+ * Compile with -mno-red-zone: the flags go over the stack. */
 #include <link.h>
 #include <signal.h>
 #include <stdint.h>
+#include <string.h>
+#include <strings.h>
 #include <ucontext.h>
 
-static volatile uint64_t steps;
+static volatile uint64_t steps, libc_calls, libc_bytes;
 static uintptr_t code, code_len;
+
+/* Whether a function of libc whose third argument is a number of bytes begins there. */
+static int is_of_bytes(uintptr_t at)
+{
+    return at == (uintptr_t)memcpy || at == (uintptr_t)memmove || at == (uintptr_t)memset || at == (uintptr_t)memcmp
+           || at == (uintptr_t)bcmp;
+}
 
 static void count_step(int number, siginfo_t *info, void *context)
 {
-    uintptr_t at = (uintptr_t)((ucontext_t *)context)->uc_mcontext.gregs[REG_RIP];
+    static int was_inside;
+    const greg_t *registers = ((ucontext_t *)context)->uc_mcontext.gregs;
+    uintptr_t at = (uintptr_t)registers[REG_RIP];
     (void)number, (void)info;
-    steps += at - code < code_len;
+    if (was_inside && is_of_bytes(at)) {
+        libc_calls++;
+        libc_bytes += (uint64_t)registers[REG_RDX];
+    }
+    was_inside = at - code < code_len;
+    steps += (uint64_t)was_inside;
 }
 
 /* Takes the code around an address, or that of the first file, the program, for null. */
@@ -41,7 +58,7 @@ static void prepare_steps(void *address)
 
 static inline void begin_steps(void)
 {
-    steps = 0;
+    steps = libc_calls = libc_bytes = 0;
     __asm__ volatile("pushfq\n\torq $0x100, (%%rsp)\n\tpopfq" ::: "memory", "cc");
 }
 

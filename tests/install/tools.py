@@ -351,24 +351,30 @@ GENERATED = [generated("class_lines.py", "class"), generated("host_lines.py", "h
              generated("again_lines.py", "again")]
 
 def counts(name, record, counted, output, status):
-    """Two records of tests/counts/run, a row in a word: its call, bytes and instructions."""
+    """Two records of tests/counts/run, a row in a word: its call, bytes, instructions, and calls and bytes of libc."""
     files = [f"<(printf '%s\\n' {' '.join(rows.split())} | tr , ' ')" for rows in (record, counted)]
     said = "If this is meant, or a gain, renew the record in the same commit: tests/counts/run --write\n" if status else ""
     return Case(f"counts: {name}", f"tests/counts/run --compare {files[0]} {files[1]}", b"", output + said, "", status)
 
 
+def one_differs(name, record, counted, line):
+    rows = len(counted.split())
+    return counts(name, record, counted, f"{line}\n{rows} rows of counts, 1 differ\n", 1)
+
+
 COUNTS = [
-    counts("equal", "read,0,105 sum,20,29", "read,0,105 sum,20,29", "2 rows of counts, 0 differ\n", 0),
-    counts("within 2 in 100, or 3", "read,0,1000 sum,20,29", "read,0,1020 sum,20,26", "2 rows of counts, 0 differ\n", 0),
-    counts("3 in 100", "read,0,1000 read,64,1000", "read,0,1030 read,64,1000",
-           "read, 0: 1030 instructions, 30 more than recorded\n2 rows of counts, 1 differ\n", 1),
-    counts("4 of few", "sum,20,29", "sum,20,33", "sum, 20: 33 instructions, 4 more than recorded\n1 rows of counts, 1 differ\n", 1),
-    counts("a gain", "read,0,1000", "read,0,900",
-           "read, 0: 900 instructions, 100 fewer than recorded\n1 rows of counts, 1 differ\n", 1),
-    counts("a new row", "read,0,105", "read,0,105 read,18,105",
-           "read, 18: 105 instructions, not recorded\n2 rows of counts, 1 differ\n", 1),
-    counts("a missing row", "read,0,105 read,18,105", "read,0,105",
-           "read, 18: recorded, but there is no such row\n1 rows of counts, 1 differ\n", 1),
+    counts("equal", "read,0,105,0,0 sum,20,29,1,8", "read,0,105,0,0 sum,20,29,1,8", "2 rows of counts, 0 differ\n", 0),
+    counts("within 2 in 100, or 3", "read,0,1000,1,100 sum,20,29,0,0", "read,0,1020,1,103 sum,20,26,0,0",
+           "2 rows of counts, 0 differ\n", 0),
+    one_differs("3 in 100", "read,0,1000,0,0 read,64,1000,0,0", "read,0,1030,0,0 read,64,1000,0,0",
+                "read, 0: 1030 instructions, 30 more than recorded"),
+    one_differs("4 of few", "sum,20,29,0,0", "sum,20,33,0,0", "sum, 20: 33 instructions, 4 more than recorded"),
+    one_differs("a gain", "read,0,1000,0,0", "read,0,900,0,0", "read, 0: 900 instructions, 100 fewer than recorded"),
+    one_differs("a call of libc", "copy,64,90,1,64", "copy,64,90,2,66", "copy, 64: 2 calls of libc, 1 more than recorded"),
+    one_differs("bytes of libc", "copy,64,90,1,64", "copy,64,90,1,68", "copy, 64: 68 bytes of libc, 4 more than recorded"),
+    one_differs("a new row", "read,0,105,0,0", "read,0,105,0,0 read,18,105,0,0", "read, 18: 105 instructions, not recorded"),
+    one_differs("a missing row", "read,0,105,0,0 read,18,105,0,0", "read,0,105,0,0",
+                "read, 18: recorded, but there is no such row"),
 ]
 
 # Two checkouts in $d, with scripts as the programs of the workloads.
