@@ -1,10 +1,11 @@
 /* A NAT on TAP devices and on interfaces of the kernel (Linux). docs/ROUTER.md shows how to start it.
- *     nat [-m COUNT] FILE OUTSIDE INSIDE..
+ *     nat [-k] [-m COUNT] FILE OUTSIDE INSIDE..
  * The interfaces and FILE are those of router.c. Packets to OUTSIDE get its first IPv4 address, and ports of this
  * address lead back to the hosts inside. Between inside interfaces packets are routed as they are. Only UDP, TCP, ping
  * and ICMP errors over IPv4 pass OUTSIDE: other ICMP messages and IPv6 are dropped. Fragments are put together, in any
- * order, and the packet leaves in fragments again. -m: the most ports and echo identifiers that one inside address has
- * at a time (RFC 6888, REQ-4). */
+ * order, and the packet leaves in fragments again. -k: the kernel has the addresses of the inside interfaces too, and
+ * answers for them. It must not have the outside one: it would reset connections that it does not know. -m: the most
+ * ports and echo identifiers that one inside address has at a time (RFC 6888, REQ-4). */
 #define _GNU_SOURCE
 #include "routing/router.h"
 
@@ -15,8 +16,9 @@ enum { OUTSIDE = 0, FIRST_PORT = 1024, PORTS = 65536 - FIRST_PORT, MAPPINGS = LK
 enum { UDP = 17, TCP = 6, ECHO_REQUEST = 8 };
 
 static const char help[] =
-    "usage: nat [-m COUNT] FILE OUTSIDE INSIDE..\n"
+    "usage: nat [-k] [-m COUNT] FILE OUTSIDE INSIDE..\n"
     "Gives packets to the interface OUTSIDE its IPv4 address, and forwards them.\n"
+    "  -k        leaves packets to the inside addresses to the kernel, which has them\n"
     "  -m COUNT  the most ports that one inside address has at a time, 4096 by default\n"
     "  FILE      has addresses, routes and neighbours: docs/ROUTER.md\n"
     "  OUTSIDE, INSIDE  packet:NAME, an interface of the kernel, or tap:NAME, a TAP device\n"
@@ -154,10 +156,11 @@ int main(int argc, char **argv)
     prepare();
     opterr = 0;
     int is_help = asks_for_help(argc, argv);
-    for (int letter; !is_help && (letter = getopt(argc, argv, "+m:")) != -1;) {
-        if (letter != 'm')
+    for (int letter; !is_help && (letter = getopt(argc, argv, "+km:")) != -1;) {
+        if (letter != 'k' && letter != 'm')
             return print_help(help, 0);
-        if ((most = read_count(optarg)) == 0)
+        router.kernel_answers |= letter == 'k';
+        if (letter == 'm' && (most = read_count(optarg)) == 0)
             return 2;
     }
     if (is_help || argc - optind < 3)
@@ -171,5 +174,6 @@ int main(int argc, char **argv)
     if (!start(&router, argv[optind], argv + optind + 1, (size_t)(argc - optind - 1)))
         return 1;
     router.interfaces[OUTSIDE].renumbers = 1;
+    router.interfaces[OUTSIDE].kernel_answers = 0;
     return serve(&router);
 }

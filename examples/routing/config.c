@@ -339,6 +339,7 @@ static void take_config(struct router *router, const struct config *config)
     router->config = *config;
     for (size_t i = 0; i < router->interface_count; i++) {
         struct interface *interface = &router->interfaces[i];
+        interface->introduced = 0;
         interface->clamps = config->settings[i].clamps;
         interface->own.ipv4 = first_address(config, i, 4);
         interface->own.ipv6 = first_address(config, i, 6);

@@ -50,16 +50,20 @@ static int open_socket(struct interface *interface)
            && bind(device, (struct sockaddr *)&place, sizeof place) == 0;
 }
 
-/* Reads the MTU, and the Ethernet address of a socket's interface. A TAP device that was moved to another network
- * namespace keeps the MTU that it had. Returns what is wrong, or null. */
+/* Reads whether the device is up, the MTU, and the Ethernet address of a socket's interface. A TAP device that was moved
+ * to another network namespace keeps the MTU that it had. Returns what is wrong, or null. */
 static const char *read_settings(struct interface *interface)
 {
+    struct pollfd room = {.fd = interface->device, .events = POLLOUT};
     struct ifreq request = {.ifr_flags = 0};
     const char *fault = NULL;
     int any = socket(AF_INET, SOCK_DGRAM | SOCK_CLOEXEC, 0);
     memcpy(request.ifr_name, interface->name, IFNAMSIZ);
     if (any >= 0 && ioctl(any, SIOCGIFMTU, &request) == 0)
         interface->mtu = (size_t)request.ifr_mtu;
+    interface->is_up = interface->is_tap ? poll(&room, 1, 0) == 1 && (room.revents & POLLOUT)
+                                         : any >= 0 && ioctl(any, SIOCGIFFLAGS, &request) == 0
+                                               && (request.ifr_flags & IFF_RUNNING);
     if (!interface->is_tap) {
         if (any < 0 || ioctl(any, SIOCGIFHWADDR, &request) < 0)
             fault = strerror(errno);
@@ -136,6 +140,7 @@ void check_interface(struct router *router, struct interface *interface)
     if (interface->device >= 0 && !is_there(interface)) {
         close(interface->device);
         interface->device = -1;
+        interface->is_up = 0;
         print(&router->errors, "%s: %s: the device is gone\n", router->name, interface->name);
     } else if (interface->device >= 0) {
         read_settings(interface);

@@ -166,6 +166,8 @@ void send_on(struct router *router, uint16_t from, struct packet *packet, const 
         drop(router, GROUP);
     } else if (route->interface != TO_ROUTER) {
         send_by(router, from, route, packet, dst);
+    } else if (is_of_kernel(router, dst)) {
+        router->for_kernel++;
     } else if (answer(router, from, dst, packet)) {
         router->answered++;
     } else {
@@ -184,14 +186,15 @@ static int read_headers(const struct packet *packet, struct lk_frame *in)
     return lk_read_captured(packet->frame, captured, packet->len, in);
 }
 
-/* The table in which a fragment is put together with others, or NO_TABLE: it is forwarded as it is. */
+/* The table in which a fragment is put together with others, or NO_TABLE: it is forwarded as it is, or the kernel's. */
 static enum table table_of(const struct router *router, uint16_t from, const struct lk_frame *in)
 {
     const struct lk_route *route = is_fragment(in) ? route_to(router, &in->dst.addr) : NULL;
     enum table table = NO_TABLE;
     if (route != NULL && router->table_of != NULL && in->network == LK_IPV4)
         table = router->table_of(from, route->interface, &in->dst.addr);
-    return table == NO_TABLE && route != NULL && route->interface == TO_ROUTER ? FOR_OWN : table;
+    int is_own = route != NULL && route->interface == TO_ROUTER && !is_of_kernel(router, &in->dst.addr);
+    return table == NO_TABLE && is_own ? FOR_OWN : table;
 }
 
 /* Takes an IP packet that may pass. */
@@ -248,6 +251,8 @@ void print_counts(struct router *router)
     struct output *out = &router->out;
     print(out, "frames %lu, forwarded %lu, answered %lu, ARP %lu, ND %lu\n", router->frames, router->forwarded,
           router->answered, router->arp, router->ndisc);
+    if (router->for_kernel != 0)
+        print(out, "left to the kernel %lu\n", router->for_kernel);
     if (router->fragments != 0)
         print(out, "fragments %lu, put together %lu\n", router->fragments, router->wholes);
     if (router->withheld != 0)

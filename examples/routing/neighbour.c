@@ -191,32 +191,39 @@ static void ask_all(struct lk_frame *request)
     memcpy(request->ethernet.dst + 2, octets + 12, 4);
 }
 
+/* One from `::` has no Ethernet address: it asks whether `target` is unused (RFC 4861, section 4.3). */
+void send_request(struct router *router, uint16_t to, const struct lk_addr *src, const struct lk_addr *target,
+                  const uint8_t *hardware)
+{
+    const uint8_t *own = router->interfaces[to].own.hardware;
+    uint8_t out[LONGEST_REQUEST];
+    struct lk_ndisc solicitation = {.target = *target, .has_hardware = (uint8_t)lk_is_unicast(src)};
+    struct lk_frame request = {.src = {.addr = *src}, .dst = {.addr = *target}, .arp = {.operation = ARP_REQUEST}};
+    memcpy(request.ethernet.src, own, 6);
+    memcpy(request.arp.src_hardware, own, 6);
+    memcpy(solicitation.hardware, own, 6);
+    if (hardware != NULL)
+        memcpy(request.ethernet.dst, hardware, 6);
+    else
+        ask_all(&request);
+    ptrdiff_t len = src->version == 4 ? lk_emit_arp_frame(&request, out, sizeof out)
+                                      : lk_emit_ndisc_frame(&request, &solicitation, out, sizeof out);
+    if (len > 0)
+        send_own(router, to, out, (size_t)len);
+}
+
 /* Asks for an address: all hosts, or only the neighbour of which it is. At most once a second (RFC 1122, section
  * 2.3.2.1; RFC 4861, section 7.2.2). */
 static void ask(struct router *router, struct neighbour *neighbour)
 {
-    const struct interface *interface = &router->interfaces[neighbour->interface];
     const struct lk_addr *own = own_address(router, neighbour->interface, &neighbour->addr);
     if (router->now - neighbour->asked_at < BETWEEN_REQUESTS)
         return;
     neighbour->asked_at = router->now;
     neighbour->requests++;
-    if (own == NULL)
-        return;
-    uint8_t out[LONGEST_REQUEST];
-    struct lk_ndisc solicitation = {.target = neighbour->addr, .has_hardware = 1};
-    struct lk_frame request = {
-        .src = {.addr = *own}, .dst = {.addr = neighbour->addr}, .arp = {.operation = ARP_REQUEST}};
-    memcpy(request.ethernet.src, interface->own.hardware, 6);
-    memcpy(request.arp.src_hardware, interface->own.hardware, 6);
-    memcpy(solicitation.hardware, interface->own.hardware, 6);
-    memcpy(request.ethernet.dst, neighbour->hardware, 6);
-    if (neighbour->state != KNOWN)
-        ask_all(&request);
-    ptrdiff_t len = own->version == 4 ? lk_emit_arp_frame(&request, out, sizeof out)
-                                      : lk_emit_ndisc_frame(&request, &solicitation, out, sizeof out);
-    if (len > 0)
-        send_own(router, neighbour->interface, out, (size_t)len);
+    const uint8_t *hardware = neighbour->state == KNOWN ? neighbour->hardware : NULL;
+    if (own != NULL)
+        send_request(router, neighbour->interface, own, &neighbour->addr, hardware);
 }
 
 /* Keeps a copy of a packet, and drops the oldest one if there are too many. */
@@ -348,9 +355,12 @@ static void hear(struct router *router, uint16_t from, const struct lk_addr *add
 void on_arp(struct router *router, uint16_t from, const struct lk_frame *in, struct packet *packet)
 {
     int is_for_us = address_with(router, from, &in->dst.addr, 1) != NULL;
+    const struct address *claimed = address_with(router, from, &in->src.addr, 1);
     router->arp++;
     hear(router, from, &in->src.addr, in->arp.src_hardware, is_for_us, 1);
-    if (is_for_us)
+    if (claimed != NULL)
+        defend(router, claimed, in->arp.src_hardware);
+    if (is_for_us && !router->interfaces[from].kernel_answers)
         answer(router, from, &in->dst.addr, packet);
 }
 
@@ -373,12 +383,16 @@ int on_ndisc(struct router *router, uint16_t from, const struct lk_frame *in, st
     if ((!is_group && memcmp(in->ethernet.dst, router->interfaces[from].own.hardware, 6) != 0)
         || !lk_read_ndisc(packet->frame, packet->len, &ndisc))
         return 0;
+    const struct address *own = address_with(router, from, &ndisc.target, 1);
     if (ndisc.is_advert) {
         on_advert(router, from, &ndisc);
-    } else if (address_with(router, from, &ndisc.target, 1) != NULL) {
+        if (own != NULL && ndisc.has_hardware)
+            defend(router, own, ndisc.hardware);
+    } else if (own != NULL) {
         if (ndisc.has_hardware)
             hear(router, from, &in->src.addr, ndisc.hardware, 1, 0);
-        answer(router, from, &ndisc.target, packet);
+        if (!router->interfaces[from].kernel_answers)
+            answer(router, from, &ndisc.target, packet);
     }
     return 1;
 }

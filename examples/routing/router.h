@@ -26,6 +26,10 @@ struct interface {
     int device;          /* -1: the device is gone */
     unsigned index;      /* of the kernel's interface */
     size_t mtu;          /* in bytes */
+    int is_up;           /* at the last look: a frame can be sent */
+    int kernel_answers;  /* the kernel has its addresses, and answers for them */
+    int introduced;      /* steps of `introduce` that its addresses have had */
+    int64_t defended_at; /* when a conflict of addresses was reported last, in milliseconds; 0: never */
     int clamps;          /* the MTU limits the segments of TCP connections over it */
     int renumbers;       /* packets that leave in fragments get an identification of the router (RFC 6864, section 5.3) */
     struct lk_interface own;  /* its Ethernet address, and the addresses from which ICMP errors come */
@@ -106,7 +110,9 @@ struct router {
     struct neighbours *neighbours;
     int64_t now;       /* in milliseconds */
     int takes_any_way; /* a packet may come from elsewhere than the route back to its source leads */
+    int kernel_answers; /* for the addresses of packet sockets */
     unsigned long frames, forwarded, answered, arp, ndisc;
+    unsigned long for_kernel; /* packets that are left to the kernel */
     unsigned long fragments; /* taken to be put together */
     unsigned long wholes;    /* packets that were put together */
     unsigned long withheld; /* ICMP errors above the limit */
@@ -137,7 +143,7 @@ void flush_all(struct router *router);
 void send_now(struct interface *interface, const struct virtio_net_hdr *offload, const uint8_t *frame, size_t len);
 /* Fills a frame up to the shortest length of Ethernet, and returns its length. There must be room for it. */
 size_t pad(uint8_t *frame, size_t len);
-/* Looks whether the device is gone or has come back, and reads its MTU again. */
+/* Looks whether the device is gone, has come back or is up, and reads its MTU again. */
 void check_interface(struct router *router, struct interface *interface);
 /* Adds to `missed` what the kernel has counted since the last call. */
 void count_missed(struct interface *interface);
@@ -158,6 +164,9 @@ const uint8_t *hardware_of(struct router *router, uint16_t interface, const stru
 /* Keeps a copy of a packet for `dst` until the neighbour has replied. */
 void wait_for_neighbour(struct router *router, uint16_t to, const struct lk_addr *addr, uint16_t from,
                         const struct packet *packet, const struct lk_addr *dst);
+/* Sends an ARP request or a neighbour solicitation for `target`: to this Ethernet address, or null: to all hosts. */
+void send_request(struct router *router, uint16_t to, const struct lk_addr *src, const struct lk_addr *target,
+                  const uint8_t *hardware);
 void on_arp(struct router *router, uint16_t from, const struct lk_frame *in, struct packet *packet);
 /* Gives packets whose neighbours have replied to `send_on` again, and sends them. `packets` is room for FRAMES_AT_ONCE,
  * of which no queue has one. */
@@ -208,6 +217,19 @@ int answer(struct router *router, uint16_t from, const struct lk_addr *own, stru
 /* Tells the sender of a packet why it is dropped, if an ICMP error may be sent about it. The packet is as it came in.
  * `mtu` is that of the next link, for LK_PACKET_TOO_BIG. */
 void send_error(struct router *router, uint16_t from, enum lk_problem problem, struct packet *packet, size_t mtu);
+
+/* ---- own.c ---- */
+
+/* Asks on each link whether another host has an address of the router, and a second later announces the addresses: at
+ * the start, when a device has come up, and when the file was read again. To be called once a second. */
+void introduce(struct router *router);
+/* Another Ethernet address claims an address of the router. Reports it and announces the address, once in 10 seconds
+ * (RFC 5227, section 2.4 c). Does nothing if it is the router's own Ethernet address. */
+void defend(struct router *router, const struct address *own, const uint8_t *hardware);
+/* Whether this address of the router is one that the kernel answers for. */
+int is_of_kernel(const struct router *router, const struct lk_addr *own);
+/* Reports the addresses that the kernel should have and has not. */
+void compare_with_kernel(struct router *router);
 
 /* ---- serve.c ---- */
 

@@ -29,9 +29,12 @@ int start(struct router *router, const char *path, char **words, size_t count)
         print(&router->errors, "%s: out of memory\n", router->name);
         return 0;
     }
-    for (; router->interface_count < count; router->interface_count++)
-        if (!open_interface(router, words[router->interface_count], &router->interfaces[router->interface_count]))
+    for (; router->interface_count < count; router->interface_count++) {
+        struct interface *interface = &router->interfaces[router->interface_count];
+        if (!open_interface(router, words[router->interface_count], interface))
             return 0;
+        interface->kernel_answers = router->kernel_answers && !interface->is_tap;
+    }
     return read_config(router, 0);
 }
 
@@ -54,8 +57,10 @@ static int take_signals(struct router *router, int signals)
             print_counts(router);
         else if (signal.ssi_signo != SIGHUP)
             return 0;
-        else if (read_config(router, 1))
+        else if (read_config(router, 1)) {
             print(&router->errors, "%s: %s: read again\n", router->name, router->path);
+            compare_with_kernel(router);
+        }
     }
     return 1;
 }
@@ -77,6 +82,7 @@ static void check_interfaces(struct router *router, struct pollfd *files)
         check_interface(router, &router->interfaces[i]);
         files[i] = (struct pollfd){.fd = router->interfaces[i].device, .events = POLLIN};
     }
+    introduce(router);
 }
 
 int serve(struct router *router)
@@ -90,6 +96,7 @@ int serve(struct router *router)
         return 1;
     }
     print_interfaces(router);
+    compare_with_kernel(router);
     files[count] = (struct pollfd){.fd = signals, .events = POLLIN};
     check_interfaces(router, files);
     for (int64_t next = milliseconds() + BETWEEN_CHECKS;;) {

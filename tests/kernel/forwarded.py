@@ -145,8 +145,8 @@ class Router:
         return out
 
     def is_from_router(self, frame):
-        """Whether the router itself sends this frame."""
-        return frame[12:14] == ARP.to_bytes(2, "big") or Packet(frame).src in self.own
+        """Whether the router itself sends this frame: from its addresses, or to ask who has them."""
+        return frame[12:14] == ARP.to_bytes(2, "big") or Packet(frame).src in {*self.own, ipaddress.ip_address("::")}
 
     def error(self, frame, came_in, why):
         """The frame with the error about a frame that is dropped for this reason, or None."""

@@ -1,0 +1,109 @@
+/* The router's own addresses on their links: whether another host has them, and whether the kernel has them. */
+#define _GNU_SOURCE
+#include "router.h"
+
+#include <ifaddrs.h>
+#include <netinet/in.h>
+#include <stddef.h>
+
+enum { PROBE, ANNOUNCE, INTRODUCED };
+enum { BETWEEN_REPORTS = 10000 }; /* in milliseconds */
+enum { ADVERT_LEN = ETHERNET_LEN + 72 };
+
+/* Tells all hosts the Ethernet address: an ARP announcement (RFC 5227, section 3), or an unsolicited advertisement (RFC
+ * 4861, section 7.2.6). */
+static void announce(struct router *router, const struct address *own)
+{
+    static const struct lk_addr all_nodes = {.version = 6, .octets = {0xff, 2, [15] = 1}};
+    static const uint8_t group[6] = {0x33, 0x33, 0, 0, 0, 1};
+    const uint8_t *hardware = router->interfaces[own->interface].own.hardware;
+    const struct lk_addr *addr = &own->block.addr;
+    uint8_t out[ADVERT_LEN];
+    struct lk_frame headers = {.src = {.addr = *addr}, .dst = {.addr = all_nodes}};
+    struct lk_ndisc advert = {.target = *addr, .has_hardware = 1, .is_advert = 1, .is_router = 1, .overrides = 1};
+    if (addr->version == 4) {
+        send_request(router, own->interface, addr, addr, NULL);
+        return;
+    }
+    memcpy(headers.ethernet.src, hardware, 6);
+    memcpy(headers.ethernet.dst, group, 6);
+    memcpy(advert.hardware, hardware, 6);
+    ptrdiff_t len = lk_emit_ndisc_frame(&headers, &advert, out, sizeof out);
+    if (len > 0)
+        send_own(router, own->interface, out, (size_t)len);
+}
+
+/* A host that has the address replies (RFC 5227, section 2.1.1; RFC 4862, section 5.4.2). */
+static void probe(struct router *router, const struct address *own)
+{
+    const struct lk_addr none = {.version = own->block.addr.version};
+    send_request(router, own->interface, &none, &own->block.addr, NULL);
+}
+
+void introduce(struct router *router)
+{
+    for (size_t i = 0; i < router->config.address_count; i++) {
+        const struct address *own = &router->config.addresses[i];
+        const struct interface *interface = &router->interfaces[own->interface];
+        if (interface->is_up && interface->introduced < INTRODUCED && !interface->kernel_answers)
+            (interface->introduced == PROBE ? probe : announce)(router, own);
+    }
+    for (struct interface *one = router->interfaces; one < router->interfaces + router->interface_count; one++)
+        one->introduced = !one->is_up ? PROBE : one->introduced < INTRODUCED ? one->introduced + 1 : INTRODUCED;
+}
+
+void defend(struct router *router, const struct address *own, const uint8_t *hardware)
+{
+    struct interface *interface = &router->interfaces[own->interface];
+    char other[LK_ETHERNET_TEXT], addr[LK_ADDR_TEXT];
+    int is_early = interface->defended_at != 0 && router->now - interface->defended_at < BETWEEN_REPORTS;
+    if (is_early || memcmp(hardware, interface->own.hardware, 6) == 0)
+        return;
+    interface->defended_at = router->now;
+    lk_print_ethernet(hardware, other, sizeof other);
+    lk_print_addr(&own->block.addr, addr, sizeof addr);
+    print(&router->errors, "%s: %s: %s uses the router's address %s\n", router->name, interface->name, other, addr);
+    if (!interface->kernel_answers)
+        announce(router, own);
+}
+
+/* ---- addresses of the kernel ---- */
+
+int is_of_kernel(const struct router *router, const struct lk_addr *own)
+{
+    for (size_t i = 0; i < router->config.address_count; i++) {
+        const struct address *one = &router->config.addresses[i];
+        if (memcmp(&one->block.addr, own, sizeof *own) == 0)
+            return router->interfaces[one->interface].kernel_answers;
+    }
+    return 0;
+}
+
+static int is_in(const struct ifaddrs *list, const char *name, const struct lk_addr *addr)
+{
+    int family = addr->version == 4 ? AF_INET : AF_INET6;
+    size_t start = addr->version == 4 ? offsetof(struct sockaddr_in, sin_addr) : offsetof(struct sockaddr_in6, sin6_addr);
+    for (; list != NULL; list = list->ifa_next) {
+        const uint8_t *place = (const uint8_t *)list->ifa_addr;
+        if (place != NULL && list->ifa_addr->sa_family == family && strcmp(list->ifa_name, name) == 0
+            && memcmp(place + start, addr->octets, addr->version == 4 ? 4 : 16) == 0)
+            return 1;
+    }
+    return 0;
+}
+
+void compare_with_kernel(struct router *router)
+{
+    struct ifaddrs *list;
+    if (!router->kernel_answers || getifaddrs(&list) < 0)
+        return;
+    for (size_t i = 0; i < router->config.address_count; i++) {
+        const struct address *own = &router->config.addresses[i];
+        const struct interface *interface = &router->interfaces[own->interface];
+        char addr[LK_ADDR_TEXT];
+        lk_print_addr(&own->block.addr, addr, sizeof addr);
+        if (interface->kernel_answers && !is_in(list, interface->name, &own->block.addr))
+            print(&router->errors, "%s: %s: the kernel does not have %s\n", router->name, interface->name, addr);
+    }
+    freeifaddrs(list);
+}

@@ -1,0 +1,238 @@
+#!/usr/bin/env python3
+"""The kernel's side of tests/kernel, for the addresses that examples/router.c and nat.c have on their links.
+
+tests/kernel/own.py ROUTER NAT
+
+What they send at the start, another host with an address of theirs, and -k: the kernel has the addresses and answers.
+This process is a host on one side, and a namespace of its own is the host on the other side. Prints how many exchanges
+were right. The status is 1 if one was wrong, or if a kernel counted an error.
+"""
+import ipaddress
+import socket
+import sys
+import time
+
+import icmp
+import nat
+import packets
+from client import check, echoed, report
+from links import ELSEWHERE, SELF, Here, Namespace, Program, WideSide, no_errors, ping, settle, udp_echo, udp_error
+from routed_frames import HARDWARE, HOSTS
+from router import ADDRESSES, ARP, CONFIG, compare_lists, make_pairs
+
+PAIRS = ["packet:left", "packet:right"]
+ALL_NODES, ALL_NODES_HARDWARE = socket.inet_pton(socket.AF_INET6, "ff02::1"), b"\x33\x33\0\0\0\1"
+BROADCAST, NOBODY = b"\xff" * 6, bytes(6)
+INTRODUCES, ANSWERS = 2.4, 0.3  # seconds
+KERNEL = """
+    sysctl -qw net.ipv4.ip_forward=0 net.ipv6.conf.all.forwarding=0 net.ipv6.conf.left.forwarding=1 net.ipv6.conf.right.forwarding=1
+    sysctl -qw net.ipv4.conf.all.rp_filter=1 net.ipv4.conf.default.rp_filter=1 net.ipv4.icmp_ratelimit=0 net.ipv6.icmp.ratelimit=0
+    ip -6 route add blackhole default metric 9999
+"""
+
+
+def is_nd(frame):
+    return frame[12:14] == b"\x86\xdd" and frame[20] == icmp.ICMPV6 and frame[54] in (icmp.SOLICITATION, icmp.ADVERTISEMENT)
+
+
+def sent_by_router(side, name):
+    """The ARP packets and messages of neighbour discovery that came from the router's Ethernet address."""
+    side.take()
+    return [frame for frame in side.came_out if frame[6:12] == HARDWARE[name] and (frame[12:14] == ARP or is_nd(frame))]
+
+
+# ---- at the start
+
+
+def request(sender, target, hardware):
+    body = packets.arp(1, sha=hardware, spa=sender, tpa=target)
+    return packets.ethernet(packets.ARP, body, BROADCAST, hardware).ljust(60, b"\0")
+
+
+def probe(addr, hardware):
+    """Asks whether another host has the address (RFC 5227, section 2.1.1; RFC 4862, section 5.4.2)."""
+    if len(addr) == 4:
+        return request(bytes(4), addr, hardware)
+    group, group_hardware = icmp.group_of(addr)
+    return icmp.framed(icmp.solicitation(addr, bytes(16), group), bytes(16), group, hardware, group_hardware, 255)
+
+
+def announcement(addr, hardware):
+    """RFC 5227, section 3; RFC 4861, section 7.2.6: of a router, not solicited, overrides."""
+    if len(addr) == 4:
+        return request(addr, addr, hardware)
+    advert = icmp.advertisement(addr, addr, ALL_NODES, hardware, 5)
+    return icmp.framed(advert, addr, ALL_NODES, hardware, ALL_NODES_HARDWARE, 255)
+
+
+def introduces(what, sides, names):
+    """Each address is asked for, and then announced."""
+    time.sleep(INTRODUCES)
+    for name, side in sides.items():
+        own = [ipaddress.ip_interface(text).ip.packed for text, at in ADDRESSES if at == name and name in names]
+        expected = [step(addr, HARDWARE[name]) for step in (probe, announcement) for addr in own]
+        compare_lists(f"addresses {what}", expected, sent_by_router(side, name))
+        side.forget()
+
+
+def introductions(program):
+    room, there = Namespace(), Namespace()
+    make_pairs(room, there)
+    sides = {"left": WideSide(SELF, "left"), "right": WideSide(there.process, "right")}
+    router = Program(room, program, CONFIG, PAIRS)
+    introduces("at the start", sides, HARDWARE)
+    room.run("ip link set right down")
+    introduces("of an interface that is down", {"left": sides["left"]}, ())
+    sides["right"].forget()
+    room.run("ip link set right up")
+    introduces("of an interface that is up again", sides, ["right"])
+    router.has_again(CONFIG)
+    introduces("of a file that was read again", sides, HARDWARE)
+    conflicts(router, sides)
+    router.ends("that has introduced itself")
+
+
+def conflicts(router, sides):
+    """Another host with an address of the router is reported, and the address announced again, once in 10 seconds."""
+    four, six = ipaddress.ip_address("10.5.0.1").packed, ipaddress.ip_address("fd02::1").packed
+    for name, addr, text in (("left", four, "10.5.0.1"), ("right", six, "fd02::1")):
+        side, before = sides[name], router.messages()
+        side.sock.send(announcement(addr, HARDWARE[name]))  # a loop in the link
+        time.sleep(ANSWERS)
+        check("an own frame", router.messages() == before, router.messages())
+        side.forget()
+        for _ in range(3):
+            side.sock.send(announcement(addr, ELSEWHERE))
+        time.sleep(ANSWERS)
+        message = f"router: {name}: 02-00-00-00-EE-0E uses the router's address {text}\n".lower()
+        check("a conflict", router.messages() == before + message, router.messages())
+        compare_lists("defence", [announcement(addr, HARDWARE[name])], [frame for frame in sent_by_router(side, name) if frame[0] & 1])
+        side.forget()
+
+
+# ---- the kernel answers
+
+
+def counted(side, is_meant, exchange):
+    """What an exchange returns, and how many frames of this kind came out meanwhile."""
+    settle(side)
+    side.forget()
+    result = exchange()
+    time.sleep(ANSWERS)
+    side.take()
+    return result, sum(map(is_meant, side.came_out))
+
+
+def is_echo(frame):
+    return frame[12:14] == b"\x08\0" and frame[23] == icmp.ICMP and frame[34] == 0 or (
+        frame[12:14] == b"\x86\xdd" and frame[20] == icmp.ICMPV6 and frame[54] == icmp.ECHO_REPLY[6])
+
+
+def families(addr):
+    return socket.AF_INET6 if ":" in addr else socket.AF_INET
+
+
+def pings(side, addr, what):
+    family = families(addr)
+    found = counted(side, is_echo, lambda: ping(family, addr, b"data", 7))
+    check(f"ping of {what}", found == (True, 1), (addr, found))
+    check(f"long ping of {what}", ping(family, addr, bytes(8000), 8), addr)
+
+
+def asked(side):
+    """One reply to each question for an address, in which the kernel says that it is a router."""
+    own, host = (socket.inet_aton(f"10.1.0.{n}") for n in (1, 2))
+    reply = packets.ethernet(packets.ARP, packets.arp(2, sha=HARDWARE["left"], spa=own, tha=HOSTS["left"], tpa=host), HOSTS["left"], HARDWARE["left"])
+    side.forget()
+    side.sock.send(packets.ethernet(packets.ARP, packets.arp(1, sha=HOSTS["left"], spa=host, tpa=own), BROADCAST, HOSTS["left"]))
+    time.sleep(ANSWERS)
+    compare_lists("ARP of the kernel", [reply], [frame[:42] for frame in sent_by_router(side, "left") if frame[20:22] == b"\0\2"])
+    own, host = (socket.inet_pton(socket.AF_INET6, f"fd01::{n}") for n in (1, 2))
+    group, group_hardware = icmp.group_of(own)
+    side.forget()
+    side.sock.send(icmp.framed(icmp.solicitation(own, host, group, HOSTS["left"]), host, group, HOSTS["left"], group_hardware, 255))
+    time.sleep(ANSWERS)
+    advert = icmp.framed(icmp.advertisement(own, own, host, HARDWARE["left"], 7), own, host, HARDWARE["left"], HOSTS["left"], 255)
+    compare_lists("advertisement of the kernel", [advert], [frame for frame in sent_by_router(side, "left") if frame[54] == icmp.ADVERTISEMENT])
+
+
+def errors(side):
+    """One error for each packet, of the router or of the kernel."""
+    for family, front in ((socket.AF_INET, "10.%d.0."), (socket.AF_INET6, "fd0%d::")):
+        version, own, host, nobody = 4 if family == socket.AF_INET else 6, front % 1 + "1", front % 2 + "2", front % 9 + "9"
+        for what, kind, place, hop_limit in (
+                ("time exceeded", icmp.EXPIRED, (host, 7), 1), ("no route", icmp.NO_ROUTE, (nobody, 7), 64),
+                ("closed port of the kernel", icmp.CLOSED, (own, 9), 64)):
+            found, count = counted(side, icmp.is_error, lambda: udp_error(family, place, b"x", hop_limit))
+            expected = (*kind[version], own)
+            check(what, found is not None and (*found[:2], found[3]) == expected and count == 1, (place, found, count))
+
+
+def kernel_answers(program):
+    room, there = Namespace(), Namespace()
+    make_pairs(room, there)
+    room.run(KERNEL)
+    for text, name in ADDRESSES:
+        room.run(f"ip address add {text} dev {name} {'nodad' if ':' in text else ''}")
+    side, servers = WideSide(SELF, "left"), ("10.2.0.2", "fd02::2")
+    router = Program(room, program, CONFIG, PAIRS, options=["-k"])
+    server = there.serve(*servers)
+    time.sleep(INTRODUCES)
+    check("addresses of the kernel at the start", sent_by_router(side, "left") == [] and router.messages() == "", router.messages())
+    for text, _ in ADDRESSES:
+        pings(side, text.split("/")[0], "the kernel")
+    asked(side)
+    errors(side)
+    for addr in servers:
+        pings(side, addr, "a host behind")
+        found = counted(side, lambda frame: b"through" in frame, lambda: udp_echo(families(addr), (addr, 7), b"through"))
+        check("UDP beside the kernel", found == (b"through", 1), (addr, found))
+        check("TCP beside the kernel", echoed(families(addr), addr, bytes(100_000)) == bytes(100_000), addr)
+    counters = router.counters()
+    check("packets that are left to the kernel", counters["answered"] == 0 and counters["left to the kernel"] > 12, counters)
+    room.run("ip address delete 10.5.0.1/24 dev left")
+    router.has_again(CONFIG)
+    check("an address that the kernel has not", router.waits_for("router: left: the kernel does not have 10.5.0.1\n"), router.messages())
+    no_errors(there)
+    router.ends("beside the kernel")
+    server.kill()
+
+
+def kernel_inside(program):
+    """A NAT whose inside address the kernel has. The kernel's own packets leave by a TAP device through the NAT."""
+    room, there = Namespace(), Namespace()
+    make_pairs(room, there)
+    room.run(KERNEL + """
+        ip address add 10.1.0.1/24 dev left && ip address add fd01::1/64 dev left nodad
+        ip tuntap add self mode tap && ip address add 10.3.0.2/30 dev self && ip link set self up && ip route add default via 10.3.0.1
+    """)
+    there.run("ip route delete default")
+    side, outside = WideSide(SELF, "left"), WideSide(there.process, "right")
+    router = Program(room, program, nat.CONFIG + "address 10.3.0.1/30 dev self\n", [*reversed(PAIRS), "tap:self"], options=["-k"])
+    server = there.serve("10.2.0.2")
+    for addr, what in (("10.1.0.1", "the kernel"), ("fd01::1", "the kernel"), ("10.2.0.1", "the NAT"), ("10.2.0.2", "a host behind"),
+                       ("10.3.0.1", "the NAT"), ("10.3.0.2", "the kernel")):
+        pings(side, addr, what)
+    outside.forget()
+    for namespace, who in ((Here(), "a host"), (room, "the kernel")):
+        with namespace.entered():
+            check(f"UDP of {who} inside", udp_echo(socket.AF_INET, ("10.2.0.2", 7), b"data") == b"data")
+            check(f"TCP of {who} inside", echoed(socket.AF_INET, "10.2.0.2", bytes(100_000)) == bytes(100_000))
+    outside.take()
+    sources = {frame[26:30] for frame in outside.came_out if frame[12:14] == b"\x08\0"}
+    check("sources outside", sources == {socket.inet_aton("10.2.0.1")}, sources)
+    resets = [frame for frame in outside.came_out if frame[12:14] == b"\x08\0" and frame[23] == 6 and frame[47] & 4]
+    check("resets", resets == [], resets)
+    check("conflicts", router.messages() == "", router.messages())
+    router.ends("beside the kernel")
+    server.kill()
+
+
+def own_addresses(router, nat_program):
+    introductions(router)
+    kernel_answers(router)
+    kernel_inside(nat_program)
+
+
+if __name__ == "__main__":
+    sys.exit(report("own addresses", own_addresses, *sys.argv[1:]))
