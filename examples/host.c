@@ -7,7 +7,8 @@
  *
  * Packets in fragments are put together. Long answers leave in fragments.
  *
- * Not supported: ICMP errors that come in, but for "packet too big". */
+ * Not supported: ICMP errors that come in, but for "packet too big". Keep-alive: 64 silent peers block all new
+ * connections. */
 #define _GNU_SOURCE
 #include "error_limit.h"
 #include "host_tcp.h"

@@ -50,8 +50,8 @@ static int open_socket(struct interface *interface)
            && bind(device, (struct sockaddr *)&place, sizeof place) == 0;
 }
 
-/* Reads whether the device is up, the MTU, and the Ethernet address of a socket's interface. A TAP device that was moved
- * to another network namespace keeps the MTU that it had. Returns what is wrong, or null. */
+/* Reads whether the device is up, its MTU, and the Ethernet address of a socket's interface. A TAP device that was
+ * moved to another network namespace keeps the MTU that it had. Returns what is wrong, or null. */
 static const char *read_settings(struct interface *interface)
 {
     struct pollfd room = {.fd = interface->device, .events = POLLOUT};

@@ -79,10 +79,11 @@ int is_of_kernel(const struct router *router, const struct lk_addr *own)
     return 0;
 }
 
+/* Whether an interface has an address, in a list of the kernel. */
 static int is_in(const struct ifaddrs *list, const char *name, const struct lk_addr *addr)
 {
     int family = addr->version == 4 ? AF_INET : AF_INET6;
-    size_t start = addr->version == 4 ? offsetof(struct sockaddr_in, sin_addr) : offsetof(struct sockaddr_in6, sin6_addr);
+    size_t start = family == AF_INET ? offsetof(struct sockaddr_in, sin_addr) : offsetof(struct sockaddr_in6, sin6_addr);
     for (; list != NULL; list = list->ifa_next) {
         const uint8_t *place = (const uint8_t *)list->ifa_addr;
         if (place != NULL && list->ifa_addr->sa_family == family && strcmp(list->ifa_name, name) == 0

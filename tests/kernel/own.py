@@ -24,6 +24,7 @@ PAIRS = ["packet:left", "packet:right"]
 ALL_NODES, ALL_NODES_HARDWARE = socket.inet_pton(socket.AF_INET6, "ff02::1"), b"\x33\x33\0\0\0\1"
 BROADCAST, NOBODY = b"\xff" * 6, bytes(6)
 INTRODUCES, ANSWERS = 2.4, 0.3  # seconds
+LENGTHS = (0, 1, 1452, 1453, 1472, 1473, 8000, 60000)  # of pings, in bytes
 KERNEL = """
     sysctl -qw net.ipv4.ip_forward=0 net.ipv6.conf.all.forwarding=0 net.ipv6.conf.left.forwarding=1 net.ipv6.conf.right.forwarding=1
     sysctl -qw net.ipv4.conf.all.rp_filter=1 net.ipv4.conf.default.rp_filter=1 net.ipv4.icmp_ratelimit=0 net.ipv6.icmp.ratelimit=0
@@ -136,7 +137,8 @@ def pings(side, addr, what):
     family = families(addr)
     found = counted(side, is_echo, lambda: ping(family, addr, b"data", 7))
     check(f"ping of {what}", found == (True, 1), (addr, found))
-    check(f"long ping of {what}", ping(family, addr, bytes(8000), 8), addr)
+    for length in LENGTHS:
+        check(f"long ping of {what}", ping(family, addr, bytes(length), length), (addr, length))
 
 
 def asked(side):

@@ -5,9 +5,11 @@ tests/kernel/page.py PROGRAMS
 
 PROGRAMS is a folder with the programs router and nat. In the page a command of root follows `#` in a block of a console,
 and the lines after it are among those that it prints; `..` stands for any text or lines. Commands after `$` are not run.
+A section with a command that is not on the path is skipped.
 """
 import os
 import re
+import shutil
 import subprocess
 import sys
 import threading
@@ -15,22 +17,37 @@ import time
 
 LATEST = 10  # seconds
 END = "the end of a command"
+TOOLS = ("ping", "curl", "dnsmasq", "udhcpc", "busybox")
 
 
-def commands(path):
-    """The commands, each with the lines that the page shows."""
-    found, shown, is_console = [], [], False
+def sections(path):
+    """The headings, each with its commands, and those with the lines that the page shows."""
+    sections, found, shown, is_console = [], [], [], False
     with open(path, encoding="ascii") as page:
         for line in map(str.rstrip, page):
             if line.startswith("```"):
                 is_console = line == "```console"
+            elif not is_console and line.startswith("## "):
+                found = []
+                sections.append((line[3:], found))
             elif is_console and line[:2] in ("# ", "$ "):
                 shown = []
                 if line.startswith("# "):
                     found.append((line[2:], shown))
             elif is_console and line != "..":
                 shown.append(line.strip())
-    return found
+    return sections
+
+
+def commands(path):
+    """The commands of the sections whose tools are there."""
+    for heading, found in sections(path):
+        words = {word for command, _ in found for word in re.findall(r"\w+", command)}
+        lacking = [tool for tool in TOOLS if tool in words and not shutil.which(tool)]
+        if lacking:
+            print(f'tests/kernel: skipped: docs/ROUTER.md, "{heading}": {lacking[0]} is not on the path')
+        else:
+            yield from found
 
 
 def is_printed(shown, lines):
@@ -59,7 +76,7 @@ def main(programs):
         if f"{END} 0" not in lines[begin:]:
             sys.exit(f"tests/kernel: wrong: {command}\nfails: " + "\n".join(lines[begin:]))
     shell.stdin.close()
-    if count == 0:
+    if not any(found for _, found in sections(page)):
         sys.exit("tests/kernel: wrong: docs/ROUTER.md has no command")
     print(f"docs/ROUTER.md: {count} commands, each prints what the page shows")
 
