@@ -83,7 +83,9 @@ int is_of_kernel(const struct router *router, const struct lk_addr *own)
 static int is_in(const struct ifaddrs *list, const char *name, const struct lk_addr *addr)
 {
     int family = addr->version == 4 ? AF_INET : AF_INET6;
-    size_t start = family == AF_INET ? offsetof(struct sockaddr_in, sin_addr) : offsetof(struct sockaddr_in6, sin6_addr);
+    size_t start = offsetof(struct sockaddr_in, sin_addr);
+    if (family == AF_INET6)
+        start = offsetof(struct sockaddr_in6, sin6_addr);
     for (; list != NULL; list = list->ifa_next) {
         const uint8_t *place = (const uint8_t *)list->ifa_addr;
         if (place != NULL && list->ifa_addr->sa_family == family && strcmp(list->ifa_name, name) == 0

@@ -9,6 +9,7 @@ were right. The status is 1 if one was wrong, or if a kernel counted an error.
 """
 import ipaddress
 import socket
+import subprocess
 import sys
 import time
 
@@ -30,6 +31,14 @@ KERNEL = """
     sysctl -qw net.ipv4.conf.all.rp_filter=1 net.ipv4.conf.default.rp_filter=1 net.ipv4.icmp_ratelimit=0 net.ipv6.icmp.ratelimit=0
     ip -6 route add blackhole default metric 9999
 """
+# Forgets a group after 3 s without a report.
+SWITCH = """
+    ip link add name switch type bridge
+    ip link set switch type bridge mcast_startup_query_interval 50 mcast_query_interval 100 mcast_query_response_interval 50
+    ip link set switch type bridge mcast_membership_interval 300
+    ip link set switch up type bridge mcast_snooping 1 mcast_querier 1 mcast_mld_version 2
+"""
+SNOOPS = 7  # seconds
 
 
 def is_nd(frame):
@@ -138,7 +147,7 @@ def pings(side, addr, what):
     found = counted(side, is_echo, lambda: ping(family, addr, b"data", 7))
     check(f"ping of {what}", found == (True, 1), (addr, found))
     for length in LENGTHS:
-        check(f"long ping of {what}", ping(family, addr, bytes(length), length), (addr, length))
+        check(f"long ping of {what}", ping(family, addr, bytes(length), 1 + length), (addr, length))
 
 
 def asked(side):
@@ -191,7 +200,8 @@ def kernel_answers(program):
         check("UDP beside the kernel", found == (b"through", 1), (addr, found))
         check("TCP beside the kernel", echoed(families(addr), addr, bytes(100_000)) == bytes(100_000), addr)
     counters = router.counters()
-    check("packets that are left to the kernel", counters["answered"] == 0 and counters["left to the kernel"] > 12, counters)
+    is_left = counters["answered"] == 0 and "fragments" not in counters and counters["left to the kernel"] > 12
+    check("packets that are left to the kernel", is_left, counters)
     room.run("ip address delete 10.5.0.1/24 dev left")
     router.has_again(CONFIG)
     check("an address that the kernel has not", router.waits_for("router: left: the kernel does not have 10.5.0.1\n"), router.messages())
@@ -230,8 +240,27 @@ def kernel_inside(program):
     server.kill()
 
 
+def behind_snooping(program):
+    """Behind a bridge that forwards a group only to where reports came from, hosts find a router whose groups the kernel
+    reports."""
+    switch, room, host = Namespace(), Namespace(), Namespace()
+    switch.run(SWITCH)
+    for name, namespace in (("left", room), ("far", host)):
+        switch.run(f"ip link add name {name} type veth peer name {name} netns {namespace.process} && ip link set dev {name} master switch up")
+        namespace.run(f"ip link set {name} up && ip address add fd01::{1 + (name == 'far')}/64 dev {name} nodad")
+    router = Program(room, program, "address fd01::1/64 dev left\n", ["packet:left"], options=["-k"])
+    time.sleep(SNOOPS)
+    host.run("ip neighbour flush all")
+    with host.entered():
+        check("ping behind a bridge that snoops", ping(socket.AF_INET6, "fd01::1", b"data", 1))
+    group = subprocess.run(["nsenter", "--target", switch.process, "--net", "bridge", "mdb"], capture_output=True, text=True, check=True)
+    check("groups of the router", "port left grp ff02::1:ff00:1 " in group.stdout, group.stdout)
+    router.ends("behind a bridge that snoops")
+
+
 def own_addresses(router, nat_program):
     introductions(router)
+    behind_snooping(router)
     kernel_answers(router)
     kernel_inside(nat_program)
 

@@ -5,7 +5,7 @@ tests/kernel/page.py PROGRAMS
 
 PROGRAMS is a folder with the programs router and nat. In the page a command of root follows `#` in a block of a console,
 and the lines after it are among those that it prints; `..` stands for any text or lines. Commands after `$` are not run.
-A section with a command that is not on the path is skipped.
+A section with a command that is not on the path, or that cannot run in a user namespace, is skipped.
 """
 import os
 import re
@@ -39,13 +39,21 @@ def sections(path):
     return sections
 
 
+def may_set_groups():
+    """Not in a user namespace."""
+    with open("/proc/self/setgroups", encoding="ascii") as file:
+        return file.read() == "allow\n"
+
+
 def commands(path):
     """The commands of the sections whose tools are there."""
     for heading, found in sections(path):
         words = {word for command, _ in found for word in re.findall(r"\w+", command)}
-        lacking = [tool for tool in TOOLS if tool in words and not shutil.which(tool)]
+        lacking = [f"{tool} is not on the path" for tool in TOOLS if tool in words and not shutil.which(tool)]
+        if "dnsmasq" in words and not may_set_groups():
+            lacking.append("dnsmasq cannot set its groups")
         if lacking:
-            print(f'tests/kernel: skipped: docs/ROUTER.md, "{heading}": {lacking[0]} is not on the path')
+            print(f'tests/kernel: skipped: docs/ROUTER.md, "{heading}": {lacking[0]}')
         else:
             yield from found
 
