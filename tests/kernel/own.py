@@ -17,7 +17,7 @@ import icmp
 import nat
 import packets
 from client import check, echoed, report
-from links import ELSEWHERE, SELF, Here, Namespace, Program, WideSide, no_errors, ping, settle, udp_echo, udp_error
+from links import ELSEWHERE, READS_MTU, SELF, Here, Namespace, Program, WideSide, no_errors, ping, settle, udp_echo, udp_error
 from routed_frames import HARDWARE, HOSTS
 from router import ADDRESSES, ARP, CONFIG, compare_lists, make_pairs
 
@@ -167,14 +167,16 @@ def asked(side):
     compare_lists("advertisement of the kernel", [advert], [frame for frame in sent_by_router(side, "left") if frame[54] == icmp.ADVERTISEMENT])
 
 
-def errors(side):
-    """One error for each packet, of the router or of the kernel."""
+def errors(side, room):
+    """One error for each packet, of the router or of the kernel. The link on the right has an MTU of 1300."""
+    room.run("ip link set right mtu 1300")
+    time.sleep(READS_MTU)
     for family, front in ((socket.AF_INET, "10.%d.0."), (socket.AF_INET6, "fd0%d::")):
         version, own, host, nobody = 4 if family == socket.AF_INET else 6, front % 1 + "1", front % 2 + "2", front % 9 + "9"
-        for what, kind, place, hop_limit in (
-                ("time exceeded", icmp.EXPIRED, (host, 7), 1), ("no route", icmp.NO_ROUTE, (nobody, 7), 64),
-                ("closed port of the kernel", icmp.CLOSED, (own, 9), 64)):
-            found, count = counted(side, icmp.is_error, lambda: udp_error(family, place, b"x", hop_limit))
+        for what, kind, place, hop_limit, length in (
+                ("time exceeded", icmp.EXPIRED, (host, 7), 1, 1), ("no route", icmp.NO_ROUTE, (nobody, 7), 64, 1),
+                ("closed port of the kernel", icmp.CLOSED, (own, 9), 64, 1), ("too big", icmp.TOO_BIG, (host, 7), 64, 1400)):
+            found, count = counted(side, icmp.is_error, lambda: udp_error(family, place, bytes(length), hop_limit))
             expected = (*kind[version], own)
             check(what, found is not None and (*found[:2], found[3]) == expected and count == 1, (place, found, count))
 
@@ -193,12 +195,12 @@ def kernel_answers(program):
     for text, _ in ADDRESSES:
         pings(side, text.split("/")[0], "the kernel")
     asked(side)
-    errors(side)
     for addr in servers:
         pings(side, addr, "a host behind")
         found = counted(side, lambda frame: b"through" in frame, lambda: udp_echo(families(addr), (addr, 7), b"through"))
         check("UDP beside the kernel", found == (b"through", 1), (addr, found))
         check("TCP beside the kernel", echoed(families(addr), addr, bytes(100_000)) == bytes(100_000), addr)
+    errors(side, room)
     counters = router.counters()
     is_left = counters["answered"] == 0 and "fragments" not in counters and counters["left to the kernel"] > 12
     check("packets that are left to the kernel", is_left, counters)
