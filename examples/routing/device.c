@@ -50,20 +50,29 @@ static int open_socket(struct interface *interface)
            && bind(device, (struct sockaddr *)&place, sizeof place) == 0;
 }
 
+/* Whether a frame can be sent. A TAP device takes frames while it is up. An interface needs its cable too. `any` is a
+ * socket, for its requests. */
+static int is_up(const struct interface *interface, int any)
+{
+    struct pollfd room = {.fd = interface->device, .events = POLLOUT};
+    struct ifreq request = {.ifr_flags = 0};
+    memcpy(request.ifr_name, interface->name, IFNAMSIZ);
+    if (interface->is_tap)
+        return poll(&room, 1, 0) == 1 && (room.revents & POLLOUT);
+    return ioctl(any, SIOCGIFFLAGS, &request) == 0 && (request.ifr_flags & IFF_RUNNING);
+}
+
 /* Reads whether the device is up, its MTU, and the Ethernet address of a socket's interface. A TAP device that was
  * moved to another network namespace keeps the MTU that it had. Returns what is wrong, or null. */
 static const char *read_settings(struct interface *interface)
 {
-    struct pollfd room = {.fd = interface->device, .events = POLLOUT};
     struct ifreq request = {.ifr_flags = 0};
     const char *fault = NULL;
     int any = socket(AF_INET, SOCK_DGRAM | SOCK_CLOEXEC, 0);
     memcpy(request.ifr_name, interface->name, IFNAMSIZ);
     if (any >= 0 && ioctl(any, SIOCGIFMTU, &request) == 0)
         interface->mtu = (size_t)request.ifr_mtu;
-    interface->is_up = interface->is_tap ? poll(&room, 1, 0) == 1 && (room.revents & POLLOUT)
-                                         : any >= 0 && ioctl(any, SIOCGIFFLAGS, &request) == 0
-                                               && (request.ifr_flags & IFF_RUNNING);
+    interface->is_up = is_up(interface, any);
     if (!interface->is_tap) {
         if (any < 0 || ioctl(any, SIOCGIFHWADDR, &request) < 0)
             fault = strerror(errno);
