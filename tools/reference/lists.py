@@ -23,8 +23,10 @@ GROUPS = {
 }
 # What types come first below a heading, by the end of their names.
 ORDER = "Frame", "Packet", "Header", "Repr", "Address", "Cidr"
-SEARCH = """<script>q.hidden=0;q.oninput=()=>{const w=q.value.toLowerCase();calls.open=w.length>1;
-for(const r of calls.querySelectorAll("tr"))r.hidden=!r.textContent.toLowerCase().includes(w)}</script>"""
+# A row is shown if it has all words that were typed.
+SEARCH = """<script>q.hidden=0;q.oninput=()=>{const w=q.value.toLowerCase().split(/\\s+/);let n=0;names.open=q.value.length>1;
+for(const r of names.querySelectorAll("tr")){const t=r.textContent.toLowerCase();r.hidden=!w.every(one=>t.includes(one));
+n+=!r.hidden}none.hidden=n>0}</script>"""
 CONDITIONS = """<p>A condition is a fact that the caller must prove before the call. If its conditions are met, every
 call of these libraries returns, and is safe on any bytes. <b>A call without a row has no condition.</b></p>
 <ul><li>A getter of a view requires only the bytes that it reads. After <code>check_len</code> returns <code>Ok</code>,
@@ -182,20 +184,33 @@ def about(subject):
     return first_sentence(view.docs if view else item.docs if subject.paths else module.docs)
 
 
-def index(pages):
+def names(pages, c_index):
+    """A row for each name that the search finds: its link, what kind of name it is, and its first sentence."""
+    rows = []
+    for _, owner, call, url in sorted(pages.calls, key=lambda one: (one[1], one[2].item.name)):
+        name = f"{owner}::{call.item.name}" if owner else call.item.name
+        rows.append((f'<a href="{url}">{code(name)}</a>', "call", first_sentence(call.item.docs)))
+    rows += [(f'<a href="{one.page}">{code(one.title)}</a>', "type", about(one))
+             for one in sorted(pages.reference.subjects.values(), key=lambda one: one.title)]
+    rows += [(link, "law", sentence) for link, sentence in map(pages.law_row, pages.reference.laws)]
+    rows += [(f'<a href="{one.url}">{code(one.item.name)}</a>', "definition", first_sentence([one.comment]))
+             for one in pages.reference.definitions.values()]
+    c_rows = re.findall(r"<tr><td>(.*?)</td><td>(.*?)</td></tr>", c_index)
+    return rows + [(links.replace('href="', 'href="c/'), "C call", says) for links, says in c_rows]
+
+
+def index(pages, c_index):
     groups = []
     for crate, heading in GROUPS.items():
         found = sorted((one for one in pages.reference.subjects.values() if one.crate.name == crate), key=rank)
         items = [f'<li><a href="{one.page}">{html.escape(one.title)}</a> <small>{about(one)}</small></li>\n'
                  for one in found]
         groups.append(f'<div><h2>{heading}</h2><p class="src">{crate}</p><ul>{"".join(items)}</ul></div>')
-    rows = []
-    for _, owner, call, url in sorted(pages.calls, key=lambda one: (one[1], one[2].item.name)):
-        name = f"{owner}::{call.item.name}" if owner else call.item.name
-        rows.append((f'<a href="{url}">{code(name)}</a>', first_sentence(call.item.docs)))
+    rows = names(pages, c_index)
     return page("ip_wire reference", f'''<p>Every public type and call of the libraries for Rattle, made from the
 sources. <b>needs</b> is a condition that the caller proves, <b>gives</b> is a promise that the caller then knows. Below
 the words is the text of the contract.</p>
-<p><input id="q" placeholder="Search calls" aria-label="Search calls" hidden></p>
-<details id="calls"><summary>All {len(pages.calls)} calls</summary>{table(rows)}</details>
+<p><input id="q" placeholder="Search" aria-label="Search" hidden></p>
+<details id="names"><summary>All {len(rows)} calls, types, laws and definitions</summary>{table(rows)}
+<p id="none" hidden>Nothing found.</p></details>
 <div class="groups">{"".join(groups)}</div>{SEARCH}''')

@@ -27,10 +27,10 @@ def made(top):
     files["definitions.html"] = lists.definition_index(pages, definitions)
     files["conditions.html"], conditions = lists.conditions(pages)
     files["lemmas.html"], lemmas = lists.lemmas(pages)
-    files["index.html"] = lists.index(pages)
+    c_files = c_pages(top)
+    files["index.html"] = lists.index(pages, c_files.get("c/index.html", ""))
     with open(os.path.join(HERE, "style.css"), encoding="utf-8") as style:
         files["style.css"] = style.read()
-    c_files = c_pages(top)
     files.update(c_files)
     counts = {
         "files": len(files), "types and modules": len(pages.reference.subjects), "calls": len(pages.calls),
