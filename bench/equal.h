@@ -92,17 +92,30 @@ static void lengthen(void)
     }
 }
 
-/* Changes some bytes, most of them of headers, and some words to what calls look for. */
-static void damage(void)
+/* Sets a word or a byte of a header to a value that calls look for: of protocols, types, flags, ports and addresses. */
+static void set_value(void)
 {
     static const uint16_t words[] = {0, 0xffff, 2, 10, 24, 770, 803, 824, 22, 53, 54, 1024, 1500, 0x0800, 0x0806, 0x86dd,
                                      0x8100, 0x88a8, 0x9100, 0x2000, 0x4000};
-    for (uint64_t count = draw(3); count && subject.len >= 64; count--)
+    static const uint8_t values[] = {0, 1, 2, 3, 4, 6, 8, 11, 12, 13, 16, 17, 18, 19, 20, 44, 58, 127, 128, 137, 224, 240, 255};
+    static const uint8_t places[] = {20, 21, 22, 23, 26, 30, 34, 35, 46, 47, 54, 55, 62, 67};
+    if (subject.len < 68)
+        return;
+    if (draw(2))
         write_word(2 * draw(30), words[draw(COUNT(words))]);
-    for (uint64_t count = draw(4); count; count--) {
+    else
+        subject.bytes[places[draw(COUNT(places))]] = values[draw(COUNT(values))];
+}
+
+/* Sets some values, changes some bytes, most of them of headers, and cuts some frames. */
+static void damage(void)
+{
+    for (uint64_t count = draw(3); count; count--)
+        set_value();
+    for (uint64_t count = draw(3); count; count--) {
         size_t end = draw(3) && subject.len > 80 ? 80 : subject.len;
         if (end)
-            subject.bytes[draw(end)] = (uint8_t)(draw(2) ? draw(256) : draw(2) ? draw(4) : 0xff);
+            subject.bytes[draw(end)] = (uint8_t)draw(256);
     }
     if (!draw(8))
         subject.len -= draw(2) ? draw(subject.len + 1) : draw(subject.len < 20 ? subject.len + 1 : 20);
