@@ -66,7 +66,7 @@ static void write_word(size_t at, size_t word)
 
 static int is_of_type(size_t type) { return subject.len >= 14 && word_at(12) == type; }
 
-/* Inserts IPv4 options of no operation, an IPv6 extension header, or a VLAN tag. */
+/* Inserts IPv4 options of no operation, an IPv6 extension header, or VLAN tags. */
 static void lengthen(void)
 {
     static const uint8_t extensions[] = {0, 43, 44, 51, 60, 135};
@@ -87,22 +87,37 @@ static void lengthen(void)
         subject.bytes[20] = extensions[draw(sizeof extensions)];
         write_word(18, word_at(18) + 8);
     } else {
-        insert(12, 4);
-        write_word(12, 0x8100);
+        for (uint64_t count = 1 + draw(3); count; count--) {
+            insert(12, 4);
+            write_word(12, 0x8100);
+        }
     }
 }
 
-/* Changes some bytes, most of them of headers, and some words to what calls look for. */
-static void damage(void)
+/* Sets a word or a byte of a header to a value that calls look for: of protocols, types, flags, ports and addresses. */
+static void set_value(void)
 {
     static const uint16_t words[] = {0, 0xffff, 2, 10, 24, 770, 803, 824, 22, 53, 54, 1024, 1500, 0x0800, 0x0806, 0x86dd,
                                      0x8100, 0x88a8, 0x9100, 0x2000, 0x4000};
-    for (uint64_t count = draw(3); count && subject.len >= 64; count--)
+    static const uint8_t values[] = {0, 1, 2, 3, 4, 6, 8, 11, 12, 13, 16, 17, 18, 19, 20, 44, 58, 127, 128, 137, 224, 240, 255};
+    static const uint8_t places[] = {20, 21, 22, 23, 26, 30, 34, 35, 46, 47, 51, 54, 55, 62, 67};
+    if (subject.len < 68)
+        return;
+    if (draw(2))
         write_word(2 * draw(30), words[draw(COUNT(words))]);
-    for (uint64_t count = draw(4); count; count--) {
+    else
+        subject.bytes[places[draw(COUNT(places))]] = values[draw(COUNT(values))];
+}
+
+/* Sets some values, changes some bytes, most of them of headers, and cuts some frames. */
+static void damage(void)
+{
+    for (uint64_t count = draw(3); count; count--)
+        set_value();
+    for (uint64_t count = draw(3); count; count--) {
         size_t end = draw(3) && subject.len > 80 ? 80 : subject.len;
         if (end)
-            subject.bytes[draw(end)] = (uint8_t)(draw(2) ? draw(256) : draw(2) ? draw(4) : 0xff);
+            subject.bytes[draw(end)] = (uint8_t)draw(256);
     }
     if (!draw(8))
         subject.len -= draw(2) ? draw(subject.len + 1) : draw(subject.len < 20 ? subject.len + 1 : 20);
@@ -148,7 +163,7 @@ static void draw_subject(void)
     if (!draw(8))
         leave_checksum();
     subject.number = drawn;
-    subject.now += draw(8) ? draw(1000) : draw(400000);
+    subject.now += draw(256) ? draw(20) : draw(400000);
 }
 
 /* What a call returns and writes. The mappings of a NAT stay from call to call. */
