@@ -1058,6 +1058,8 @@ size_t lk_expire(struct lk_partial *partials, size_t count, const uint8_t *memor
  * - lk_read_frame must read the IP header. Of TCP, UDP or ICMP only the bytes up to the checksum field must be there,
  *   also in the first of several fragments. Append zeros to a packet that was cut, up to its length: only
  *   lk_fill_checksum needs the bytes themselves.
+ * - IPv6 extension headers are stepped through, as lk_read_frame does, up to the header of a fragment. They are not
+ *   changed. Not supported: a Home Address option (RFC 6275), whose address the checksum covers instead of the source.
  * - Of the Ethernet header only the EtherType is used. For a frame with VLAN tags give `frame + link.offset - 14`, where
  *   `link` is that of lk_read_link. lk_clamp_mss takes these too.
  * - No packet is copied for this: of any other link type give `packet - 14`, after the EtherType, 0x0800 or 0x86DD, was
@@ -1079,8 +1081,9 @@ int lk_set_dscp(uint8_t *frame, size_t len, uint8_t dscp);
  * found:
  *
  * - TCP, UDP or ICMP is cut, or the length of UDP is below 8.
- * - There is an authentication header, or one of these IPv6 extension headers: hop-by-hop options, routing, destination
- *   options, or a fragment header other than the first header after the IPv6 header.
+ * - There is an authentication header: an edit would make it invalid.
+ * - lk_read_frame rejects an IPv6 extension header: it is cut, hop-by-hop options are not the first, or a routing header
+ *   has segments left. Or another one follows the header of a fragment.
  * - It is DCCP (33), OSPF (89), VRRP (112), UDP-Lite (136) or HIP (139), or over IPv6 PIM (103) or Mobility (135).
  *
  * Of a fragment that is not the first, only the IP header is updated. */
@@ -1097,7 +1100,7 @@ int lk_set_port_as(uint8_t *frame, size_t len, int side, uint16_t port, int offl
  *
  * - the Ethernet header,
  * - the version, lengths, identification, flags, fragment offset, protocol and checksum of the IPv4 header,
- * - the version, payload length and next header of the IPv6 header, and a fragment header right after it,
+ * - the version, payload length and next header of the IPv6 header, and its extension headers,
  * - the transport checksum, the data offset of TCP, and the length of UDP,
  * - the payload of a fragment that is not the first, whose checksum is in the first one,
  * - all from the addresses to the end of the packet, if a checksum covers the addresses and is not found (lk_set_addr). */

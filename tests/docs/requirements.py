@@ -25,7 +25,7 @@ SHOWN = re.compile(r"net_base|(?:ip|app|wire)_\w+")
 # The crates that use the layer through `ip_wire` only. They may name the formats beside `ip_wire` too. Crates with tests or
 # needs of the layer name what they test, so that they are proved early.
 ABOVE = re.compile(r"ip_(?!wire\b)\w+|app_\w+|promises|needs_(?!layer\b)\w+|test_(?!wire\b|support\b)\w+")
-BESIDE = ("wire_icmp", "wire_link")
+BESIDE = ("wire_icmp", "wire_link", "wire_extensions")
 TEST_FUNCTION = re.compile(r"#\[test\]\n(?: *#.*\n)* *fn (\w+)\(")
 # A function that allocates is given an allocator, and returns one of these types.
 ALLOCATES = re.compile(r"\b(alloc|AllocError|HostRuntime|Vec|String|Box|Rc|Arc)\b")

@@ -67,7 +67,7 @@ __attribute__((constructor)) static void choose(void)
         "an error about a dropped packet",
         "the number in the IPv6 header as that after extension headers", "a route with segments left as complete",
         "hop-by-hop options in any place", "an atomic fragment as a fragment",
-        "the length of an authentication header in units of 8 bytes",
+        "the length of an authentication header in units of 8 bytes", "an address before a route with segments left written",
     };
     const char *number = getenv("FAULT");
     fault = number ? (enum fault)atoi(number) : NO_FAULT;

@@ -42,6 +42,17 @@ static int set_addr_of_udp_lite(uint8_t *frame, size_t len, int side, const stru
     return result;
 }
 
+/* A packet with segments left is edited as one without. */
+static int set_addr_before_route(uint8_t *frame, size_t len, int side, const struct lk_addr *addr, uint8_t *segments)
+{
+    const uint8_t left = *segments;
+    int result;
+    *segments = 0;
+    result = __real_lk_set_addr(frame, len, side, addr);
+    *segments = left;
+    return result;
+}
+
 /* A checksum that is left to the device is updated as one that is computed. */
 int __wrap_lk_set_addr(uint8_t *frame, size_t len, int side, const struct lk_addr *addr)
 {
@@ -51,6 +62,8 @@ int __wrap_lk_set_addr(uint8_t *frame, size_t len, int side, const struct lk_add
     uint16_t sum = is_left ? (uint16_t)(frame[at] << 8 | frame[at + 1]) : 0;
     if (fault == UDP_LITE_LEFT && f.network >= LK_IPV4 && f.ip.protocol == 136)
         return set_addr_of_udp_lite(frame, len, side, addr);
+    if (fault == SEGMENTS_LEFT_EDITED && f.reason == LK_HOPS_LEFT)
+        return set_addr_before_route(frame, len, side, addr, frame + f.payload_offset + 3);
     result = __real_lk_set_addr(frame, len, side, addr);
     if (is_left && result == 1) {
         sum = lk_update_checksum_addr(sum, side == LK_SOURCE ? &f.src.addr : &f.dst.addr, addr);

@@ -90,6 +90,10 @@ int model_read_captured(const uint8_t *ptr, size_t captured, size_t len, struct 
 int model_read_captured_packet(const uint8_t *ptr, size_t captured, size_t len, struct lk_frame *frame);
 int model_read_linktype(uint32_t link_type, const uint8_t *ptr, size_t captured, size_t len, struct lk_frame *frame);
 
+/* Whether this is the number of an IPv6 extension header; the length of one by its first 8 bytes. */
+int is_extension(unsigned protocol);
+size_t extension_len(unsigned protocol, const uint8_t *ptr);
+
 /* ---- model_link.c ---- */
 
 /* Finds a link-layer header in the `known` first bytes, and returns its reason. `needed` is how many bytes it needs at

@@ -8,7 +8,7 @@ enum carried { SEGMENT, OTHER, LATER_FRAGMENT, HIDDEN };
 struct parts {
     int is_ipv6;
     size_t addrs, addrs_end;
-    size_t start, end;    /* of what the IP header carries, after a fragment header that follows an IPv6 header */
+    size_t start, end;    /* of what the IP header carries, after IPv6 extension headers */
     unsigned protocol;
     enum carried carried;
     size_t sum;           /* the field of the transport checksum */
@@ -50,11 +50,31 @@ static void find_sum(const uint8_t *octets, struct parts *parts, int has_more)
     }
 }
 
+/* Steps through the extension headers of an IPv6 packet, up to the header of a fragment (RFC 8200, section 4), whose place
+ * it stores. Returns 0 if one is rejected, or is an authentication header. */
+static int step_through(const uint8_t *octets, struct parts *parts, unsigned *place)
+{
+    int is_known = 1;
+    while (*place == 0 && is_extension(parts->protocol)) {
+        const uint8_t *header = octets + parts->start;
+        size_t left = parts->end - parts->start, header_len = left < 8 ? 8 : extension_len(parts->protocol, header);
+        if (left < header_len || (parts->protocol == 43 && header[3] > 0) || (parts->protocol == 0 && parts->start > 54))
+            return 0;
+        is_known = is_known && parts->protocol != 51;
+        if (parts->protocol == 44)
+            *place = get_word(header + 2) & 0xfff9;
+        parts->protocol = header[0];
+        parts->start += header_len;
+    }
+    return is_known;
+}
+
 /* Whether lk_read_frame reads the IP header. */
 static int find_parts(const uint8_t *octets, size_t len, struct parts *parts)
 {
     struct lk_frame frame;
     unsigned place = 0; /* of a fragment: 8 bytes times offset, and the flag of more fragments */
+    int is_hidden = 0;
     model_read_plain(octets, used_len(len), &frame);
     memset(parts, 0, sizeof *parts);
     if (frame.network != LK_IPV4 && frame.network != LK_IPV6)
@@ -64,11 +84,7 @@ static int find_parts(const uint8_t *octets, size_t len, struct parts *parts)
         parts->addrs = 22, parts->addrs_end = parts->start = 54;
         parts->end = 54u + get_word(octets + 18);
         parts->protocol = octets[20];
-        if (parts->protocol == 44 && parts->end >= 62) {
-            parts->protocol = octets[54];
-            place = get_word(octets + 56) & 0xfff9;
-            parts->start = 62;
-        }
+        is_hidden = !step_through(octets, parts, &place);
     } else {
         parts->addrs = 26, parts->addrs_end = 34;
         parts->start = 14u + 4u * (octets[14] & 15);
@@ -76,7 +92,9 @@ static int find_parts(const uint8_t *octets, size_t len, struct parts *parts)
         parts->protocol = octets[23];
         place = (get_word(octets + 20) & 0x1fff) << 3 | (octets[20] >> 5 & 1);
     }
-    if (place > 7)
+    if (is_hidden)
+        parts->carried = HIDDEN;
+    else if (place > 7)
         parts->carried = LATER_FRAGMENT;
     else
         find_sum(octets, parts, place & 1);

@@ -278,7 +278,7 @@ static void read_fragment_header(struct lk_frame *frame, struct part part)
 }
 
 /* RFC 8200, sections 4.3 to 4.6; RFC 4302, section 2.2. */
-static size_t extension_len(unsigned protocol, const uint8_t *ptr)
+size_t extension_len(unsigned protocol, const uint8_t *ptr)
 {
     switch (protocol) {
     case 0:
@@ -292,7 +292,7 @@ static size_t extension_len(unsigned protocol, const uint8_t *ptr)
     }
 }
 
-static int is_extension(unsigned protocol)
+int is_extension(unsigned protocol)
 {
     return protocol == 0 || protocol == 43 || protocol == 44 || protocol == 51 || protocol == 60;
 }

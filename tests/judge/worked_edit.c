@@ -174,6 +174,36 @@ static const struct edit edited[] = {
     {&udp6_fragment, {{54, 44}}, ADDR, 1, "2001:db8::7", 0, {{0, 0}}},
     {&udp6_fragment, {{54, 44}}, BYTES, 22, "01", 0, {{0, 0}}},
     {&udp6_fragment, {{54, 44}}, BYTES, 16, "01", 0, {{16, 1}}},
+    /* IPv6 extension headers */
+    {&udp6_extended, {{0, 0}}, HOP_LIMIT, 0, 0, 1, {{21, 0x01}}},
+    {&udp6_extended, {{0, 0}}, ADDR, 0, "2001:db8::7", 0, {{37, 0x07}, {69, 0xf5}}},
+    {&udp6_extended, {{0, 0}}, PORT, 0, 0, 0x1234, {{62, 0x12}, {63, 0x34}, {68, 0x6b}, {69, 0xf9}}},
+    {&udp6_extended, {{0, 0}}, BYTES, 70, "f100f3", 0, {{68, 0x4d}, {69, 0xed}, {71, 0x00}}},
+    {&udp6_extended, {{0, 0}}, BYTES, 58, "01", 0, {{0, 0}}}, /* an option */
+    {&udp6_extended, {{68, 0}, {69, 0}}, FILL, 0, 0, 0, {{68, 0x4c}, {69, 0xfb}}},
+    {&tcp6_extended, {{0, 0}}, ADDR, 1, "2001:db8:1::7", 0, {{43, 0x01}, {53, 0x07}, {127, 0x11}}},
+    {&tcp6_extended, {{0, 0}}, PORT, 1, 0, 53, {{112, 0x00}, {113, 0x35}, {126, 0xb9}, {127, 0x26}}},
+    {&tcp6_extended, {{0, 0}}, BYTES, 130, "f100f3", 0, {{126, 0x77}, {127, 0x09}, {131, 0x00}}},
+    {&tcp6_extended, {{126, 0}, {127, 0}}, FILL, 0, 0, 0, {{126, 0x76}, {127, 0x17}}},
+    {&echo6_extended, {{0, 0}}, ADDR, 0, "2001:db8::7", 0, {{37, 0x07}, {73, 0x16}}},
+    {&echo6_extended, {{0, 0}}, BYTES, 78, "f100f3", 0, {{72, 0x2e}, {73, 0x0e}, {79, 0x00}}},
+    {&echo6_extended, {{72, 0}, {73, 0}}, FILL, 0, 0, 0, {{72, 0x2d}, {73, 0x1c}}},
+    {&udp6_extended_first, {{0, 0}}, ADDR, 1, "2001:db8:1::7", 0, {{43, 0x01}, {53, 0x07}, {77, 0x06}}},
+    {&udp6_extended_first, {{0, 0}}, PORT, 1, 0, 53, {{72, 0x00}, {73, 0x35}, {76, 0xb2}, {77, 0x19}}},
+    {&udp6_extended_first, {{0, 0}}, FILL, 0, 0, 0, {{0, 0}}},
+    {&udp6_extended_later, {{0, 0}}, ADDR, 1, "2001:db8:1::7", 0, {{43, 0x01}, {53, 0x07}}},
+    {&udp6_extended_later, {{0, 0}}, PORT, 1, 0, 53, {{0, 0}}},
+    /* segments left; hop-by-hop options after a routing header; a header longer than the packet; authentication */
+    {&tcp6_extended, {{65, 1}}, ADDR, 1, "2001:db8:1::7", 0, {{0, 0}}},
+    {&tcp6_extended, {{65, 1}}, PORT, 1, 0, 53, {{0, 0}}},
+    {&tcp6_extended, {{65, 1}}, FILL, 0, 0, 0, {{0, 0}}},
+    {&tcp6_extended, {{65, 1}}, HOP_LIMIT, 0, 0, 1, {{21, 0x01}}},
+    {&tcp6_extended, {{20, 60}, {62, 0}}, PORT, 1, 0, 53, {{0, 0}}},
+    {&udp6_extended, {{55, 2}}, ADDR, 0, "2001:db8::7", 0, {{0, 0}}},
+    {&udp6_authenticated, {{0, 0}}, ADDR, 0, "2001:db8::7", 0, {{0, 0}}},
+    {&udp6_authenticated, {{0, 0}}, PORT, 0, 0, 0x1234, {{0, 0}}},
+    {&udp6_authenticated, {{0, 0}}, BYTES, 94, "f100f3", 0, {{0, 0}}},
+    {&udp6_authenticated, {{0, 0}}, FILL, 0, 0, 0, {{0, 0}}},
 };
 
 /* What the caller says of the checksum. LK_GUESS updates one that is left to the device and looks valid, and makes a wrong

@@ -17,7 +17,7 @@ GROUPS = {
     "wire_tcp": "TCP", "wire_tcp_options": "TCP options and sequence numbers", "wire_checksum": "Checksums",
     "wire_addr": "Addresses, CIDR blocks, endpoints and protocol numbers",
     "wire_icmp": "ICMP and neighbor discovery", "app_short": "Short applications",
-    "wire_link": "Link-layer headers", "app_host": "Host",
+    "wire_link": "Link-layer headers", "wire_extensions": "IPv6 extension headers", "app_host": "Host",
     "app_router": "Router", "app_nat": "NAT", "app_edit": "Edits of a field",
     "app_fragment": "Fragments",
 }

@@ -1,5 +1,5 @@
 -- What the places in a frame tell of its bytes.
-use Rattle.std.proofs.Common.{ℕ, ◌≡◌, ◌+◌, ◌≤◌, ◌==◌, ◌&&◌, ◌||◌, Bool, List, None, Some, arith, drop, false, if◌then◌else◌, length, min, nat_le, nat_lt, not, refl, slice_index, subst, true}
+use Rattle.std.proofs.Common.{ℕ, ◌≡◌, ◌+◌, ◌≤◌, ◌==◌, ◌&&◌, ◌||◌, Bool, List, None, Some, arith, drop, false, if◌then◌else◌, is_some, length, min, nat_le, nat_lt, not, refl, slice_index, subst, true}
 use Rattle.std.proofs.lemmas.Bool.Decides.{nat_tests}
 use Rattle.ip_wire.proofs.Readings.{if-Some}
 use Rattle.ip_wire.specs.Ethernet as ethernet
@@ -11,7 +11,9 @@ use Rattle.ip_wire.specs.Types.{EthernetProtocol, IpProtocol}
 use Rattle.ip_wire.specs.declared.EthernetProtocol.TheVariants as ethertype
 use Rattle.ip_wire.specs.declared.IpProtocol.TheVariants as protocol
 use Rattle.ip_wire.specs.declared.IpVersion.TheVariants as version
-use Rattle.app_edit.specs.Places.{carried_by, covers_addresses, datagram_at, datagram_len, fragment_carried, has_checksum, hides_next, ipv4_carried, is_ipv4, places_after, places_by, places_of}
+use Rattle.wire_extensions.specs.Chain.{end_of, ends_at_part}
+use Rattle.wire_extensions.specs.declared.chain.Chain.{Chain}
+use Rattle.app_edit.specs.Places.{carried_by, covers_addresses, datagram_at, datagram_len, extensions, has_checksum, hides_next, ipv4_carried, is_ipv4, is_later, number_after, places_after, places_by, places_of}
 use Rattle.app_edit.specs.declared.places.Carried.{Carried}
 use Rattle.app_edit.specs.declared.places.Carried.TheVariants as carried
 use Rattle.app_edit.specs.declared.places.Places.{Places}
@@ -75,27 +77,22 @@ tells-ipv4 xs p is =
       header = λ four. (refl, four-is _ _ (ipv4.ip_version_of bytes) both.0);
     })
 
-tells-after : (q : IpProtocol) (xs : List ℕ) (len : ℕ) → Tells xs (places_after xs q len)
-tells-after protocol.Ipv6Frag xs len = of-fragment (nat_le 48 len)
-  where
-    of-fragment : (b : Bool)
-        → Tells xs (if b then record { version = version.Ipv6; start = 62; end = 14 + len; carried = fragment_carried xs (14 + len) }
-        else record { version = version.Ipv6; start = 54; end = 14 + len; carried = carried_by xs false protocol.Ipv6Frag 54 (14 + len) true })
-    of-fragment true = record {
+tells-after : (xs : List ℕ) (c : Chain) (end : ℕ) → Tells xs (places_after xs c end)
+tells-after xs c end =
+    let next = carried_by xs false (protocol_of (number_after xs c)) (54 + end_of c) end (not (ends_at_part c.fragment)) in
+    record {
       carries =
-          let bytes = drop 56 xs in
-          by-test false xs (field bytes 0 13 == 0) (carried_by xs false (protocol_of (slice_index xs 54)) 62 (14 + len) (not (field bytes 15 1 == 1))) carried.Fragment
-          (carries-by (protocol_of (slice_index xs 54)) false xs 62 (14 + len) (not (field bytes 15 1 == 1))) tt;
+          by-test false xs (is_some c.fault || c.is_authenticated) carried.Hidden (if is_later c.fragment then carried.Fragment else next) tt
+          (by-test false xs (is_later c.fragment) carried.Fragment next tt
+          (carries-by (protocol_of (number_after xs c)) false xs (54 + end_of c) end (not (ends_at_part c.fragment))));
       header = λ four. absurd (cc);
     }
-    of-fragment false = record { carries = carries-by protocol.Ipv6Frag false xs 54 (14 + len) true; header = λ four. absurd (cc) }
-tells-after q xs len = record { carries = carries-by q false xs 54 (14 + len) true; header = λ four. absurd (cc) }
 
 tells-ipv6 : (xs : List ℕ) (p : Places) → places_by ethertype.Ipv6 xs ≡ Some p → Tells xs p
 tells-ipv6 xs p is =
-    let q = protocol_of (field (drop 14 xs) 48 8) in
-    let len = ipv6.total_len (drop 14 xs) in
-    subst (Tells xs) ((if-Some (ipv6.is_read (drop 14 xs)) (places_after xs q len) p).0 is).1 (tells-after q xs len)
+    let end = 14 + ipv6.total_len (drop 14 xs) in
+    let c = extensions xs (field (drop 14 xs) 48 8) end in
+    subst (Tells xs) ((if-Some (ipv6.is_read (drop 14 xs)) (places_after xs c end) p).0 is).1 (tells-after xs c end)
 
 by-type : (b : Bool) (e : EthernetProtocol) (xs : List ℕ) (p : Places) → (if b then None else places_by e xs) ≡ Some p → Tells xs p
 by-type false ethertype.Ipv4 xs p is = tells-ipv4 xs p is

@@ -1,4 +1,5 @@
 mod Covers
+mod Direct
 mod Found
 mod Kept
 pub mod Layouts

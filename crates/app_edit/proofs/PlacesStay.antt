@@ -1,5 +1,6 @@
 -- An edit keeps the places in a frame, and each byte but those that it writes and the checksums.
 use Rattle.std.proofs.Common.{ℕ, ◌≡◌, ◌∙◌, ◌+◌, ◌/◌, ◌≤◌, ◌<◌, ◌&&◌, Bool, List, [], ◌∷◌, Some, ap, ap₂, arith, false, if◌then◌else◌, get_or, inl, inr, length, refl, slice_index, slice_range, subst, sym, true}
+use Rattle.std.proofs.lemmas.Bool.{cases_lt}
 use Rattle.std.proofs.lemmas.Bool.Decides.{nat_tests}
 use Rattle.std.proofs.lemmas.List.{get_or-drop}
 use Rattle.byteorder.specs.Endian.{big_bytes}
@@ -113,9 +114,10 @@ same-of : (o : Offload) (p : Places) (xs bytes : List ℕ) (at : ℕ) → Holds 
     → SameFirst p.version (slice_index xs 14) (slice_index (edited o p xs at bytes) 14)
     → ((k : ℕ) → k < 14 → IsOutside at (at + length bytes) k)
     → ((k : ℕ) → Locates p.version p.start k → IsOutside at (at + length bytes) k)
+    → (p.version ≡ version.Ipv6 → p.carried ≡ carried.Hidden → (k : ℕ) → 54 ≤ k → k < p.end → IsOutside at (at + length bytes) k)
     → ((whole : Bool) (k : ℕ) → p.carried ≡ datagram_at xs p.start p.end whole → p.start + 8 ≤ p.end → p.start + 4 ≤ k → k < p.start + 6 → IsOutside at (at + length bytes) k)
     → Same p xs (edited o p xs at bytes)
-same-of o p xs bytes at h room first link header datagram = record {
+same-of o p xs bytes at h room first link header hidden datagram = record {
   long = edited-length o p xs bytes at h room;
   first = first;
   link = λ k low.
@@ -124,6 +126,9 @@ same-of o p xs bytes at h room first link header datagram = record {
   header = λ k located.
       edited-byte o p xs bytes at k h room (header k located) (located-header p.version p.start k located)
       (carried-before p.carried p.version xs p.start k h.carried (located-start p.version p.start k h.header located));
+  hidden = λ six is k from to.
+      edited-byte o p xs bytes at k h room (hidden six is k from to) (header-after p.version k (omega (arith, from)))
+      (subst (λ (c : Carried). OutsideTransportChecksum c k) (sym is) tt);
   datagram = λ whole is fits.
       let byte : (k : ℕ) → p.start + 4 ≤ k → k < p.start + 6 → slice_index (edited o p xs at bytes) k ≡ slice_index xs k =
       λ k a b.
@@ -155,6 +160,11 @@ hidden-apart : (four : Bool) (at n start end k : ℕ) → is_apart at (at + n) (
 hidden-apart true at n start end k allowed least fits a b = grind (arith, nat_tests)
 hidden-apart false at n start end k allowed least fits a b = grind (arith, nat_tests)
 
+-- the edit is beside a packet that is hidden
+packet-apart : (four : Bool) (at n end k : ℕ) → is_apart at (at + n) (if four then ipv4_protocol else ipv6_src) end ≡ true → 54 ≤ k → k < end → IsOutside at (at + n) k
+packet-apart true at n end k allowed from to = grind (arith, nat_tests)
+packet-apart false at n end k allowed from to = grind (arith, nat_tests)
+
 length-apart : (at n start k : ℕ) → is_apart at (at + n) (start + 4) (start + 6 + 2) ≡ true → start + 4 ≤ k → k < start + 6 → IsOutside at (at + n) k
 length-apart at n start k allowed a b = grind (arith, nat_tests)
 
@@ -181,6 +191,8 @@ places-stay o p xs bytes at h is room allowed =
     places-same xs (edited o p xs at bytes) p is
     (same-of o p xs bytes at h room (same-first p.version (slice_index xs 14) (slice_index (edited o p xs at bytes) 14) first)
     (λ k low. link-apart p.version p.start at n k both.0 (omega (arith, low))) (λ k located. locates-apart p.version p.start at n k both.0 located)
+    (λ six hides k from to.
+    packet-apart (is_ipv4 p.version) at n p.end k (subst (λ (c : Carried). keeps_carried c p at (at + n) ≡ true) hides both.1) from to)
     (λ whole k carries fits a b.
     datagram-apart _ p _ _ at n k (subst (λ (c : Carried). keeps_carried c p at (at + n) ≡ true) carries both.1) (omega (arith, h.header, least)) fits a b))
 
@@ -195,19 +207,25 @@ header-places o p xs bytes at h is after before apart =
     in
     places-same xs (edited o p xs at bytes) p is
     (same-of o p xs bytes at h room (same-first p.version (slice_index xs 14) (slice_index (edited o p xs at bytes) 14) first)
-    (λ k low. inl (omega (arith, low, after))) apart (λ whole k carries fits a b. inr (omega (arith, before, a))))
+    (λ k low. inl (omega (arith, low, after))) apart (λ six hides k from to. beside six k from) (λ whole k carries fits a b. inr (omega (arith, before, a))))
+  where
+    beside : p.version ≡ version.Ipv6 → (k : ℕ) → 54 ≤ k → IsOutside at (at + length bytes) k
+    beside six k from = elim (cases_lt k p.start) [
+      | inl low ↦ apart k (subst (λ (v : IpVersion). Locates v p.start k) (sym six) (inr (from, low)))
+      | inr high ↦ inr (omega (arith, before, high))
+    ]
 
 -- an edit of the first four bytes of a transport header
 pub ports-places : (o : Offload) (p : Places) (xs bytes : List ℕ) (at : ℕ) → Holds p xs → places_of xs ≡ Some p → at + length bytes ≤ length xs → p.start ≤ at
-    → at + length bytes ≤ p.start + 4 → places_of (edited o p xs at bytes) ≡ Some p
-ports-places o p xs bytes at h is room after before =
+    → at + length bytes ≤ p.start + 4 → (p.version ≡ version.Ipv6 → p.carried ≡ carried.Hidden → (k : ℕ) → 54 ≤ k → k < p.end → IsOutside at (at + length bytes) k) → places_of (edited o p xs at bytes) ≡ Some p
+ports-places o p xs bytes at h is room after before hidden =
     let least = least-end p.version in
     let first = edited-byte o p xs bytes at 14 h room (inl (omega (arith, after, h.header, least))) (header-before p.version 14 (omega arith))
     (carried-before p.carried p.version xs p.start 14 h.carried (omega (arith, h.header, least)))
     in
     places-same xs (edited o p xs at bytes) p is
     (same-of o p xs bytes at h room (same-first p.version (slice_index xs 14) (slice_index (edited o p xs at bytes) 14) first)
-    (λ k low. inl (omega (arith, low, after, h.header, least))) (λ k located. inl (omega (arith, after, located-start p.version p.start k h.header located)))
+    (λ k low. inl (omega (arith, low, after, h.header, least))) (λ k located. inl (omega (arith, after, located-start p.version p.start k h.header located))) hidden
     (λ whole k carries fits a b. inr (omega (arith, before, a))))
 
 -- the hop limit
@@ -246,12 +264,17 @@ port-room side (carried.Segment s) v xs start at h is = omega (arith, h.0.least,
 port-room Source c v xs start at h is = absurd (cc)
 port-room Destination c v xs start at h is = absurd (cc)
 
+port-shown : {B : Type 0} (side : Side) (at : ℕ) → port_place side carried.Hidden ≡ Some at → B
+port-shown Source at is = absurd (cc)
+port-shown Destination at is = absurd (cc)
+
 pub port-places : (o : Offload) (p : Places) (xs : List ℕ) (side : Side) (at n : ℕ) → Holds p xs → places_of xs ≡ Some p → port_place side p.carried ≡ Some at
     → places_of (edited o p xs at (big_bytes 2 n)) ≡ Some p
 port-places o p xs side at n h is here =
     let within = port-in side p.carried p.version xs p.start at h.carried here in
     let room = port-room side p.carried p.version xs p.start at h.carried here in
     ports-places o p xs (big_bytes 2 n) at h is (omega (arith, within.1, room)) within.0 (omega (arith, within.1))
+    (λ six hides k from to. port-shown side at (subst (λ (c : Carried). port_place side c ≡ Some at) hides here))
 
 -- the DSCP
 first-same : (v : IpVersion) (x y n : ℕ) → x < 256 → y < 256 → SameFirst v x (get_or (with_dscp v (x ∷ y ∷ []) n) 0 0)
@@ -291,7 +314,7 @@ dscp-places o p xs n h is are =
     in
     places-same xs (edited o p xs 14 bytes) p is
     (same-of o p xs bytes 14 h room (subst (SameFirst v x) (sym first) (first-same v x y n (are 14) (are 15))) (λ k low. inl low)
-    (λ k located. inr (omega (arith, long, dscp-apart v p.start k located)))
+    (λ k located. inr (omega (arith, long, dscp-apart v p.start k located))) (λ six hides k from to. inr (omega (arith, long, from)))
     (λ whole k carries fits a b. inr (omega (arith, long, a, h.header, least)))))
 
 -- an address

@@ -213,7 +213,7 @@ abbrev pub is_apart : ℕ → ℕ → ℕ → ℕ → Bool
 is_apart at end first last = nat_le end first || nat_le last at || nat_le last first
 
 -- Whether an edit keeps the bytes of the headers that say where the layers are. IPv4: version and header length, total
--- length to fragment offset, protocol and checksum. IPv6: version, payload length and next header, fragment header.
+-- length to fragment offset, protocol and checksum. IPv6: version, payload length and next header, extension headers.
 abbrev pub keeps_header : IpVersion → ℕ → ℕ → ℕ → Bool
 keeps_header version.Ipv4 start at end = is_apart at end 0 version_end && is_apart at end ipv4_total_len ipv4_hop_limit && is_apart at end ipv4_protocol ipv4_src
 keeps_header version.Ipv6 start at end = is_apart at end 0 version_end && is_apart at end ipv6_payload_len ipv6_hop_limit && is_apart at end ipv6_end start

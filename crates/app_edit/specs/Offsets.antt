@@ -59,17 +59,9 @@ ipv6_src = 22
 abbrev pub ipv6_dst : ℕ
 ipv6_dst = 38
 
--- the end of an IPv6 header, where a fragment header may begin
+-- the end of an IPv6 header, where its extension headers begin
 abbrev pub ipv6_end : ℕ
 ipv6_end = 54
-
--- the bytes of a fragment header after the next header and a reserved byte
-abbrev pub fragment_view : ℕ
-fragment_view = 56
-
--- the end of a fragment header
-abbrev pub fragment_end : ℕ
-fragment_end = 62
 
 -- the data offset in a TCP header
 abbrev pub tcp_data_offset : ℕ

@@ -1,6 +1,6 @@
 -- Where the fields of a packet are in its Ethernet frame. All places count from the first byte of the frame.
 -- Pinned by: `worked/edit`
-use Rattle.std.specs.Prelude.{ℕ, ◌≡◌, ◌≤◌, ◌+◌, ◌%◌, ◌==◌, ◌&&◌, ◌||◌, not, nat_le, nat_lt, min, if◌then◌else◌, Bool, true, false, List, Option, None, Some, drop, length, slice_index}
+use Rattle.std.specs.Prelude.{ℕ, ◌≡◌, ◌≤◌, ◌+◌, ◌-◌, ◌%◌, ◌==◌, ◌&&◌, ◌||◌, not, nat_le, nat_lt, min, if◌then◌else◌, Bool, true, false, List, Option, None, Some, is_some, drop, length, slice_index, slice_range}
 use Rattle.byteorder.specs.Endian.{big_number}
 use Rattle.ip_wire.specs.Ethernet as ethernet
 use Rattle.ip_wire.specs.Field.{field}
@@ -11,8 +11,11 @@ use Rattle.ip_wire.specs.Types.{EthernetProtocol, IpProtocol, IpVersion}
 use Rattle.ip_wire.specs.declared.EthernetProtocol.TheVariants as ethertype
 use Rattle.ip_wire.specs.declared.IpProtocol.TheVariants as protocol
 use Rattle.ip_wire.specs.declared.IpVersion.TheVariants as version
+use Rattle.ip_wire.specs.declared.Ipv6FragmentRepr.{Ipv6FragmentRepr}
+use Rattle.wire_extensions.specs.Chain.{chain_of, end_of, ends_at_part}
+use Rattle.wire_extensions.specs.declared.chain.Chain.{Chain}
 use Rattle.app_edit.specs.Layout.{payload_end, payload_start}
-use Rattle.app_edit.specs.Offsets.{fragment_end, fragment_view, icmp_checksum, ip_header, ipv4_end, ipv4_src, ipv6_end, ipv6_src, tcp_checksum, udp_checksum, udp_len}
+use Rattle.app_edit.specs.Offsets.{icmp_checksum, ip_header, ipv4_end, ipv4_src, ipv6_end, ipv6_src, tcp_checksum, udp_checksum, udp_len}
 use Rattle.app_edit.specs.declared.places.Carried.{Carried}
 use Rattle.app_edit.specs.declared.places.Carried.TheVariants as carried
 use Rattle.app_edit.specs.declared.places.Places.{Places}
@@ -33,8 +36,9 @@ has_checksum over_ipv4 protocol.Icmp = over_ipv4
 has_checksum over_ipv4 protocol.Icmpv6 = not over_ipv4
 has_checksum over_ipv4 _ = false
 
--- whether it is the number of a header after which the transport packet is not looked for: the authentication header
--- (RFC 4302), and over IPv6 hop-by-hop options, routing, fragment, destination options (RFC 8200, section 4)
+-- Whether it is the number of a header after which the transport packet is not looked for: over IPv4 the authentication
+-- header (RFC 4302); over IPv6, after the header of a fragment, also hop-by-hop options, routing, fragment, destination
+-- options (RFC 8200, section 4).
 abbrev pub hides_next : Bool → IpProtocol → Bool
 hides_next over_ipv4 protocol.HopByHop = not over_ipv4
 hides_next over_ipv4 protocol.Ipv6Route = not over_ipv4
@@ -110,24 +114,37 @@ ipv4_places frame =
     if ipv4.is_read false (drop ip_header frame) then Some (record { version = version.Ipv4; start = start; end = end; carried = ipv4_carried frame start end })
     else None
 
--- what an IPv6 packet with a fragment header right after the IPv6 header carries (RFC 8200, section 4.5)
-abbrev pub fragment_carried : List ℕ → ℕ → Carried
-fragment_carried frame end =
-    if field (drop fragment_view frame) 0 13 == 0 then carried_by frame false (protocol_of (slice_index frame ipv6_end)) fragment_end end (not (field (drop fragment_view frame) 15 1 == 1))
-    else carried.Fragment
+-- the extension headers of an IPv6 packet that ends at `end`, from this protocol on
+abbrev pub extensions : List ℕ → ℕ → ℕ → Chain
+extensions frame number end = chain_of number (end - ipv6_end) (slice_range frame ipv6_end end)
 
--- the places of an IPv6 packet with this next header and length in bytes; header and fragment header take 48
-abbrev pub places_after : List ℕ → IpProtocol → ℕ → Places
-places_after frame protocol.Ipv6Frag len =
-    if nat_le 48 len then record { version = version.Ipv6; start = fragment_end; end = ip_header + len; carried = fragment_carried frame (ip_header + len) }
-    else record { version = version.Ipv6; start = ipv6_end; end = ip_header + len; carried = carried_by frame false protocol.Ipv6Frag ipv6_end (ip_header + len) true }
-places_after frame p len = record { version = version.Ipv6; start = ipv6_end; end = ip_header + len; carried = carried_by frame false p ipv6_end (ip_header + len) true }
+-- whether the last fragment header of a chain, if there is one, is that of a fragment other than the first
+abbrev pub is_later : Option Ipv6FragmentRepr → Bool
+is_later None = false
+is_later (Some v) = not (v.frag_offset == 0)
+
+-- the number of what follows a chain, also after the header of a fragment (RFC 8200, section 4.5)
+abbrev pub number_after : List ℕ → Chain → ℕ
+number_after frame c = if ends_at_part c.fragment then slice_index frame (ipv6_end + c.len) else c.protocol
+
+-- What an IPv6 packet with these extension headers carries. It is hidden after a header that is rejected, and after an
+-- authentication header, whose value an edit would make wrong.
+abbrev pub carried_after : List ℕ → Chain → ℕ → Carried
+carried_after frame c end =
+    if is_some c.fault || c.is_authenticated then carried.Hidden
+    else if is_later c.fragment then carried.Fragment
+    else carried_by frame false (protocol_of (number_after frame c)) (ipv6_end + end_of c) end (not (ends_at_part c.fragment))
+
+-- the places of an IPv6 packet with these extension headers that ends at `end`
+abbrev pub places_after : List ℕ → Chain → ℕ → Places
+places_after frame c end = record { version = version.Ipv6; start = ipv6_end + end_of c; end = end; carried = carried_after frame c end }
 
 -- the places in a frame with the EtherType of IPv6, if its header parses
 abbrev pub ipv6_places : List ℕ → Option Places
 ipv6_places frame =
     let bytes = drop ip_header frame in
-    if ipv6.is_read bytes then Some (places_after frame (protocol_of (field bytes 48 8)) (payload_end version.Ipv6 bytes)) else None
+    let end = ip_header + payload_end version.Ipv6 bytes in
+    if ipv6.is_read bytes then Some (places_after frame (extensions frame (field bytes 48 8) end) end) else None
 
 -- the places in a frame with this EtherType
 abbrev pub places_by : EthernetProtocol → List ℕ → Option Places

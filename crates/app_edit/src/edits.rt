@@ -175,7 +175,7 @@ fn port_place(side: Side, carried: Carried) -> Option<usize>
 ///
 /// - the Ethernet header;
 /// - the version and header length, the total length to the fragment offset, protocol and checksum of IPv4;
-/// - the version, payload length and next header of IPv6, and a fragment header right after it;
+/// - the version, payload length and next header of IPv6, and its extension headers;
 /// - the transport checksum, the data offset of TCP, the length of UDP;
 /// - the payload of a later fragment;
 /// - all from the addresses on, if the transport checksum is not found (`Carried::Hidden`).

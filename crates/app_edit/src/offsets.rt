@@ -33,12 +33,6 @@ pub(crate) const IPV6_DST: usize = IP_HEADER + 24;
 
 pub(crate) const IPV6_END: usize = IP_HEADER + IPV6_HEADER_LEN;
 
-pub(crate) const FRAGMENT_HEADER_LEN: usize = 8;
-/// The bytes that a view of an IPv6 fragment header borrows: those after the next header and a reserved byte.
-pub(crate) const FRAGMENT_VIEW: usize = IPV6_END + 2;
-
-pub(crate) const FRAGMENT_END: usize = IPV6_END + FRAGMENT_HEADER_LEN;
-
 pub(crate) const TCP_DATA_OFFSET: usize = 12;
 
 pub(crate) const TCP_CHECKSUM: usize = 16;

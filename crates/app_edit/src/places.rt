@@ -2,19 +2,25 @@
 
 ghost use Rattle.std.specs.Prelude.{◌≡◌, ◌≤◌, ◌+◌, ◌%◌, ◌^◌, IfSome, length};
 ghost use Rattle.app_edit.specs.Places as place;
-ghost use Rattle.app_edit.specs.Places.{Holds, HoldsCarried, addresses_end, checksum_offset, checksum_place, covers_addresses, has_checksum, hides_next, is_ipv4, places_of};
+ghost use Rattle.app_edit.specs.Places.{Holds, HoldsCarried, addresses_end, checksum_offset, checksum_place, covers_addresses, extensions, has_checksum, hides_next, is_ipv4, is_later, places_of};
+ghost use Rattle.wire_extensions.specs.Chain.{begun, end_of};
 ghost use Rattle.ip_wire.specs.declared.IpVersion.TheVariants as version;
 
 use crate::layout::Layout;
-use crate::offsets::{
-    FRAGMENT_END, FRAGMENT_HEADER_LEN, FRAGMENT_VIEW, ICMP_CHECKSUM, IPV6_END, TCP_CHECKSUM,
-    UDP_CHECKSUM, UDP_LEN,
-};
+use crate::offsets::{ICMP_CHECKSUM, IPV6_END, TCP_CHECKSUM, UDP_CHECKSUM, UDP_LEN};
 use byteorder::{ByteOrder, NetworkEndian};
 use ip_wire::{
-    ETHERNET_HEADER_LEN, EthernetFrame, EthernetProtocol, IPV6_HEADER_LEN, IpProtocol, IpVersion,
-    Ipv4Packet, Ipv6FragmentHeader, Ipv6Packet, UDP_HEADER_LEN,
+    ETHERNET_HEADER_LEN, EthernetFrame, EthernetProtocol, IpProtocol, IpVersion, Ipv4Packet,
+    Ipv6FragmentRepr, Ipv6Packet, UDP_HEADER_LEN,
 };
+use wire_extensions::Chain;
+
+// The numbers of the usual transports over IPv6.
+const TCP: u8 = 6;
+
+const UDP: u8 = 17;
+
+const ICMPV6: u8 = 58;
 
 /// A transport packet whose checksum field is in the frame. All places count from the first byte of the frame.
 #[derive(Debug, Clone, Copy, PartialEq, Eq)]
@@ -38,10 +44,10 @@ pub enum Carried {
     Other,
     /// A fragment that is not the first. The checksum of its bytes is in the first one.
     Fragment,
-    /// A transport packet whose checksum covers the addresses, and is not found: it is cut, the length of UDP is below 8,
-    /// it is of another protocol (DCCP, OSPF, VRRP, UDP-Lite, HIP, and over IPv6 PIM and Mobility), or there is an
-    /// authentication header or an IPv6 extension header before it, other than one fragment header right after the IPv6
-    /// header.
+    /// A transport packet whose checksum covers the addresses, and is not found or not updated: it is cut, the length of
+    /// UDP is below 8, or it is of another protocol (DCCP, OSPF, VRRP, UDP-Lite, HIP, and over IPv6 PIM and Mobility).
+    /// Or it follows an authentication header, or an IPv6 extension header that is rejected: one that is cut, hop-by-hop
+    /// options that are not the first header, a routing header with segments left, or any after the header of a fragment.
     Hidden,
 }
 
@@ -49,7 +55,7 @@ pub enum Carried {
 #[derive(Debug, Clone, Copy, PartialEq, Eq)]
 pub struct Places {
     pub version: IpVersion,
-    /// The end of the IP header, or of the fragment header that follows an IPv6 header.
+    /// The end of the IP header and of the extension headers that follow an IPv6 header.
     pub start: usize,
     /// The end of the packet. Later bytes are padding.
     pub end: usize,
@@ -159,56 +165,96 @@ fn ipv6_places(frame: &[u8]) -> Option<Places>
     if packet.version() != 6 {
         return None;
     }
-    let layout = Layout::of(IpVersion::Ipv6, bytes);
-    Some(places_after(frame, packet.next_header(), layout.end))
+    let end = ETHERNET_HEADER_LEN + Layout::of(IpVersion::Ipv6, bytes).end;
+    Some(places_of_number(frame, bytes[6], end))
 }
 
-// The places of an IPv6 packet with this next header and length.
-fn places_after(frame: &[u8], protocol: IpProtocol, len: usize) -> Places
-    requires header { 40 ≤ len }
-    requires ends { 14 + len ≤ length frame.now }
-    ensures value { result ≡ place.places_after frame.now protocol len }
+// The places of an IPv6 packet with this next header that ends at `end`. The usual transports are compared first.
+fn places_of_number(frame: &[u8], number: u8, end: usize) -> Places
+    requires header { 54 ≤ end }
+    requires ends { end ≤ length frame.now }
+    ensures value { result ≡ place.places_after frame.now (extensions frame.now number end) end }
+    ensures holds { Holds result frame.now }
+{
+    match number {
+        TCP | UDP | ICMPV6 => direct_places(frame, number, end),
+        _ => places_after(frame, number, end),
+    }
+}
+
+// The places of an IPv6 packet without extension headers.
+#[inline(always)]
+fn direct_places(frame: &[u8], number: u8, end: usize) -> Places
+    requires header { 54 ≤ end }
+    requires ends { end ≤ length frame.now }
+    ensures value { result ≡ place.places_after frame.now (begun number) end }
     ensures holds { Holds result frame.now }
 {
     let version = IpVersion::Ipv6;
-    let end = ETHERNET_HEADER_LEN + len;
-    match protocol {
-        IpProtocol::Ipv6Frag if len >= IPV6_HEADER_LEN + FRAGMENT_HEADER_LEN => Places {
-            version,
-            start: FRAGMENT_END,
-            end,
-            carried: fragment_carried(frame, end),
-        },
-        _ => Places {
-            version,
-            start: IPV6_END,
-            end,
-            carried: carried_by(frame, version, protocol, IPV6_END, end, true),
-        },
+    let protocol = IpProtocol::from(number);
+    Places {
+        version,
+        start: IPV6_END,
+        end,
+        carried: carried_by(frame, version, protocol, IPV6_END, end, true),
     }
 }
 
-// What an IPv6 packet with a fragment header right after the IPv6 header carries.
-fn fragment_carried(frame: &[u8], end: usize) -> Carried
-    requires begins { 62 ≤ end }
+// The places of an IPv6 packet that may have extension headers.
+#[inline(never)]
+fn places_after(frame: &[u8], number: u8, end: usize) -> Places
+    requires header { 54 ≤ end }
     requires ends { end ≤ length frame.now }
-    ensures value { result ≡ place.fragment_carried frame.now end }
-    ensures holds { HoldsCarried result version.Ipv6 62 frame.now }
+    ensures value { result ≡ place.places_after frame.now (extensions frame.now number end) end }
+    ensures holds { Holds result frame.now }
 {
-    let header = Ipv6FragmentHeader::new_unchecked(&frame[FRAGMENT_VIEW..]);
-    if header.frag_offset() != 0 {
+    let chain = Chain::of(number, end - IPV6_END, &frame[IPV6_END..end]);
+    Places {
+        version: IpVersion::Ipv6,
+        start: IPV6_END + chain.end(),
+        end,
+        carried: carried_after(frame, &chain, end),
+    }
+}
+
+// What an IPv6 packet with these extension headers carries.
+fn carried_after(frame: &[u8], chain: &Chain, end: usize) -> Carried
+    requires even { chain.now.len % 2 ≡ 0 }
+    requires order { 54 + end_of chain.now ≤ end }
+    requires ends { end ≤ length frame.now }
+    ensures value { result ≡ place.carried_after frame.now chain.now end }
+    ensures holds { HoldsCarried result version.Ipv6 (54 + end_of chain.now) frame.now }
+{
+    if chain.fault.is_some() || chain.is_authenticated {
+        return Carried::Hidden;
+    }
+    if is_later(&chain.fragment) {
         return Carried::Fragment;
     }
-    let protocol = IpProtocol::from(frame[IPV6_END]);
-    let is_whole = !header.more_frags();
+    let is_part = chain.ends_at_part();
+    let number = if is_part {
+        frame[IPV6_END + chain.len]
+    } else {
+        chain.protocol
+    };
     carried_by(
         frame,
         IpVersion::Ipv6,
-        protocol,
-        FRAGMENT_END,
+        IpProtocol::from(number),
+        IPV6_END + chain.end(),
         end,
-        is_whole,
+        !is_part,
     )
+}
+
+// Whether a fragment header, if there is one, is that of a fragment other than the first.
+fn is_later(fragment: &Option<Ipv6FragmentRepr>) -> bool
+    ensures { result ≡ is_later fragment.now }
+{
+    match fragment {
+        Some(header) => header.frag_offset != 0,
+        None => false,
+    }
 }
 
 // What a packet of this protocol carries from `start` up to `end`, if it is no later fragment.
