@@ -1,9 +1,11 @@
 //! Where the fields of a packet are in its Ethernet frame.
 
-ghost use Rattle.std.specs.Prelude.{◌≡◌, ◌≤◌, ◌+◌, ◌%◌, ◌^◌, IfSome, length};
+ghost use Rattle.std.specs.Prelude.{◌≡◌, ◌≤◌, ◌+◌, ◌%◌, ◌^◌, IfSome, Some, false, length};
 ghost use Rattle.app_edit.specs.Places as place;
 ghost use Rattle.app_edit.specs.Places.{Holds, HoldsCarried, addresses_end, checksum_offset, checksum_place, covers_addresses, extensions, has_checksum, hides_next, is_ipv4, is_later, places_of};
+ghost use Rattle.ip_wire.specs.Field.{field};
 ghost use Rattle.wire_extensions.specs.Chain.{begun, end_of};
+ghost use Rattle.wire_extensions.specs.Extension.{is_extension};
 ghost use Rattle.ip_wire.specs.declared.IpVersion.TheVariants as version;
 
 use crate::layout::Layout;
@@ -166,25 +168,48 @@ fn ipv6_places(frame: &[u8]) -> Option<Places>
         return None;
     }
     let end = ETHERNET_HEADER_LEN + Layout::of(IpVersion::Ipv6, bytes).end;
-    Some(places_of_number(frame, bytes[6], end))
+    places_by_number(frame, next_number(bytes), end)
 }
 
-// The places of an IPv6 packet with this next header that ends at `end`. The usual transports are compared first.
-fn places_of_number(frame: &[u8], number: u8, end: usize) -> Places
+// The number of the next header in an IPv6 header.
+#[inline(always)]
+fn next_number(bytes: &[u8]) -> u8
+    requires { 40 ≤ length bytes.now }
+    ensures { result ≡ field bytes.now 48 8 }
+{
+    bytes[6]
+}
+
+// The places of an IPv6 packet with this next header that ends at `end`. The usual transports are compared first. The
+// result is that of the caller: a value without `Some` would be copied.
+#[inline(always)]
+fn places_by_number(frame: &[u8], number: u8, end: usize) -> Option<Places>
     requires header { 54 ≤ end }
     requires ends { end ≤ length frame.now }
-    ensures value { result ≡ place.places_after frame.now (extensions frame.now number end) end }
-    ensures holds { Holds result frame.now }
+    ensures value { result ≡ Some (place.places_after frame.now (extensions frame.now number end) end) }
+    ensures holds { IfSome result (λ places. Holds places frame.now) }
 {
     match number {
-        TCP | UDP | ICMPV6 => direct_places(frame, number, end),
-        _ => places_after(frame, number, end),
+        TCP | UDP | ICMPV6 => Some(direct_places(frame, number, end)),
+        _ => Some(places_after(frame, number, end)),
     }
 }
 
 // The places of an IPv6 packet without extension headers.
 #[inline(always)]
 fn direct_places(frame: &[u8], number: u8, end: usize) -> Places
+    requires header { 54 ≤ end }
+    requires ends { end ≤ length frame.now }
+    requires direct { is_extension number ≡ false }
+    ensures value { result ≡ place.places_after frame.now (extensions frame.now number end) end }
+    ensures holds { Holds result frame.now }
+{
+    begun_places(frame, number, end)
+}
+
+// The places of an IPv6 packet before its extension headers are stepped through.
+#[inline(always)]
+fn begun_places(frame: &[u8], number: u8, end: usize) -> Places
     requires header { 54 ≤ end }
     requires ends { end ≤ length frame.now }
     ensures value { result ≡ place.places_after frame.now (begun number) end }
