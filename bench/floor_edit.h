@@ -79,6 +79,34 @@ INLINE int place_ipv4(const uint8_t *frame, size_t len, struct places *places)
     return 1;
 }
 
+/* Steps through extension headers, up to one of a fragment. What follows is hidden after one that is rejected, and after
+ * an authentication header. */
+static OUTLINE void place_extended(const uint8_t *frame, struct packet *packet, struct places *places)
+{
+    uint16_t fragment = 0;
+    int is_authenticated = 0;
+    for (int is_first = 1; !fragment && is_extension(packet->protocol); is_first = 0) {
+        const uint8_t *ptr = packet->payload;
+        size_t len = packet->len < 8 ? 8 : extension_len(packet);
+        places->carried = HIDDEN;
+        if (extension_reason(packet, len, is_first) != LK_READ)
+            return;
+        if (packet->protocol == PROTOCOL_IPV6_FRAGMENT)
+            fragment = swap_16(load_16(ptr + 2)) & 0xfff9;
+        is_authenticated |= packet->protocol == PROTOCOL_AUTHENTICATION;
+        packet->protocol = ptr[0];
+        packet->payload += len;
+        packet->len -= len;
+        places->start += len;
+    }
+    if (is_authenticated)
+        return;
+    if (fragment & 0xfff8)
+        places->carried = FRAGMENT;
+    else
+        place_carried(frame, packet->protocol, !fragment, places);
+}
+
 INLINE int place_ipv6(const uint8_t *frame, size_t len, struct places *places)
 {
     struct packet packet;
@@ -87,16 +115,10 @@ INLINE int place_ipv6(const uint8_t *frame, size_t len, struct places *places)
     places->is_ipv4 = 0;
     places->start = IPV6_END;
     places->end = IPV6_END + packet.len;
-    if (packet.protocol != PROTOCOL_IPV6_FRAGMENT || packet.len < 8) {
-        place_carried(frame, packet.protocol, 1, places);
-        return 1;
-    }
-    uint16_t fragment = swap_16(load_16(frame + IPV6_END + 2));
-    places->start += 8;
-    if (fragment & 0xfff8)
-        places->carried = FRAGMENT;
+    if (is_extension(packet.protocol))
+        place_extended(frame, &packet, places);
     else
-        place_carried(frame, frame[IPV6_END], !(fragment & 1), places);
+        place_carried(frame, packet.protocol, 1, places);
     return 1;
 }
 
