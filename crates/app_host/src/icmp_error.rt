@@ -36,7 +36,6 @@ const IPV6_QUOTE_LEN: usize = 1232;
 /// - It carries an ICMP error or redirect, or may be part of one: it is a later fragment of ICMPv6.
 ///
 /// The broadcast address of a subnet is not known here, so it counts as that of a host.
-#[inline(always)]
 pub fn error<'a>(frame: &'a [u8], ours: &Interface, message: IcmpRepr) -> Option<MessageFrame<'a>>
     ensures error { Gives (IsError ours.now frame.now message) result }
     ensures unmarked { IfSome result (λ error. error.dscp ≡ 0) }
@@ -45,6 +44,7 @@ pub fn error<'a>(frame: &'a [u8], ours: &Interface, message: IcmpRepr) -> Option
 }
 
 /// As `error`. If `to_groups`, also about a packet to a multicast group of the interface (RFC 4443, section 2.4 e.3).
+#[inline(always)]
 pub(crate) fn error_to<'a>(
     frame: &'a [u8],
     ours: &Interface,
@@ -87,6 +87,7 @@ fn is_between_hosts(link: &EthernetRepr, header: &IpRepr, ours: &Interface) -> b
 }
 
 // The same, or whether a packet goes to a group of ours, if `to_groups`.
+#[inline(always)]
 fn is_to_receiver(to_groups: bool, link: &EthernetRepr, header: &IpRepr, ours: &Interface) -> bool
     ensures { IsTrue result ↔ IsToReceiver to_groups ours.now link.now header.now }
 {
@@ -103,6 +104,7 @@ fn is_to_receiver(to_groups: bool, link: &EthernetRepr, header: &IpRepr, ours: &
 }
 
 // Whether a packet goes from one other host to a group of ours.
+#[inline(never)]
 fn is_to_group(link: &EthernetRepr, header: &Ipv6Repr, ours: &Interface) -> bool
     ensures { IsTrue result ↔ IsToGroup ours.now link.now header.now }
 {
