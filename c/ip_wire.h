@@ -771,6 +771,7 @@ struct lk_host {
  *   an echo request with code 0            an echo reply with the same data (RFC 1122, 3.2.2.6; RFC 4443, 4.2)
  *   a UDP packet to `echo_port`            the same payload, to its sender (RFC 862)
  *   a UDP packet to a closed port          an ICMP error, port unreachable (RFC 1122, 4.1.3.1; RFC 4443, 3.1)
+ *   an IPv6 packet with a faulty header    an ICMP error, parameter problem (RFC 8200, section 4; RFC 4443, 3.4)
  *   SYN without ACK to an open TCP port    SYN and ACK (RFC 9293, section 3.10.7.2)
  *   ACK without RST to an open TCP port    RST
  *   any but RST to a closed TCP port       RST (section 3.10.7.1)
@@ -794,7 +795,23 @@ struct lk_host {
  * - A solicitation must be valid for lk_read_ndisc. It is sent to `ipv6` and `hardware`, or to the solicited-node group
  *   of `ipv6` and the hardware address of the group or `hardware` (RFC 6085). The advertisement goes to the unicast
  *   hardware address in the option, or to the sender of the frame; for a solicitation from `::` to all nodes.
- * - ICMP errors are written as by lk_emit_icmp_error. */
+ * - ICMP errors are written as by lk_emit_icmp_error.
+ * - A parameter problem is about the first fault of the extension headers of a packet for `ipv6`. Its pointer counts from
+ *   the start of the IPv6 header:
+ *
+ *   fault                                          code  pointer to
+ *   an option with the highest bits 10 or 11       2     its type (section 4.2)
+ *   an option that ends after its header           0     its length
+ *   a routing header with segments left            0     the routing type (section 4.4; RFC 5095, section 3)
+ *   an unknown next header, as SCTP or AH (51)     1     its number
+ *   hop-by-hop options after another header        1     the number 0
+ *
+ * - Pad1 and PadN are the only known options. Unknown ones with the highest bits 00 are skipped. One with the bits 01,
+ *   and a header that does not end within the packet, get no answer.
+ * - An option with the highest bits 10 gets an error also if the packet is for the group ff02::1 or for the solicited-node
+ *   group of `ipv6`, and the frame for the hardware address of the group or `hardware` (RFC 4443, section 2.4 e.3).
+ * - Known next headers are UDP, TCP, ICMPv6 and 59. What follows a fragment header is not looked at: call lk_reassemble
+ *   before. Call lk_answer only for packets that the program does not process itself. */
 ptrdiff_t lk_answer(const struct lk_host *host, const uint8_t *ptr, size_t len, uint8_t *out, size_t cap);
 
 /* ---- ICMP errors ---- */

@@ -13,7 +13,7 @@ import itertools
 from host_packets import (ACK, ALL_NODES, ARP, BROADCAST, CLOSED, CWR, ECE, ECHO, FIN, IPV4, IPV6, NODE_GROUP, OPEN, OTHER_LINK, OUR_LINK,
                           PSH, RST, SACK_PERMITTED, SYN, THEIR_LINK, URG, Ipv4, Ipv6, accepted, addr, advertised, asked, echo_reply,
                           echo_request, group_link, lladdr, mss, option, ping, pong, reset, scale, segment, solicited, timestamps, told,
-                          udp, unreachable)
+                          udp, unknown, unreachable)
 from record import write_calls
 
 
@@ -215,8 +215,9 @@ def icmp_rows(v):
     for mask in WRONG:
         yield row(f"{name}-checksum-wrong-{mask:04x}", turned(echo_request(v), v.front + 2, mask), None)
     yield row(f"{name}-checksum-left-out", echo_request(v, checksum=0), None)
-    for protocol in [0, 2, {"4": 58, "6": 1}[v.name], 255]:
-        yield row(f"{name}-protocol-{protocol}", echo_request(v, protocol=protocol), None)
+    for protocol in [{"4": 0, "6": 59}[v.name], 2, {"4": 58, "6": 1}[v.name], 255]:
+        frame = echo_request(v, protocol=protocol)
+        yield row(f"{name}-protocol-{protocol}", frame, None if protocol == 59 else unknown(v, frame))
 
 
 def solicited_rows():
@@ -320,7 +321,8 @@ def udp_field_rows(v):
     for size in range(4):
         yield row(f"{name}-length-{8 + size}", ping(v, b"ping"[:size], after=b"ping"[size:]), pong(v, b"ping"[:size]))
     for protocol in [0, 1, 6, 58, 136, 255]:
-        yield row(f"{name}-protocol-{protocol}", ping(v, protocol=protocol), None)
+        frame = ping(v, protocol=protocol)
+        yield row(f"{name}-protocol-{protocol}", frame, unknown(v, frame) if protocol in (1, 136, 255) else None)
 
 
 def asked_rows():

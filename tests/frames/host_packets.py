@@ -104,6 +104,11 @@ def unreachable(v, frame):
     return icmp.error(frame, OUR_LINK, v.ours, icmp.CLOSED)
 
 
+def unknown(v, frame):
+    """The error about an unknown next header in the IPv6 header of a frame (RFC 8200, section 4). IPv4 has none."""
+    return icmp.error(frame, OUR_LINK, v.ours, icmp.UNKNOWN_HEADER, 6) if v.name == "6" else None
+
+
 # The solicited-node group of 2001:db8::2 (RFC 4291, section 2.7.1), and the Ethernet address of a group (RFC 2464, section 7).
 NODE_GROUP = addr("ff02::1:ff00:2")
 ALL_NODES = addr("ff02::1")

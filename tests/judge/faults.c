@@ -68,6 +68,8 @@ __attribute__((constructor)) static void choose(void)
         "the number in the IPv6 header as that after extension headers", "a route with segments left as complete",
         "hop-by-hop options in any place", "an atomic fragment as a fragment",
         "the length of an authentication header in units of 8 bytes", "an address before a route with segments left written",
+        "the length of an authentication header in units of 8 bytes",
+        "a parameter problem about an option to be dropped", "a pointer that counts from the end of the IPv6 header",
     };
     const char *number = getenv("FAULT");
     fault = number ? (enum fault)atoi(number) : NO_FAULT;
@@ -405,6 +407,8 @@ ptrdiff_t __wrap_lk_answer(const struct lk_host *host, const uint8_t *ptr, size_
             change_word(out + 58, (out[58] ^ flag) << 8, out + 56);
         return result;
     }
+    if (fault == DROPPED_OPTION_TOLD || fault == POINTER_TO_THE_HEADER)
+        return answer_option(host, ptr, len, out, cap);
     if (fault == DSCP_OF_ECHO_LOST) {
         result = __real_lk_answer(host, ptr, len, out, cap);
         if (result > 34 && out[12] == 8 && out[13] == 0 && out[23] == 1 && out[34] == 0)

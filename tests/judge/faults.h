@@ -2,6 +2,7 @@
 #ifndef FAULTS_H
 #define FAULTS_H
 
+#include <stddef.h>
 #include <stdint.h>
 
 enum fault {
@@ -118,6 +119,8 @@ enum fault {
     ATOMIC_FRAGMENT_LEFT,
     AUTHENTICATION_IN_8_BYTES,
     SEGMENTS_LEFT_EDITED,
+    DROPPED_OPTION_TOLD,
+    POINTER_TO_THE_HEADER,
     FAULTS
 };
 
@@ -126,5 +129,9 @@ extern enum fault fault;
 
 /* Changes a word of a header and the checksum over it. */
 void change_word(uint8_t *word, unsigned value, uint8_t *checksum);
+
+/* Answers about an IPv6 option, with a fault of parameter problems. */
+struct lk_host;
+ptrdiff_t answer_option(const struct lk_host *host, const uint8_t *ptr, size_t len, uint8_t *out, size_t cap);
 
 #endif

@@ -1,10 +1,12 @@
-/* Faults of ICMP errors. */
+/* Faults of ICMP errors, and of answers with them. */
 #include <string.h>
 #include "faults.h"
 #include "ip_wire.h"
 
 ptrdiff_t __real_lk_emit_icmp_error(const struct lk_interface *own, int problem, uint32_t mtu, const uint8_t *frame,
                                     size_t len, uint8_t *out, size_t cap);
+
+ptrdiff_t __real_lk_answer(const struct lk_host *host, const uint8_t *ptr, size_t len, uint8_t *out, size_t cap);
 
 static uint8_t copy[0x20000];
 
@@ -38,5 +40,21 @@ ptrdiff_t __wrap_lk_emit_icmp_error(const struct lk_interface *own, int problem,
                         : fault == ERROR_AFTER_HEADERS_TOLD && frame[20] == 60)
             return about_another(own, problem, mtu, frame, len, 54, 59, out, cap);
     }
+    return result;
+}
+
+/* Answers about a destination option with the highest bits 01 as about one with 10; or with a pointer that is too low. */
+ptrdiff_t answer_option(const struct lk_host *host, const uint8_t *ptr, size_t len, uint8_t *out, size_t cap)
+{
+    ptrdiff_t result;
+    if (fault == DROPPED_OPTION_TOLD && len >= 62 && len <= sizeof copy && ptr[12] == 0x86 && ptr[20] == 60 &&
+        ptr[56] >> 6 == 1) {
+        memcpy(copy, ptr, len);
+        copy[56] ^= 0xc0;
+        return __real_lk_answer(host, copy, len, out, cap);
+    }
+    result = __real_lk_answer(host, ptr, len, out, cap);
+    if (fault == POINTER_TO_THE_HEADER && result > 62 && out[12] == 0x86 && out[20] == 58 && out[54] == 4 && out[61] >= 40)
+        change_word(out + 60, out[60] * 256u + out[61] - 40u, out + 56);
     return result;
 }

@@ -118,7 +118,7 @@ static size_t make_extension(uint8_t *header, uint8_t number)
         put_word(header + 2, (unsigned)any() & (one_in(3) ? 7 : 6));
     if (number == 43 && !one_in(8))
         put_word(header + 2, 253 << 8); /* a type for experiments */
-    if ((number == 0 || number == 60) && !one_in(8))
+    if ((number == 0 || number == 60) && !one_in(3))
         put_word(header + 2, (unsigned)(1 << 8 | (len - 4))); /* padding */
     return len;
 }

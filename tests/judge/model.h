@@ -159,6 +159,18 @@ size_t put_ndisc(const struct lk_ndisc *ndisc, const struct lk_addr *src, const 
 size_t put_icmp_error(const struct lk_interface *own, int problem, uint32_t mtu, const uint8_t *octets, size_t len,
                       uint8_t *out);
 
+/* Whether an ICMP error may be sent about a frame whose packet has `len` bytes, its header `header_len` of them. */
+int is_told_of(const struct lk_interface *own, const struct lk_frame *frame, const uint8_t *packet, size_t len,
+               size_t header_len);
+
+/* Writes the frame with an ICMP error that quotes the packet of a frame. */
+size_t put_error_message(const struct lk_interface *own, const struct lk_frame *frame, const struct lk_icmp *icmp,
+                         const uint8_t *packet, size_t packet_len, uint8_t *out);
+
+/* Writes the error about the extension headers of the IPv6 packet in a frame; 0: none. */
+size_t put_parameter_problem(const struct lk_interface *own, const struct lk_frame *frame, const uint8_t *packet,
+                             uint8_t *out);
+
 /* Whether one host may have this address. */
 int is_host(const struct lk_addr *addr);
 

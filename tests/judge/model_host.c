@@ -317,6 +317,12 @@ static size_t answer_solicitation(const struct lk_host *host, struct lk_frame *f
     return put_answer(frame, 58, 255, 0, message, put_ndisc(&told, &frame->src.addr, &frame->dst.addr, message), out);
 }
 
+static size_t answer_headers(const struct lk_host *host, const struct lk_frame *frame, const uint8_t *ptr, uint8_t *out)
+{
+    struct lk_interface own = interface_of(host);
+    return put_parameter_problem(&own, frame, ptr + 14, out);
+}
+
 static int is_for(const struct lk_host *host, const struct lk_frame *frame)
 {
     struct lk_interface own = interface_of(host);
@@ -341,6 +347,8 @@ ptrdiff_t model_answer(const struct lk_host *host, const uint8_t *ptr, size_t le
         answer_len = answer_arp(host, &frame, answer);
     else if (frame.network == LK_IPV6 && frame.icmp.type == 135)
         answer_len = answer_solicitation(host, &frame, ptr, len, answer);
+    else if (frame.network == LK_IPV6 && frame.transport == LK_NO_TRANSPORT)
+        answer_len = answer_headers(host, &frame, ptr, answer);
     else if (is_for(host, &frame) && frame.transport == LK_UDP)
         answer_len = answer_udp(host, &frame, ptr, len, answer);
     else if (is_for(host, &frame) && frame.transport == LK_ICMP)

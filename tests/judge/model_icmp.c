@@ -172,8 +172,8 @@ static int is_told_of_ipv6(unsigned protocol, const uint8_t *header, size_t len)
 }
 
 /* Whether an error may be sent about a frame whose packet has `len` bytes, its header `header_len` of them. */
-static int is_told_of(const struct lk_interface *own, const struct lk_frame *frame, const uint8_t *packet, size_t len,
-                      size_t header_len)
+int is_told_of(const struct lk_interface *own, const struct lk_frame *frame, const uint8_t *packet, size_t len,
+               size_t header_len)
 {
     const struct lk_addr *own_addr = frame->network == LK_IPV4 ? &own->ipv4 : &own->ipv6;
     if (memcmp(frame->ethernet.dst, own->hardware, 6) != 0 || !is_unicast_hardware(frame->ethernet.src) ||
@@ -206,17 +206,34 @@ static struct lk_icmp message_for(int problem, uint32_t mtu, int is_ipv4)
     return icmp;
 }
 
+size_t put_error_message(const struct lk_interface *own, const struct lk_frame *frame, const struct lk_icmp *icmp,
+                         const uint8_t *packet, size_t packet_len, uint8_t *out)
+{
+    const int is_ipv4 = frame->network == LK_IPV4;
+    const struct lk_addr *src = is_ipv4 ? &own->ipv4 : &own->ipv6;
+    const size_t most = is_ipv4 ? 576 - 20 - 8 : 1280 - 40 - 8;
+    struct lk_ethernet link;
+    struct lk_ip ip = {0};
+    size_t at;
+    if (packet_len > most)
+        packet_len = most;
+    memcpy(link.dst, frame->ethernet.src, 6);
+    memcpy(link.src, own->hardware, 6);
+    ip.hop_limit = 64;
+    ip.dont_fragment = 1;
+    at = put_ethernet(&link, frame->ethernet.type, out);
+    at += put_ip(&ip, src, &frame->src.addr, is_ipv4 ? 1 : 58, 8 + packet_len, 1, out + at);
+    return at + put_icmp(icmp, src, &frame->src.addr, packet, packet_len, 1, out + at);
+}
+
 size_t put_icmp_error(const struct lk_interface *own, int problem, uint32_t mtu, const uint8_t *octets, size_t len,
                       uint8_t *out)
 {
     struct lk_frame frame;
-    struct lk_ethernet link;
-    struct lk_ip ip = {0};
     struct lk_icmp icmp;
-    const struct lk_addr *src;
     const uint8_t *packet = octets + 14;
     int is_ipv4;
-    size_t packet_len, header_len, most, at;
+    size_t packet_len, header_len;
     model_read_plain(octets, len, &frame);
     is_ipv4 = frame.network == LK_IPV4;
     if (!is_ipv4 && frame.network != LK_IPV6)
@@ -225,18 +242,8 @@ size_t put_icmp_error(const struct lk_interface *own, int problem, uint32_t mtu,
     header_len = is_ipv4 ? 4u * (packet[0] & 15) : 40;
     if (!is_told_of(own, &frame, packet, packet_len, header_len) || !has_problem(problem, mtu, &frame, packet_len))
         return 0;
-    most = is_ipv4 ? 576 - 20 - 8 : 1280 - 40 - 8;
-    if (packet_len > most)
-        packet_len = most;
-    src = is_ipv4 ? &own->ipv4 : &own->ipv6;
-    memcpy(link.dst, frame.ethernet.src, 6);
-    memcpy(link.src, own->hardware, 6);
-    ip.hop_limit = 64;
-    ip.dont_fragment = 1;
     icmp = message_for(problem, mtu, is_ipv4);
-    at = put_ethernet(&link, frame.ethernet.type, out);
-    at += put_ip(&ip, src, &frame.src.addr, is_ipv4 ? 1 : 58, 8 + packet_len, 1, out + at);
-    return at + put_icmp(&icmp, src, &frame.src.addr, packet, packet_len, 1, out + at);
+    return put_error_message(own, &frame, &icmp, packet, packet_len, out);
 }
 
 ptrdiff_t model_emit_icmp_error(const struct lk_interface *own, int problem, uint32_t mtu, const uint8_t *octets,

@@ -93,5 +93,6 @@ void make_worked_calls(void)
     worked_fragment();
     worked_reassembly();
     worked_hosts();
+    worked_problems();
     worked_summary();
 }

@@ -80,6 +80,7 @@ void worked_edit(void);
 void worked_fragment(void);
 void worked_reassembly(void);
 void worked_hosts(void);
+void worked_problems(void);
 void worked_summary(void);
 
 #endif

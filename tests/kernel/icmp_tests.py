@@ -203,6 +203,8 @@ def with_host(device):
     for family, _, address in HOSTS:
         pings(family, address, device)
         check("closed UDP port", is_refused(family, address), address)
+    place, unknown = (HOSTS[1][2], ECHO), bytes([0, 0, 1, 0, 0x9E, 2, 0, 0])
+    check("unknown option", udp_error(socket.AF_INET6, place, b"x", options=unknown) == (4, 2, 44, HOSTS[1][2]))
     check("neighbour", is_reachable(HOSTS[1][2], device, False), run("ip", "-6", "neighbour"))
     for wire in wires(device):
         echoes(wire)

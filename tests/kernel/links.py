@@ -203,12 +203,15 @@ def ping(family, address, data, number, source=None, wait=LATEST):
     return False
 
 
-def udp_error(family, place, data=b"", hop_limit=64, source=None):
-    """The ICMP error about a UDP packet: its type and code, the number after them, and who sent it; or None."""
+def udp_error(family, place, data=b"", hop_limit=64, source=None, options=b""):
+    """The ICMP error about a UDP packet, over IPv6 with these destination options: its type and code, the number after them,
+    and who sent it; or None."""
     level, recverr, hops, discover, place_of_addr = ERROR_OPTIONS[family]
     with socket.socket(family, socket.SOCK_DGRAM) as sock:
         for option, value in ((recverr, 1), (hops, hop_limit), (discover, PMTUDISC_PROBE)):
             sock.setsockopt(level, option, value)
+        if options:
+            sock.setsockopt(socket.IPPROTO_IPV6, socket.IPV6_DSTOPTS, options)
         if source:
             sock.bind(source)
         sock.connect(place)  # so that the error must quote this address

@@ -6,6 +6,7 @@ use Rattle.app_host.specs.Host.{IsFrameReply, IsMessageReply, RepliesFrame, Repl
 use Rattle.app_host.specs.IcmpEcho.{HasDscpOf, IsIcmpEcho, KeepsDscp, RepliesEchoFrame, reply_dscp}
 use Rattle.app_host.specs.IcmpError.{header_from, quoted}
 use Rattle.app_host.specs.Neighbour.{AdvertisesFrame}
+use Rattle.app_host.specs.ParameterProblem.{ProblemFrame}
 use Rattle.app_host.specs.Interface.{header_back}
 use Rattle.app_host.specs.Message as message
 use Rattle.app_host.specs.Message.{HasClass, HasDscp, IsMarked, IsReplyMarked, dscp_of, values_of}
@@ -30,7 +31,7 @@ use Rattle.ip_wire.specs.declared.IpProtocol.{IpProtocol}
 use Rattle.ip_wire.specs.declared.Transport.{Transport}
 use Rattle.ip_wire.specs.declared.Transport.TheVariants as transport
 use Rattle.wire_icmp.specs.Icmp as icmp
-use Rattle.wire_icmp.specs.declared.IcmpRepr.TheVariants.{DstUnreachable, EchoReply}
+use Rattle.wire_icmp.specs.declared.IcmpRepr.TheVariants.{DstUnreachable, EchoReply, ParamProblem}
 use Rattle.wire_icmp.specs.declared.Unreachable.TheVariants as unreachable
 
 carries-other : (c : Carried) (ip : IpRepr) (octets : List ℕ) → carried_of c ≡ Some (frame.packet ip (frame.other octets)) → (inner : Transport) × (c ≡ carried.Packet ip inner)
@@ -102,14 +103,29 @@ error-values : (ours : Interface) (bytes : List ℕ) (v : IpRepr) (n : ℕ) (quo
 error-values ours bytes (Ipv4 v) n quote p = refl
 error-values ours bytes (Ipv6 v) n quote p = refl
 
-error-marked : (host : Host) (request : Frame) (bytes : List ℕ) (f : MessageFrame) → message.Gives (UnreachableFrame host bytes request) (Some f) → f.dscp ≡ 0
-    → f.dscp ≡ reply_dscp bytes (values_of f)
-error-marked host request bytes f (sendable, (asked, is, e)) zero = let (v, about) = e.tells in zero ∙ sym (ap (reply_dscp bytes) about.tells ∙ error-values host.interface bytes v _ (quoted (version_of v) (drop 14 bytes)) _)
+problem-values : (ours : Interface) (bytes : List ℕ) (v : IpRepr) (code pointer n : ℕ) (quote : List ℕ) (p : IpProtocol)
+    → reply_dscp bytes (frame.packet (header_before (header_from ours v) p n)
+    (frame.other (icmp.bytes_of (ParamProblem code pointer) quote (src_addr_of (header_from ours v)) (dst_addr_of (header_from ours v)) true))) ≡ 0
+problem-values ours bytes (Ipv4 v) code pointer n quote p = refl
+problem-values ours bytes (Ipv6 v) code pointer n quote p = refl
 
-pub errors-marked : (host : Host) (request : Frame) (bytes : List ℕ) (result : Option MessageFrame) → message.Gives (UnreachableFrame host bytes request) result
-    → IfSome result (λ f. f.dscp ≡ 0) → IfSome result (λ f. f.dscp ≡ reply_dscp bytes (values_of f))
-errors-marked host request bytes None none zero = tt
-errors-marked host request bytes (Some f) gives zero = error-marked host request bytes f gives zero
+pub unreachable-dscp : (host : Host) (request : Frame) (bytes : List ℕ) (h : EthernetRepr) (c : frame.Carried) → UnreachableFrame host bytes request h c → reply_dscp bytes c ≡ 0
+unreachable-dscp host request bytes h c (asked, is, e) =
+    let (v, about) = e.tells in ap (reply_dscp bytes) about.tells ∙ error-values host.interface bytes v _ (quoted (version_of v) (drop 14 bytes)) _
+
+pub problem-dscp : (ours : Interface) (request : Frame) (bytes : List ℕ) (h : EthernetRepr) (c : frame.Carried) → ProblemFrame ours bytes request h c → reply_dscp bytes c ≡ 0
+problem-dscp ours request bytes h c (asked, is, e) =
+    let (v, about) = e.tells in ap (reply_dscp bytes) about.tells ∙ problem-values ours bytes v e.code e.pointer _ (quoted (version_of v) (drop 14 bytes)) _
+
+-- a frame with such an error has DSCP 0
+pub error-marked : (P : EthernetRepr → frame.Carried → Type 0) (bytes : List ℕ) (f : MessageFrame) → ((h : EthernetRepr) (c : frame.Carried) → P h c → reply_dscp bytes c ≡ 0)
+    → message.Gives P (Some f) → f.dscp ≡ 0 → f.dscp ≡ reply_dscp bytes (values_of f)
+error-marked P bytes f zeros (sendable, p) zero = zero ∙ sym (zeros f.header (values_of f) p)
+
+pub errors-marked : (P : EthernetRepr → frame.Carried → Type 0) (bytes : List ℕ) (result : Option MessageFrame) → ((h : EthernetRepr) (c : frame.Carried) → P h c → reply_dscp bytes c ≡ 0)
+    → message.Gives P result → IfSome result (λ f. f.dscp ≡ 0) → IfSome result (λ f. f.dscp ≡ reply_dscp bytes (values_of f))
+errors-marked P bytes None zeros none zero = tt
+errors-marked P bytes (Some f) zeros gives zero = error-marked P bytes f zeros gives zero
 
 -- a reply without a message has DSCP 0
 frame-values : (host : Host) (bytes : List ℕ) (asked_header header : EthernetRepr) (asked c : frame.Carried) → IsFrameReply host asked_header asked header c → 0 ≡ reply_dscp bytes c
@@ -136,7 +152,8 @@ long-asked : (host : Host) (bytes : List ℕ) (asked_header header : EthernetRep
     → IsMessageReply host bytes asked_header asked header c → 16 ≤ length bytes
 long-asked host bytes asked_header header asked c reads (inl e) = long-frame bytes asked_header e.ip _ (subst (IsReadWhole bytes asked_header) e.asks reads)
 long-asked host bytes asked_header header asked c reads (inr (inl e)) = long-frame bytes asked_header (Ipv6 e.ip) _ (subst (IsReadWhole bytes asked_header) e.asks reads)
-long-asked host bytes asked_header header asked c reads (inr (inr e)) = long-frame bytes asked_header e.ip _ (subst (IsReadWhole bytes asked_header) e.asks reads)
+long-asked host bytes asked_header header asked c reads (inr (inr (inl e))) = long-frame bytes asked_header e.ip _ (subst (IsReadWhole bytes asked_header) e.asks reads)
+long-asked host bytes asked_header header asked c reads (inr (inr (inr e))) = long-frame bytes asked_header (Ipv6 e.ip) _ (subst (IsReadWhole bytes asked_header) e.asks reads)
 
 pub message-marked : (host : Host) (request : Frame) (bytes : List ℕ) (f : MessageFrame) → IsParsed request bytes → message.Gives (RepliesMessage host bytes request) (Some f)
     → (16 ≤ length bytes → f.dscp ≡ reply_dscp bytes (values_of f)) → HasDscp (reply.Message f) (reply_dscp bytes)

@@ -1,4 +1,4 @@
--- The reply of a host is one of the six kinds of replies.
+-- The reply of a host is one of the seven kinds of replies.
 use Rattle.std.proofs.Common.{ℕ, ◌≡◌, ◌∙◌, ◌++◌, inl, inr, List, Option, Some, None, arith, ap, drop, refl, subst, sym}
 use Rattle.std.specs.Prelude.{IfSome}
 use Rattle.app_host.specs.Host.{Answers, IsMessageReply, IsReply, IsServed, IsUnread, RepliesBytes, RepliesFrame, RepliesMessage, UnreachableFrame}
@@ -11,6 +11,7 @@ use Rattle.app_host.specs.Interface.{IsForUs}
 use Rattle.app_host.specs.Message as message
 use Rattle.app_host.specs.Message.{GivesReply, HasDscp, IsReplySent, values_of}
 use Rattle.app_host.specs.Neighbour.{AdvertisesFrame}
+use Rattle.app_host.specs.ParameterProblem.{ProblemFrame}
 use Rattle.app_host.specs.TcpReply.{TcpRepliesFrame}
 use Rattle.app_host.specs.UdpEcho.{EchoesFrame}
 use Rattle.app_host.specs.declared.message.MessageFrame.{MessageFrame}
@@ -63,17 +64,22 @@ pub by_neighbour : (host : Host) (bytes : List ℕ) (request : Frame) (f : Messa
     → message.Gives (RepliesMessage host bytes request) (Some f)
 by_neighbour host bytes request f (sendable, (asked, is, e)) = (sendable, (asked, is, inr (inl e)))
 
--- if there is no reply of the first two kinds, it is the error
-pub by_port : (host : Host) (bytes : List ℕ) (request : Frame) (result : Option MessageFrame) → message.Gives (RepliesEchoFrame host.interface request) None
-    → message.Gives (AdvertisesFrame host.interface request) None → message.Gives (UnreachableFrame host bytes request) result
-    → message.Gives (RepliesMessage host bytes request) result
-by_port host bytes request None no_echo no_advert no_error = λ h c (asked, is, r). no_kind h c asked is r
+pub by_port : (host : Host) (bytes : List ℕ) (request : Frame) (f : MessageFrame) → message.Gives (UnreachableFrame host bytes request) (Some f)
+    → message.Gives (RepliesMessage host bytes request) (Some f)
+by_port host bytes request f (sendable, (asked, is, e)) = (sendable, (asked, is, inr (inr (inl e))))
+
+-- if there is no reply of the first three kinds, it is the error about an extension header
+pub by_problem : (host : Host) (bytes : List ℕ) (request : Frame) (result : Option MessageFrame) → message.Gives (RepliesEchoFrame host.interface request) None
+    → message.Gives (AdvertisesFrame host.interface request) None → message.Gives (UnreachableFrame host bytes request) None
+    → message.Gives (ProblemFrame host.interface bytes request) result → message.Gives (RepliesMessage host bytes request) result
+by_problem host bytes request None no_echo no_advert no_error no_problem = λ h c (asked, is, r). no_kind h c asked is r
   where
     no_kind : (h : EthernetRepr) (c : Carried) (asked : Carried) → carried_of request.carried ≡ Some asked → ¬ IsMessageReply host bytes request.header asked h c
     no_kind h c asked is (inl e) = no_echo h c (asked, is, e)
     no_kind h c asked is (inr (inl e)) = no_advert h c (asked, is, e)
-    no_kind h c asked is (inr (inr e)) = no_error h c (asked, is, e)
-by_port host bytes request (Some f) no_echo no_advert (sendable, (asked, is, e)) = (sendable, (asked, is, inr (inr e)))
+    no_kind h c asked is (inr (inr (inl e))) = no_error h c (asked, is, e)
+    no_kind h c asked is (inr (inr (inr e))) = no_problem h c (asked, is, e)
+by_problem host bytes request (Some f) no_echo no_advert no_error (sendable, (asked, is, e)) = (sendable, (asked, is, inr (inr (inr e))))
 
 -- ---- errors about UDP packets
 

@@ -1,18 +1,18 @@
 -- Errors in frames.
-use Rattle.std.proofs.Common.{ℕ, ◌≡◌, ◌↔◌, ◌∙◌, ◌≤◌, ◌+◌, Bool, IsTrue, List, Some, None, drop, false, length, length-take, min, not, refl, ap, subst, true, arith}
+use Rattle.std.proofs.Common.{ℕ, ◌≡◌, ◌↔◌, ◌∙◌, ◌≤◌, ◌+◌, inl, inr, Bool, IsTrue, List, Some, None, drop, false, length, length-take, min, not, refl, ap, subst, true, arith}
 use Rattle.std.specs.Borrow.{Bor}
 use Rattle.ip_wire.specs.Ethernet as ethernet
 use Rattle.ip_wire.specs.Frame.{Carried, other, packet, type_of}
 use Rattle.ip_wire.specs.Ip.{Reads, dst_addr_of, header_before, max_payload_len, src_addr_of, version_of}
 use Rattle.ip_wire.specs.Ipv4 as ipv4
 use Rattle.ip_wire.specs.Ipv6 as ipv6
-use Rattle.ip_wire.specs.Types.{EthernetRepr, IpRepr, Ipv4, Ipv6}
+use Rattle.ip_wire.specs.Types.{EthernetRepr, IpRepr, Ipv4, Ipv6, Ipv6Repr}
 use Rattle.ip_wire.specs.declared.IpVersion.TheVariants as version
 use Rattle.wire_icmp.specs.Icmp.{bytes_of, protocol_of}
 use Rattle.wire_icmp.specs.declared.IcmpRepr.{IcmpRepr}
 use Rattle.app_host.proofs.Ipv6Chains.{leads_once}
 use Rattle.app_host.proofs.Messages.{icmp_values, sendable_icmp, values_icmp}
-use Rattle.app_host.specs.IcmpError.{IsBetweenHosts, IsError, IsIcmpError, IsToldOf, header_from, quoted}
+use Rattle.app_host.specs.IcmpError.{IsBetweenHosts, IsErrorTo, IsIcmpError, IsToGroup, IsToReceiver, IsToldOf, header_from, quoted}
 use Rattle.app_host.specs.Ipv6Chain.{LeadsTo}
 use Rattle.app_host.specs.Message.{Gives, message_frame}
 use Rattle.app_host.specs.declared.interface.Interface.{Interface}
@@ -29,19 +29,36 @@ told_after p n m bytes true leads is = (
 )
 told_after p n m bytes false leads is = (λ on. (p, m, leads, λ error. let on : false ≡ true = is.1 error in absurd cc), λ may. refl)
 
+-- a packet that goes from one other host to one host goes to a receiver
+pub to-host : (to_groups : Bool) (ours : Interface) (link : EthernetRepr) (v : IpRepr) → IsBetweenHosts ours link v → IsToReceiver to_groups ours link v
+to-host true ours link (Ipv6 v) hosts = inl hosts
+to-host true ours link (Ipv4 v) hosts = hosts
+to-host false ours link v hosts = hosts
+
+-- so does one to a group of ours, and no other packet
+pub to-group : (b : Bool) (ours : Interface) (link : EthernetRepr) (v : Ipv6Repr) → ¬ IsBetweenHosts ours link (Ipv6 v) → (IsTrue b ↔ IsToGroup ours link v)
+    → IsTrue b ↔ IsToReceiver true ours link (Ipv6 v)
+to-group b ours link v none is = (
+  λ on. inr (is.0 on),
+  λ to. elim to [
+    | inl hosts ↦ absurd (none hosts)
+    | inr group ↦ is.1 group
+  ],
+)
+
 -- a frame without an Ethernet header, or without an IP header, gets no error
-pub no_link : (ours : Interface) (frame : List ℕ) (message : IcmpRepr) → ((link : EthernetRepr) → ¬ ethernet.Reads frame link) → Gives (IsError ours frame message) None
-no_link ours frame message none h c (v, e) = none e.asked_link e.reads_link
+pub no_link : (to_groups : Bool) (ours : Interface) (frame : List ℕ) (message : IcmpRepr) → ((link : EthernetRepr) → ¬ ethernet.Reads frame link) → Gives (IsErrorTo to_groups ours frame message) None
+no_link to_groups ours frame message none h c (v, e) = none e.asked_link e.reads_link
 
-pub no_header : (ours : Interface) (frame : List ℕ) (message : IcmpRepr) → ((v : IpRepr) → ¬ Reads (drop 14 frame) true v) → Gives (IsError ours frame message) None
-no_header ours frame message none h c (v, e) = none v e.reads
+pub no_header : (to_groups : Bool) (ours : Interface) (frame : List ℕ) (message : IcmpRepr) → ((v : IpRepr) → ¬ Reads (drop 14 frame) true v) → Gives (IsErrorTo to_groups ours frame message) None
+no_header to_groups ours frame message none h c (v, e) = none v e.reads
 
--- nor does one that does not go between hosts, or that may not be told of
-pub untold : (ours : Interface) (frame : List ℕ) (message : IcmpRepr) (link : EthernetRepr) (v : IpRepr) → ((l : EthernetRepr) → ethernet.Reads frame l → l ≡ link)
-    → ((w : IpRepr) → Reads (drop 14 frame) true w → w ≡ v) → ¬ (IsBetweenHosts ours link v × IsToldOf v (drop 14 frame)) → Gives (IsError ours frame message) None
-untold ours frame message link v one_link one_header none h c (w, e) =
+-- nor does one that does not go to a receiver, or that may not be told of
+pub untold : (to_groups : Bool) (ours : Interface) (frame : List ℕ) (message : IcmpRepr) (link : EthernetRepr) (v : IpRepr) → ((l : EthernetRepr) → ethernet.Reads frame l → l ≡ link)
+    → ((w : IpRepr) → Reads (drop 14 frame) true w → w ≡ v) → ¬ (IsToReceiver to_groups ours link v × IsToldOf v (drop 14 frame)) → Gives (IsErrorTo to_groups ours frame message) None
+untold to_groups ours frame message link v one_link one_header none h c (w, e) =
     let same = one_header w e.reads in
-    none (subst (IsBetweenHosts ours link) same (subst (λ l. IsBetweenHosts ours l w) (one_link e.asked_link e.reads_link) e.hosts), subst (λ x. IsToldOf x (drop 14 frame)) same e.told_of)
+    none (subst (IsToReceiver to_groups ours link) same (subst (λ l. IsToReceiver to_groups ours l w) (one_link e.asked_link e.reads_link) e.hosts), subst (λ x. IsToldOf x (drop 14 frame)) same e.told_of)
 
 -- a quote is short
 within : (ours : Interface) (v : IpRepr) (bytes : List ℕ) → 8 + length (quoted (version_of v) bytes) ≤ max_payload_len (header_from ours v)
@@ -65,10 +82,10 @@ same-values ours (Ipv4 v) message quote = refl
 same-values ours (Ipv6 v) message quote = refl
 
 -- any other gets one
-pub told : (ours : Interface) (frame : List ℕ) (message : IcmpRepr) (link : EthernetRepr) (v : IpRepr) (quote : Bor (List ℕ)) → ethernet.Reads frame link → Reads (drop 14 frame) true v
-    → IsBetweenHosts ours link v → IsToldOf v (drop 14 frame) → quote.now ≡ quoted (version_of v) (drop 14 frame)
-    → Gives (IsError ours frame message) (Some (message_frame ours.hardware_addr link.src_addr (header_from ours v) (Icmp message quote)))
-told ours frame message link v quote reads_link reads hosts told_of quotes =
+pub told : (to_groups : Bool) (ours : Interface) (frame : List ℕ) (message : IcmpRepr) (link : EthernetRepr) (v : IpRepr) (quote : Bor (List ℕ)) → ethernet.Reads frame link → Reads (drop 14 frame) true v
+    → IsToReceiver to_groups ours link v → IsToldOf v (drop 14 frame) → quote.now ≡ quoted (version_of v) (drop 14 frame)
+    → Gives (IsErrorTo to_groups ours frame message) (Some (message_frame ours.hardware_addr link.src_addr (header_from ours v) (Icmp message quote)))
+told to_groups ours frame message link v quote reads_link reads hosts told_of quotes =
     let back = header_from ours v in
     let len : 8 + length quote.now ≤ max_payload_len back = omega (arith, ap length quotes, within ours v (drop 14 frame)) in (
       sendable_icmp ours.hardware_addr link.src_addr back message quote len,

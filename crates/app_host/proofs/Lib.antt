@@ -7,11 +7,14 @@ pub mod IcmpErrors
 pub mod IcmpReplies
 pub mod Ipv6Chains
 mod Ipv6ChainsWorked
+pub mod Ipv6Faults
+mod Ipv6FaultsWorked
 pub mod Marked
 pub mod MessageEnds
 pub mod Messages
 pub mod MessagesOnce
 pub mod Neighbours
+pub mod ParameterProblems
 pub mod RepliesOnce
 pub mod ReplyEnds
 pub mod TcpReplies

@@ -1,12 +1,15 @@
--- A frame has at most one echo reply, one advertisement, and one error with a message.
-use Rattle.std.proofs.Common.{ℕ, ◌≡◌, ◌∙◌, inl, inr, Bool, List, Option, arith, drop, length, sym, ap, subst, true}
+-- A frame has at most one echo reply, one advertisement, one error with a message, and one parameter problem.
+use Rattle.std.proofs.Common.{ℕ, ◌≡◌, ◌∙◌, inl, inr, Bool, List, Option, arith, drop, false, length, sym, ap, subst, true}
 use Rattle.app_host.proofs.IcmpErrors.{error_values}
 use Rattle.app_host.proofs.RepliesOnce.{IsOne}
 use Rattle.app_host.specs.IcmpEcho.{IsIcmpEcho}
-use Rattle.app_host.specs.IcmpError.{IsError, quoted}
+use Rattle.app_host.specs.IcmpError.{IsError, IsErrorTo, quoted}
 use Rattle.app_host.specs.Interface.{header_back}
+use Rattle.app_host.specs.Ipv6Fault.{fault_of}
 use Rattle.app_host.specs.Neighbour.{IsAnsweredTo, IsNeighbourReply, advert_header, advert_of}
+use Rattle.app_host.specs.ParameterProblem.{IsParameterProblem}
 use Rattle.app_host.specs.declared.interface.Interface.{Interface}
+use Rattle.app_host.specs.declared.ipv6_fault.Fault.TheVariants.{Reported}
 use Rattle.ip_wire.proofs.EthernetComputed.{Reads-is}
 use Rattle.ip_wire.proofs.Ipv4Computed as ipv4
 use Rattle.ip_wire.proofs.Ipv6Computed as ipv6
@@ -14,12 +17,13 @@ use Rattle.ip_wire.proofs.ReadsOnce.{computed-one}
 use Rattle.ip_wire.specs.Ethernet as ethernet
 use Rattle.ip_wire.specs.Frame.{Carried, other, packet, type_of}
 use Rattle.ip_wire.specs.Ip.{Reads, dst_addr_of, header_before, src_addr_of, version_of}
+use Rattle.ip_wire.specs.Protocol.{number_of}
 use Rattle.ip_wire.specs.Types.{EthernetAddress, EthernetRepr, IpRepr, Ipv4, Ipv6, Ipv6Repr}
 use Rattle.ip_wire.specs.declared.EthernetProtocol.TheVariants as ethertype
 use Rattle.wire_icmp.specs.Icmp as icmp
 use Rattle.wire_icmp.specs.Icmp.{protocol_of}
 use Rattle.wire_icmp.specs.declared.IcmpRepr.{IcmpRepr}
-use Rattle.wire_icmp.specs.declared.IcmpRepr.TheVariants.{EchoReply, EchoRequest}
+use Rattle.wire_icmp.specs.declared.IcmpRepr.TheVariants.{EchoReply, EchoRequest, ParamProblem}
 use Rattle.wire_icmp.proofs.NdiscComputed.{ndisc_of_Reads}
 use Rattle.wire_icmp.specs.Ndisc as ndisc
 use Rattle.wire_icmp.specs.declared.NdiscRepr.TheVariants.{NeighborSolicit}
@@ -35,13 +39,36 @@ header-once bytes (Ipv6 v) (Ipv6 w) r s = ap Ipv6 (ipv6.Reads-is bytes v r.heade
 header-once bytes (Ipv4 v) (Ipv6 w) r s = absurd (omega (arith, r.version.number, s.version.number))
 header-once bytes (Ipv6 v) (Ipv4 w) r s = absurd (omega (arith, r.version.number, s.version.number))
 
-pub error-once : (ours : Interface) (frame : List ℕ) (message : IcmpRepr) → IsOne (IsError ours frame message)
-error-once ours frame message h k c d (v, e) (w, g) =
+pub error-to-once : (to_groups : Bool) (ours : Interface) (frame : List ℕ) (message : IcmpRepr) → IsOne (IsErrorTo to_groups ours frame message)
+error-to-once to_groups ours frame message h k c d (v, e) (w, g) =
     let same : v ≡ w = header-once (drop 14 frame) v w e.reads g.reads in
     let link : e.asked_link ≡ g.asked_link = link-once frame e.asked_link g.asked_link e.reads_link g.reads_link in (
       e.link ∙ (λ i. record { src_addr = ours.hardware_addr; dst_addr = (link i).src_addr; ethertype = type_of (same i) }) ∙ sym g.link,
       e.tells ∙ ap (λ x. error_values ours x message (quoted (version_of x) (drop 14 frame))) same ∙ sym g.tells,
     )
+
+pub error-once : (ours : Interface) (frame : List ℕ) (message : IcmpRepr) → IsOne (IsError ours frame message)
+error-once ours frame message = error-to-once false ours frame message
+
+-- the first fault of a packet is one
+pub problem-once : (ours : Interface) (frame : List ℕ) (asked : Carried) → IsOne (IsParameterProblem ours frame asked)
+problem-once ours frame asked h k c d e g =
+    let first = e.asks in
+    let second = g.asks in
+    let asks : packet (Ipv6 e.ip) (other e.payload) ≡ packet (Ipv6 g.ip) (other g.payload) = cc in
+    let ip : e.ip ≡ g.ip = cc in
+    let payload : e.payload ≡ g.payload = cc in
+    let fault : Reported e.code e.pointer e.to_groups ≡ Reported g.code g.pointer g.to_groups =
+    computed-one _ _ _ (sym (λ i. fault_of (number_of (ip i).next_header) (payload i)) ∙ e.fault) g.fault
+    in
+    let code : e.code ≡ g.code = cc in
+    let pointer : e.pointer ≡ g.pointer = cc in
+    let to_groups : e.to_groups ≡ g.to_groups = cc in
+    let tells : IsErrorTo g.to_groups ours frame (ParamProblem g.code g.pointer) h c =
+    subst (λ t. IsErrorTo t ours frame (ParamProblem g.code g.pointer) h c) to_groups
+    (subst (λ p. IsErrorTo e.to_groups ours frame (ParamProblem g.code p) h c) pointer (subst (λ n. IsErrorTo e.to_groups ours frame (ParamProblem n e.pointer) h c) code e.tells))
+    in
+    error-to-once g.to_groups ours frame (ParamProblem g.code g.pointer) h k c d tells g.tells
 
 -- ---- echo replies
 

@@ -2,7 +2,7 @@
 use Rattle.std.proofs.Common.{ℕ, ◌≡◌, ◌∙◌, ◌⊎◌, inl, inr, [], List, Option, Some, None, arith, refl, sym, ap, subst}
 use Rattle.app_host.specs.Host.{Answers, IsErrorMessage, IsFinal, IsFrameReply, IsMessageReply, IsPortUnreachable, IsReply, IsReset, IsSegment, ServesPortOf}
 use Rattle.app_host.specs.declared.host.Host.{Host}
-use Rattle.app_host.proofs.MessageEnds.{IsErrorCarried, IsSilent, advert-silent, echo-silent, error-silent, silent-echo, silent-neighbour, unreachable-error}
+use Rattle.app_host.proofs.MessageEnds.{IsErrorCarried, IsSilent, advert-silent, echo-silent, error-silent, icmp-faultless, problem-error, silent-echo, silent-neighbour, unreachable-error}
 use Rattle.app_host.specs.TcpReply.{IsTcpReply, Replies, back, closed_by, listen_by, reset_by, reset_for, syn_ack}
 use Rattle.app_host.specs.declared.tcp_reply.Offer.{Offer}
 use Rattle.ip_wire.proofs.ReadsOnce.{frame-once}
@@ -80,12 +80,14 @@ IsFinalCarried c = CarriesReset c ⊎ IsErrorCarried c
 
 -- what is neither an echo request nor a solicitation, in a packet of another protocol than UDP and TCP, has no reply
 silent_unanswered : (host : Host) (bytes : List ℕ) (asked_header header : EthernetRepr) (asked c : Carried) → IsSilent asked → ¬ IsReply host bytes asked_header asked header c
-silent_unanswered host bytes asked_header header asked c (v, m, is, not, types) (inl (inl e)) = absurd (let asks = e.asks in cc)
-silent_unanswered host bytes asked_header header asked c (v, m, is, not, types) (inl (inr (inl e))) = absurd (let asks = e.asks in cc)
-silent_unanswered host bytes asked_header header asked c (v, m, is, not, types) (inl (inr (inr e))) = absurd (let asks = e.asks in cc)
+silent_unanswered host bytes asked_header header asked c (v, m, is, not, types, protocol) (inl (inl e)) = absurd (let asks = e.asks in cc)
+silent_unanswered host bytes asked_header header asked c (v, m, is, not, types, protocol) (inl (inr (inl e))) = absurd (let asks = e.asks in cc)
+silent_unanswered host bytes asked_header header asked c (v, m, is, not, types, protocol) (inl (inr (inr e))) = absurd (let asks = e.asks in cc)
 silent_unanswered host bytes asked_header header asked c silent (inr (inl e)) = silent-echo host.interface asked_header header asked c silent e
 silent_unanswered host bytes asked_header header asked c silent (inr (inr (inl e))) = silent-neighbour host.interface asked_header header asked c silent e
-silent_unanswered host bytes asked_header header asked c (v, m, is, not, types) (inr (inr (inr e))) = absurd (let asks = e.asks in cc)
+silent_unanswered host bytes asked_header header asked c (v, m, is, not, types, protocol) (inr (inr (inr (inl e)))) = absurd (let asks = e.asks in cc)
+silent_unanswered host bytes asked_header header asked c (v, m, is, not, types, protocol) (inr (inr (inr (inr e)))) =
+    icmp-faultless host.interface bytes header asked c v m is protocol e
 
 reset_silent : (host : Host) (bytes : List ℕ) (asked_header header : EthernetRepr) (asked c : Carried) → CarriesReset asked → ¬ IsReply host bytes asked_header asked header c
 reset_silent host bytes asked_header header asked c (ip, tcp, payload, carries, is) (inl (inl e)) = absurd (let asks = e.asks in cc)
@@ -96,7 +98,8 @@ reset_silent host bytes asked_header header asked c (ip, tcp, payload, carries, 
     reset_ends host.open_ports.now host.offer e.tcp _ e.reply (ap (λ (t : TcpHeader). t.control) (sym same) ∙ is) e.replies
 reset_silent host bytes asked_header header asked c (ip, tcp, payload, carries, is) (inr (inl e)) = absurd (let asks = e.asks in cc)
 reset_silent host bytes asked_header header asked c (ip, tcp, payload, carries, is) (inr (inr (inl e))) = absurd (let asks = e.asks in cc)
-reset_silent host bytes asked_header header asked c (ip, tcp, payload, carries, is) (inr (inr (inr e))) = absurd (let asks = e.asks in cc)
+reset_silent host bytes asked_header header asked c (ip, tcp, payload, carries, is) (inr (inr (inr (inl e)))) = absurd (let asks = e.asks in cc)
+reset_silent host bytes asked_header header asked c (ip, tcp, payload, carries, is) (inr (inr (inr (inr e)))) = absurd (let asks = e.asks in cc)
 
 unanswered : (host : Host) (bytes : List ℕ) (asked_header header : EthernetRepr) (asked c : Carried) → IsFinalCarried asked → ¬ IsReply host bytes asked_header asked header c
 unanswered host bytes asked_header header asked c (inl reset) r = reset_silent host bytes asked_header header asked c reset r
@@ -111,7 +114,9 @@ port_error host bytes asked_header header asked c e =
 message_silent : (host : Host) (bytes : List ℕ) (asked_header header : EthernetRepr) (asked c : Carried) → IsMessageReply host bytes asked_header asked header c → IsSilent c
 message_silent host bytes asked_header header asked c (inl e) = subst IsSilent (sym e.replies) (echo-silent e.ip e.ident e.seq_no e.payload)
 message_silent host bytes asked_header header asked c (inr (inl e)) = subst IsSilent (sym e.tells) (advert-silent host.interface e.dst e.solicited)
-message_silent host bytes asked_header header asked c (inr (inr e)) = error-silent c (port_error host bytes asked_header header asked c e)
+message_silent host bytes asked_header header asked c (inr (inr (inl e))) = error-silent c (port_error host bytes asked_header header asked c e)
+message_silent host bytes asked_header header asked c (inr (inr (inr e))) =
+    let (v, t) = e.tells in error-silent c (subst IsErrorCarried (sym t.tells) (problem-error host.interface v e.code e.pointer _))
 
 -- the reply to a reply to a TCP segment is a RST
 segment_resets : (first second : Host) (bytes : List ℕ) (asked_header header back_header other_header : EthernetRepr) (asked c d : Carried)
@@ -126,7 +131,8 @@ segment_resets first second bytes _ _ _ _ asked c d e (inl (inr (inr g))) =
     (_, g.reply, [], g.carries, resets second.open_ports.now second.offer g.tcp _ g.reply settled g.replies)
 segment_resets first second bytes _ _ _ _ asked c d e (inr (inl g)) = absurd (let carries = e.carries in let asks = g.asks in cc)
 segment_resets first second bytes _ _ _ _ asked c d e (inr (inr (inl g))) = absurd (let carries = e.carries in let asks = g.asks in cc)
-segment_resets first second bytes _ _ _ _ asked c d e (inr (inr (inr g))) = absurd (let carries = e.carries in let asks = g.asks in cc)
+segment_resets first second bytes _ _ _ _ asked c d e (inr (inr (inr (inl g)))) = absurd (let carries = e.carries in let asks = g.asks in cc)
+segment_resets first second bytes _ _ _ _ asked c d e (inr (inr (inr (inr g)))) = absurd (let carries = e.carries in let asks = g.asks in cc)
 
 -- the reply of the older kinds to a reply of these is a RST
 reply_resets : (first second : Host) (bytes : List ℕ) (asked_header header back_header other_header : EthernetRepr) (asked c d : Carried)
@@ -155,7 +161,10 @@ reply_unreachable first second bytes _ _ _ _ asked c d (inr (inl e)) (inl g) = a
 reply_unreachable first second bytes _ _ _ _ asked c d (inr (inl e)) (inr (inl g)) = absurd (let carries = e.echoes in let asks = g.asks in cc)
 reply_unreachable first second bytes _ _ _ _ asked c d (inr (inr e)) (inl g) = absurd (let carries = e.carries in let asks = g.asks in cc)
 reply_unreachable first second bytes _ _ _ _ asked c d (inr (inr e)) (inr (inl g)) = absurd (let carries = e.carries in let asks = g.asks in cc)
-reply_unreachable first second bytes _ _ _ _ asked c d e (inr (inr g)) = g
+reply_unreachable first second bytes _ _ _ _ asked c d e (inr (inr (inl g))) = g
+reply_unreachable first second bytes _ _ _ _ asked c d (inl e) (inr (inr (inr g))) = absurd (let carries = e.carries in let asks = g.asks in cc)
+reply_unreachable first second bytes _ _ _ _ asked c d (inr (inl e)) (inr (inr (inr g))) = absurd (let carries = e.echoes in let asks = g.asks in cc)
+reply_unreachable first second bytes _ _ _ _ asked c d (inr (inr e)) (inr (inr (inr g))) = absurd (let carries = e.carries in let asks = g.asks in cc)
 
 -- a reply to a reply is a RST, or the error about a closed port
 reply_finishes : (first second : Host) (f g : List ℕ) (asked_header header back_header other_header : EthernetRepr) (asked c d : Carried)
@@ -176,7 +185,8 @@ segment_reply first f _ _ asked c ip tcp payload is (inl (inr (inl e))) = absurd
 segment_reply first f _ _ asked c ip tcp payload is (inl (inr (inr e))) = e
 segment_reply first f _ _ asked c ip tcp payload is (inr (inl e)) = absurd (let asks = e.asks in cc)
 segment_reply first f _ _ asked c ip tcp payload is (inr (inr (inl e))) = absurd (let asks = e.asks in cc)
-segment_reply first f _ _ asked c ip tcp payload is (inr (inr (inr e))) = absurd (let asks = e.asks in cc)
+segment_reply first f _ _ asked c ip tcp payload is (inr (inr (inr (inl e)))) = absurd (let asks = e.asks in cc)
+segment_reply first f _ _ asked c ip tcp payload is (inr (inr (inr (inr e)))) = absurd (let asks = e.asks in cc)
 
 -- ---- bytes
 

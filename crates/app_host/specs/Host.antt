@@ -7,6 +7,7 @@ use Rattle.app_host.specs.IcmpEcho.{IsIcmpEcho}
 use Rattle.app_host.specs.IcmpError.{IsError}
 use Rattle.app_host.specs.Interface.{IsForUs}
 use Rattle.app_host.specs.Neighbour.{IsNeighbourReply}
+use Rattle.app_host.specs.ParameterProblem.{IsParameterProblem}
 use Rattle.app_host.specs.TcpReply.{IsTcpReply}
 use Rattle.app_host.specs.UdpEcho.{IsEcho}
 use Rattle.ip_wire.specs.Field.{field}
@@ -44,21 +45,21 @@ IsFrameReply host asked_header asked header carried =
     ⊎ (IsEcho host.interface host.echo_port asked_header asked header carried
     ⊎ IsTcpReply host.interface host.open_ports.now host.offer asked_header asked header carried)
 
--- A frame with these values is an echo request, a neighbour solicitation or a UDP packet to a closed port, for this
--- host. The other frame is the reply to it.
+-- A frame with these values is an echo request, a neighbour solicitation, a UDP packet to a closed port or a packet with a
+-- fault in its extension headers, for this host. The other frame is the reply to it.
 abbrev pub IsMessageReply : Host → List ℕ → EthernetRepr → Carried → EthernetRepr → Carried → Type 0
 IsMessageReply host bytes asked_header asked header carried =
     IsIcmpEcho host.interface asked_header asked header carried
     ⊎ (IsNeighbourReply host.interface asked_header asked header carried
-    ⊎ IsPortUnreachable host bytes asked_header asked header carried)
+    ⊎ (IsPortUnreachable host bytes asked_header asked header carried
+    ⊎ IsParameterProblem host.interface bytes asked header carried))
 
 -- the values of the host's reply to an ARP request, a UDP packet for the echo port or a TCP segment in a frame
 abbrev pub RepliesFrame : Host → Frame → EthernetRepr → Carried → Type 0
 RepliesFrame host request header carried =
     (asked : Carried) × (carried_of request.carried ≡ Some asked) × IsFrameReply host request.header asked header carried
 
--- the values of the host's reply to an echo request, a neighbour solicitation or a UDP packet to a closed port in a
--- frame
+-- the values of the host's reply with a message to a frame
 abbrev pub RepliesMessage : Host → List ℕ → Frame → EthernetRepr → Carried → Type 0
 RepliesMessage host bytes request header carried =
     (asked : Carried) × (carried_of request.carried ≡ Some asked) × IsMessageReply host bytes request.header asked header carried

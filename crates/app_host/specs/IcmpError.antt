@@ -1,6 +1,7 @@
 -- ICMP errors about the packet of a frame (RFC 1122, section 3.2.2; RFC 1812, section 4.3.2; RFC 4443, section 2.4).
 -- Pinned by: `worked/icmp`, `MessagesOnce`, `calls/host`
-use Rattle.std.specs.Prelude.{ℕ, ◌≡◌, ◌⊎◌, List, [], drop, false, length, min, take, true}
+use Rattle.std.specs.Prelude.{ℕ, ◌≡◌, ◌⊎◌, Bool, List, [], drop, false, length, min, take, true}
+use Rattle.ip_wire.specs.Class.{solicited_node}
 use Rattle.ip_wire.specs.Ethernet as ethernet
 use Rattle.ip_wire.specs.Frame.{Carried, other, packet, type_of}
 use Rattle.ip_wire.specs.Hardware as hardware
@@ -9,12 +10,14 @@ use Rattle.ip_wire.specs.Field.{field}
 use Rattle.ip_wire.specs.Ipv4 as ipv4
 use Rattle.ip_wire.specs.Ipv6 as ipv6
 use Rattle.ip_wire.specs.Protocol.{number_of}
-use Rattle.ip_wire.specs.Types.{EthernetRepr, IpRepr, IpVersion, Ipv4, Ipv6}
+use Rattle.ip_wire.specs.Types.{EthernetRepr, IpRepr, IpVersion, Ipv4, Ipv6, Ipv6Repr}
+use Rattle.ip_wire.specs.declared.IpAddress.TheVariants as address
 use Rattle.ip_wire.specs.declared.IpVersion.TheVariants as version
 use Rattle.wire_icmp.specs.Icmp.{bytes_of, is_query, protocol_of}
 use Rattle.wire_icmp.specs.declared.IcmpRepr.{IcmpRepr}
 use Rattle.app_host.specs.Interface.{header_back}
 use Rattle.app_host.specs.Ipv6Chain.{LeadsTo}
+use Rattle.app_host.specs.Neighbour.{all_nodes, group_hardware}
 use Rattle.app_host.specs.Source.{IsHostAddr, IsInvalidSource}
 use Rattle.app_host.specs.declared.interface.Interface.{Interface}
 
@@ -52,19 +55,48 @@ abbrev pub quoted : IpVersion → List ℕ → List ℕ
 quoted version.Ipv4 bytes = take (min 548 (ipv4.total_len bytes)) bytes
 quoted version.Ipv6 bytes = take (min 1232 (ipv6.total_len bytes)) bytes
 
+-- a group of our interface, which has a host's IPv6 address: all nodes, and the solicited-node group of our address (RFC
+-- 4291, section 2.8)
+pub record IsOurGroup (ours : Interface) (group : List ℕ) : Type 0 where
+  pub own : IsHostAddr (address.Ipv6 ours.ipv6_addr)
+  pub one_of : (group ≡ all_nodes) ⊎ (group ≡ solicited_node ours.ipv6_addr)
+
+-- The packet goes to a group of ours, and the frame to the hardware address of the group or to ours (RFC 6085). An error
+-- may be sent about a packet with these headers that goes to our address.
+pub record IsToGroup (ours : Interface) (link : EthernetRepr) (v : Ipv6Repr) : Type 0 where
+  pub to_group : IsOurGroup ours v.dst_addr
+  pub to_hardware : (link.dst_addr.0 ≡ group_hardware v.dst_addr) ⊎ (link.dst_addr ≡ ours.hardware_addr)
+  pub from_host : IsBetweenHosts ours (record link { dst_addr = ours.hardware_addr }) (Ipv6 (record v { dst_addr = ours.ipv6_addr }))
+
+-- The packet goes from one other host to one host, or also to a group of ours. Over IPv6 some errors are sent about packets
+-- to groups (RFC 4443, section 2.4 e.3 and e.4).
+abbrev pub IsToReceiver : Bool → Interface → EthernetRepr → IpRepr → Type 0
+IsToReceiver true ours link (Ipv6 v) = IsBetweenHosts ours link (Ipv6 v) ⊎ IsToGroup ours link v
+IsToReceiver true ours link (Ipv4 v) = IsBetweenHosts ours link (Ipv4 v)
+IsToReceiver false ours link v = IsBetweenHosts ours link v
+
 -- The second frame carries an ICMP error with this message about the packet with this header in the first frame. An
--- error may be sent about it.
-pub record IsErrorAbout (ours : Interface) (frame : List ℕ) (v : IpRepr) (message : IcmpRepr) (header : EthernetRepr) (carried : Carried) : Type 0 where
+-- error may be sent about it, also to a group if `to_groups`.
+pub record IsErrorAboutTo (to_groups : Bool) (ours : Interface) (frame : List ℕ) (v : IpRepr) (message : IcmpRepr) (header : EthernetRepr) (carried : Carried) : Type 0 where
   pub asked_link : EthernetRepr
   pub reads_link : ethernet.Reads frame asked_link
   pub reads : Reads (drop 14 frame) true v
-  pub hosts : IsBetweenHosts ours asked_link v
+  pub hosts : IsToReceiver to_groups ours asked_link v
   pub told_of : IsToldOf v (drop 14 frame)
   pub link : header ≡ record { src_addr = ours.hardware_addr; dst_addr = asked_link.src_addr; ethertype = type_of v }
   pub tells : carried ≡ (let back = header_from ours v in
       let bytes = bytes_of message (quoted (version_of v) (drop 14 frame)) (src_addr_of back) (dst_addr_of back) true in
       packet (header_before back (protocol_of (version_of v)) (length bytes)) (other bytes))
 
--- the second frame carries an ICMP error with this message about the packet in the first frame
+-- the second frame carries an ICMP error with this message about the packet in the first frame, also to a group if
+-- `to_groups`
+abbrev pub IsErrorTo : Bool → Interface → List ℕ → IcmpRepr → EthernetRepr → Carried → Type 0
+IsErrorTo to_groups ours frame message header carried = (v : IpRepr) × IsErrorAboutTo to_groups ours frame v message header carried
+
+-- the second frame carries an ICMP error with this message about the packet with this header in the first frame, to one host
+abbrev pub IsErrorAbout : Interface → List ℕ → IpRepr → IcmpRepr → EthernetRepr → Carried → Type 0
+IsErrorAbout ours frame v message header carried = IsErrorAboutTo false ours frame v message header carried
+
+-- the second frame carries an ICMP error with this message about the packet in the first frame, to one host
 abbrev pub IsError : Interface → List ℕ → IcmpRepr → EthernetRepr → Carried → Type 0
 IsError ours frame message header carried = (v : IpRepr) × IsErrorAbout ours frame v message header carried

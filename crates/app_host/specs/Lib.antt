@@ -4,8 +4,10 @@ pub mod IcmpEcho
 pub mod IcmpError
 pub mod Interface
 pub mod Ipv6Chain
+pub mod Ipv6Fault
 pub mod Message
 pub mod Neighbour
+pub mod ParameterProblem
 pub mod Source
 pub mod TcpReply
 pub mod UdpEcho

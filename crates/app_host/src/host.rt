@@ -14,7 +14,8 @@ ghost use Rattle.ip_wire.specs.declared.Transport.{Transport as Inner};
 
 use crate::tcp_reply::Offer;
 use crate::{
-    Interface, MessageFrame, Reply, arp, icmp_echo, icmp_error, neighbour, tcp_answer, udp_echo,
+    Interface, MessageFrame, Reply, arp, icmp_echo, icmp_error, neighbour, parameter_problem,
+    tcp_answer, udp_echo,
 };
 use ip_wire::{
     Carried, ChecksumCapabilities, ETHERNET_HEADER_LEN, Frame, IpVersion, Ipv4Packet, Ipv6Packet,
@@ -86,7 +87,8 @@ fn reply_with_frame<'a>(host: &Host<'_>, request: &Frame<'a>) -> Option<Frame<'a
     tcp_answer::reply(request, &host.interface, host.open_ports, &host.offer)
 }
 
-// The reply to an echo request, to a neighbour solicitation, or to a UDP packet for a closed port.
+// The reply to an echo request, to a neighbour solicitation, to a UDP packet for a closed port, or to a packet with a
+// faulty extension header.
 #[inline(never)]
 fn reply_with_message<'a>(
     host: &Host<'_>,
@@ -103,7 +105,10 @@ fn reply_with_message<'a>(
     if let Some(advert) = neighbour::reply(request, &host.interface) {
         return Some(advert);
     }
-    port_unreachable(host, request, frame)
+    if let Some(error) = port_unreachable(host, request, frame) {
+        return Some(error);
+    }
+    parameter_problem::reply(request, frame, &host.interface)
 }
 
 // The DSCP of the packet in a frame, which has these bytes. 0 if there is no packet.

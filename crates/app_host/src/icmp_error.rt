@@ -2,7 +2,7 @@
 //! section 2.4).
 
 ghost use Rattle.std.specs.Prelude.{◌≡◌, ◌↔◌, IfSome, IsTrue, true};
-ghost use Rattle.app_host.specs.IcmpError.{IsBetweenHosts, IsError, IsIcmpError, IsToldOf, header_from, quoted};
+ghost use Rattle.app_host.specs.IcmpError.{IsBetweenHosts, IsError, IsErrorTo, IsIcmpError, IsOurGroup, IsToGroup, IsToReceiver, IsToldOf, header_from, quoted};
 ghost use Rattle.app_host.specs.Message.{Gives};
 ghost use Rattle.ip_wire.specs.Ip.{Reads, version_of};
 ghost use Rattle.ip_wire.specs.Ipv4 as ipv4;
@@ -12,9 +12,10 @@ ghost use Rattle.ip_wire.specs.Types.{Ipv4, Ipv6};
 use crate::interface::{Interface, header_back, is_host_addr};
 use crate::ipv6_chain::upper_layer;
 use crate::message::{MessageFrame, ethertype_of};
+use crate::neighbour::group_hardware;
 use ip_wire::{
-    ChecksumCapabilities, EthernetFrame, EthernetRepr, IpPacket, IpRepr, IpVersion, Ipv4Packet,
-    Ipv4Repr, Ipv6Packet, Ipv6Repr,
+    ChecksumCapabilities, EthernetFrame, EthernetRepr, IPV6_LINK_LOCAL_ALL_NODES, IpAddress,
+    IpPacket, IpRepr, IpVersion, Ipv4Packet, Ipv4Repr, Ipv6Address, Ipv6Packet, Ipv6Repr,
 };
 use wire_icmp::{IcmpPacket, IcmpRepr, protocol_of};
 
@@ -39,6 +40,20 @@ pub fn error<'a>(frame: &'a [u8], ours: &Interface, message: IcmpRepr) -> Option
     ensures error { Gives (IsError ours.now frame.now message) result }
     ensures unmarked { IfSome result (λ error. error.dscp ≡ 0) }
 {
+    error_to(frame, ours, message, false)
+}
+
+/// As `error`. If `to_groups`, also about a packet to a multicast group of the interface (RFC 4443, section 2.4 e.3).
+#[inline(always)]
+pub(crate) fn error_to<'a>(
+    frame: &'a [u8],
+    ours: &Interface,
+    message: IcmpRepr,
+    to_groups: bool,
+) -> Option<MessageFrame<'a>>
+    ensures error { Gives (IsErrorTo to_groups ours.now frame.now message) result }
+    ensures unmarked { IfSome result (λ error. error.dscp ≡ 0) }
+{
     let view = EthernetFrame::new_unchecked(frame);
     let Ok(link) = EthernetRepr::parse(&view) else {
         return None;
@@ -48,7 +63,7 @@ pub fn error<'a>(frame: &'a [u8], ours: &Interface, message: IcmpRepr) -> Option
     let Ok(header) = IpRepr::parse(&IpPacket::new_unchecked(packet), &caps) else {
         return None;
     };
-    if !is_between_hosts(&link, &header, ours) {
+    if !is_to_receiver(to_groups, &link, &header, ours) {
         return None;
     }
     if !is_told_of(&header, packet) {
@@ -69,6 +84,51 @@ fn is_between_hosts(link: &EthernetRepr, header: &IpRepr, ours: &Interface) -> b
         && !ours.is_invalid_source(&header.src_addr())
         && is_host_addr(&header.dst_addr())
         && is_host_addr(&header_from(ours, header).src_addr())
+}
+
+// The same, or whether a packet goes to a group of ours, if `to_groups`.
+#[inline(always)]
+fn is_to_receiver(to_groups: bool, link: &EthernetRepr, header: &IpRepr, ours: &Interface) -> bool
+    ensures { IsTrue result ↔ IsToReceiver to_groups ours.now link.now header.now }
+{
+    if is_between_hosts(link, header, ours) {
+        return true;
+    }
+    if !to_groups {
+        return false;
+    }
+    match header {
+        IpRepr::Ipv4(_) => false,
+        IpRepr::Ipv6(header) => is_to_group(link, header, ours),
+    }
+}
+
+// Whether a packet goes from one other host to a group of ours.
+#[inline(never)]
+fn is_to_group(link: &EthernetRepr, header: &Ipv6Repr, ours: &Interface) -> bool
+    ensures { IsTrue result ↔ IsToGroup ours.now link.now header.now }
+{
+    let is_to_hardware = link.dst_addr == group_hardware(&header.dst_addr)
+        || link.dst_addr == ours.hardware_addr;
+    let to_us = EthernetRepr {
+        dst_addr: ours.hardware_addr,
+        ..*link
+    };
+    let header_to_us = IpRepr::Ipv6(Ipv6Repr {
+        dst_addr: ours.ipv6_addr,
+        ..*header
+    });
+    is_our_group(ours, &header.dst_addr)
+        && is_to_hardware
+        && is_between_hosts(&to_us, &header_to_us, ours)
+}
+
+/// Whether it is a multicast group of the interface: all nodes, or the solicited-node group of its address.
+pub(crate) fn is_our_group(ours: &Interface, group: &Ipv6Address) -> bool
+    ensures { IsTrue result ↔ IsOurGroup ours.now group.now }
+{
+    is_host_addr(&IpAddress::Ipv6(ours.ipv6_addr))
+        && (*group == IPV6_LINK_LOCAL_ALL_NODES || *group == ours.ipv6_addr.solicited_node())
 }
 
 // Whether an error may be sent about what the packet carries.

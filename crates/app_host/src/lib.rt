@@ -1,6 +1,6 @@
 //! A host with one interface: it replies to ARP requests, to neighbour solicitations, to echo requests, to UDP
-//! packets for its echo port or a closed one, and to TCP segments without a connection. Each reply is also a
-//! function by itself, and so are ICMP errors about a frame.
+//! packets for its echo port or a closed one, to TCP segments without a connection, and to faulty extension headers
+//! of IPv6. Each reply is also a function by itself, and so are ICMP errors about a frame.
 #![tactic(auto)]
 
 pub mod arp;
@@ -9,9 +9,11 @@ pub mod icmp_echo;
 pub mod icmp_error;
 mod interface;
 mod ipv6_chain;
+pub mod ipv6_fault;
 pub mod laws;
 mod message;
 pub mod neighbour;
+pub mod parameter_problem;
 pub mod tcp_answer;
 pub mod tcp_reply;
 pub mod udp_echo;

@@ -130,7 +130,7 @@ fn hardware_of(named: Option<EthernetAddress>, hardware: EthernetAddress) -> Eth
 }
 
 // The hardware address of a multicast group (RFC 2464, section 7).
-fn group_hardware(group: &Ipv6Address) -> EthernetAddress
+pub(crate) fn group_hardware(group: &Ipv6Address) -> EthernetAddress
     ensures { result.0 ≡ group_hardware group.now }
 {
     let mut octets = [0x33; 6];

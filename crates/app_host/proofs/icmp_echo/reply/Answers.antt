@@ -1,4 +1,4 @@
-use Rattle.std.proofs.Common.{◌∙◌, Some, None, ap, refl}
+use Rattle.std.proofs.Common.{◌∙◌, Some, None, ap}
 use Rattle.ip_wire.specs.Frame.{other, packet}
 use Rattle.ip_wire.specs.FrameValue.{carried_of}
 use Rattle.ip_wire.specs.declared.Carried.TheVariants as carried

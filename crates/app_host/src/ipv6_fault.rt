@@ -1,0 +1,190 @@
+//! Why a host discards an IPv6 packet because of its extension headers (RFC 8200, section 4).
+
+ghost use Rattle.std.specs.Prelude.{◌≡◌, ◌+◌, ◌≤◌, ◌<◌, None, false, length, slice_index};
+ghost use Rattle.app_host.specs.Ipv6Fault.{fault_of, header_end, header_fault, is_last, is_processed, option_end, option_fault, options_fault, routing_fault, type_fault};
+
+const HOP_BY_HOP: u8 = 0;
+
+const ROUTING: u8 = 43;
+
+const DESTINATION: u8 = 60;
+
+// Where the IPv6 header names the next header.
+const NEXT_HEADER_AT: u32 = 6;
+
+// The length of the IPv6 header in bytes.
+const HEADER_LEN: u32 = 40;
+
+/// Why a host discards a packet.
+#[derive(Debug, Clone, Copy, PartialEq, Eq)]
+pub enum Fault {
+    /// Without an error.
+    Silent,
+    /// With the error "parameter problem". `pointer` counts from the start of the IPv6 header. If `to_groups`, the
+    /// error is sent about a packet to a multicast group too.
+    Reported {
+        code: u8,
+        pointer: u32,
+        to_groups: bool,
+    },
+}
+
+/// The first fault of the extension headers of a packet with this next header and payload.
+pub fn first_fault(next_header: u8, payload: &[u8]) -> Option<Fault>
+    requires { length payload.now ≤ 65535 }
+    ensures { result ≡ fault_of next_header payload.now }
+{
+    let mut number = next_header;
+    let mut pointer = NEXT_HEADER_AT;
+    let mut start = 0;
+    while !is_last(number) {
+        if let Some(fault) = header_fault(payload, number, pointer, start) {
+            return Some(fault);
+        }
+        number = byte_at(payload, start);
+        pointer = pointer_to(start);
+        start = header_end(payload, start);
+    }
+    None
+}
+
+// Whether the number ends the extension headers of a packet, or is that of a fragment header.
+fn is_last(number: u8) -> bool
+    ensures { result ≡ is_last number }
+{
+    matches!(number, 6 | 17 | 44 | 58 | 59)
+}
+
+// The fault of the extension header with this number, to which the byte at `pointer` leads.
+fn header_fault(payload: &[u8], number: u8, pointer: u32, start: usize) -> Option<Fault>
+    requires position { start ≤ length payload.now }
+    requires short { length payload.now ≤ 65535 }
+    ensures fault { result ≡ header_fault payload.now number pointer start }
+    ensures whole { result ≡ None → header_end payload.now start ≤ length payload.now }
+{
+    if !is_processed(number, start) {
+        return Some(reported(1, pointer));
+    }
+    let end = header_end(payload, start);
+    if payload.len() < end {
+        return Some(Fault::Silent);
+    }
+    if number == ROUTING {
+        return routing_fault(payload, start);
+    }
+    options_fault(payload, start + 2, end)
+}
+
+// Whether the host processes the extension header with this number here.
+fn is_processed(number: u8, start: usize) -> bool
+    ensures { result ≡ is_processed number start }
+{
+    (number == HOP_BY_HOP && start == 0) || number == ROUTING || number == DESTINATION
+}
+
+// Where the extension header ends that starts here.
+fn header_end(payload: &[u8], start: usize) -> usize
+    requires position { start ≤ length payload.now }
+    requires short { length payload.now ≤ 65535 }
+    ensures { result ≡ header_end payload.now start }
+{
+    start + 8 * (usize::from(byte_at(payload, start + 1)) + 1)
+}
+
+// The fault of the routing header that starts here.
+fn routing_fault(payload: &[u8], start: usize) -> Option<Fault>
+    requires position { start ≤ length payload.now }
+    requires short { length payload.now ≤ 65535 }
+    ensures { result ≡ routing_fault payload.now start }
+{
+    if byte_at(payload, start + 3) == 0 {
+        return None;
+    }
+    Some(reported(0, pointer_to(start) + 2))
+}
+
+// The first fault of the options from `first` to `end`.
+fn options_fault(payload: &[u8], first: usize, end: usize) -> Option<Fault>
+    requires position { end ≤ length payload.now }
+    requires short { length payload.now ≤ 65535 }
+    ensures { result ≡ options_fault (length payload.now) payload.now first end }
+{
+    let mut start = first;
+    while start < end {
+        if let Some(fault) = option_fault(payload, start, end) {
+            return Some(fault);
+        }
+        start = option_end(payload, start);
+    }
+    None
+}
+
+// The fault of the option that starts here, in a header that ends at `end`.
+fn option_fault(payload: &[u8], start: usize, end: usize) -> Option<Fault>
+    requires position { start < length payload.now }
+    requires short { length payload.now ≤ 65535 }
+    ensures { result ≡ option_fault payload.now start end }
+{
+    if end < option_end(payload, start) {
+        return Some(reported(0, pointer_to(start) + 1));
+    }
+    type_fault(byte_at(payload, start), pointer_to(start))
+}
+
+// Where the option ends that starts here.
+fn option_end(payload: &[u8], start: usize) -> usize
+    requires position { start < length payload.now }
+    requires short { length payload.now ≤ 65535 }
+    ensures { result ≡ option_end payload.now start }
+{
+    if byte_at(payload, start) == 0 {
+        return start + 1;
+    }
+    start + 2 + usize::from(byte_at(payload, start + 1))
+}
+
+// The fault of an option with this type.
+fn type_fault(kind: u8, pointer: u32) -> Option<Fault>
+    ensures { result ≡ type_fault kind pointer }
+{
+    if kind < 64 {
+        return None;
+    }
+    if kind < 128 {
+        return Some(Fault::Silent);
+    }
+    Some(Fault::Reported {
+        code: 2,
+        pointer,
+        to_groups: kind < 192,
+    })
+}
+
+// A fault that is reported to the sender of a packet to one host.
+fn reported(code: u8, pointer: u32) -> Fault
+    ensures { result ≡ Fault.Reported code pointer false }
+{
+    Fault::Reported {
+        code,
+        pointer,
+        to_groups: false,
+    }
+}
+
+// The pointer to a byte of the payload.
+fn pointer_to(position: usize) -> u32
+    requires { position ≤ 65535 }
+    ensures { result ≡ 40 + position }
+{
+    HEADER_LEN + position as u32
+}
+
+// A byte of the payload, or 0 past its end.
+fn byte_at(payload: &[u8], position: usize) -> u8
+    ensures { result ≡ slice_index payload.now position }
+{
+    match payload.get(position) {
+        Some(byte) => *byte,
+        None => 0,
+    }
+}

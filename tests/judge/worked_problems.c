@@ -1,0 +1,71 @@
+/* Worked errors of a host about IPv6 extension headers (RFC 8200, section 4; RFC 4443, section 3.4). */
+#include "worked.h"
+
+/* The host that is asked. */
+static struct lk_host asked_host(void)
+{
+    struct lk_host host;
+    memset(&host, 0, sizeof host);
+    host.ipv4 = addr("192.0.2.2");
+    host.ipv6 = addr("2001:db8::2");
+    memcpy(host.hardware, "\2\0\0\0\0\2", 6);
+    return host;
+}
+
+/* A frame with changes, and the error about it; 0: none. */
+static const struct {
+    const struct octets *frame;
+    struct change before[CHANGES];
+    const struct octets *answer;
+} problems[] = {
+    {&unknown_option6, {{0, 0}}, &option_problem6},
+    {&group_option6, {{0, 0}}, &group_problem6},
+    {&unicast_option6, {{0, 0}}, &unicast_problem6},
+    {&routed6, {{0, 0}}, &routing_problem6},
+    {&late_options6, {{0, 0}}, &late_problem6},
+    {&sctp6, {{0, 0}}, &sctp_problem6},
+    {&long_option6, {{0, 0}}, &length_problem6},
+    /* a frame of a group to the host itself (RFC 6085), and one to another group or another hardware address */
+    {&group_option6, {{0, 2}, {1, 0}, {5, 2}}, &group_problem6},
+    {&group_option6, {{53, 2}}, 0},
+    {&group_option6, {{5, 2}}, 0},
+    /* types with the highest bits 00, 01, and 11 to a group */
+    {&unknown_option6, {{61, 0x1e}}, 0},
+    {&unknown_option6, {{61, 0x5e}}, 0},
+    {&group_option6, {{61, 0xde}}, 0},
+    /* no segments left; the option ends with its header; no next header; a fragment header before the options */
+    {&routed6, {{65, 0}}, 0},
+    {&long_option6, {{61, 0}}, 0},
+    {&sctp6, {{20, 59}}, 0},
+    {&unknown_option6, {{20, 44}, {54, 60}}, 0},
+    /* a header that is longer than the packet */
+    {&late_options6, {{55, 3}}, 0},
+    /* an ICMPv6 error after the option (RFC 4443, section 2.4 e.1) */
+    {&unknown_option6, {{70, 1}}, 0},
+    /* from a group, from `::`, from a hardware group, to another host and to another hardware address (e.3 to e.6) */
+    {&unknown_option6, {{22, 0xff}}, 0},
+    {&unknown_option6, {{22, 0}, {23, 0}, {24, 0}, {25, 0}, {37, 0}}, 0},
+    {&unknown_option6, {{6, 3}}, 0},
+    {&unknown_option6, {{53, 3}}, 0},
+    {&unknown_option6, {{5, 3}}, 0},
+};
+
+static void answers_faulty_headers(void)
+{
+    const struct lk_host host = asked_host();
+    struct lk_host without = host;
+    for (size_t i = 0; i < sizeof problems / sizeof *problems; i++) {
+        const struct octets frame = cut(problems[i].frame, problems[i].frame->len, problems[i].before);
+        if (problems[i].answer)
+            WRITES(*problems[i].answer, both_answer(&host, frame.at, frame.len, out, cap));
+        else
+            FAILS(0, both_answer(&host, frame.at, frame.len, out, ROOM));
+    }
+    without.ipv6 = addr("::");
+    FAILS(0, both_answer(&without, group_option6.at, group_option6.len, out, ROOM));
+}
+
+void worked_problems(void)
+{
+    answers_faulty_headers();
+}
