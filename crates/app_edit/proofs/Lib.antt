@@ -1,4 +1,5 @@
 mod Covers
+mod FewBytes
 mod Found
 mod Kept
 pub mod Layouts

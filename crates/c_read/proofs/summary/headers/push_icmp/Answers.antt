@@ -1,4 +1,4 @@
-use Rattle.std.proofs.Common.{◌≡◌, ◌∙◌, ◌++◌, append_assoc, ap, codes, decimal, List, ℕ}
+use Rattle.std.proofs.Common.{◌∙◌, ◌++◌, append_assoc, ap, codes, decimal, List, ℕ}
 use Rattle.c_read.proofs.summary.headers.push_icmp.Goals as goal
 
 pub returns-clause-bytes : goal.returns-clause-bytes
