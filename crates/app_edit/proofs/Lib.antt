@@ -1,5 +1,4 @@
 mod Covers
-mod FewBytes
 mod Found
 mod Kept
 pub mod Layouts
@@ -13,6 +12,7 @@ mod PlacedSums
 mod PlacesStay
 mod ReadBack
 mod Sent
+mod ShortSums
 mod Stays
 mod StaysValid
 mod Sums

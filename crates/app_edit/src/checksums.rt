@@ -57,6 +57,9 @@ fn sum_at(offset: usize, bytes: &[u8]) -> u16
 fn sum_of(bytes: &[u8]) -> u16
     ensures { result ≡ sum_of_bytes bytes.now }
 {
+    if bytes.len() >= 8 {
+        return checksum::data(bytes);
+    }
     match bytes {
         [a] => word(*a, 0),
         [a, b] => word(*a, *b),

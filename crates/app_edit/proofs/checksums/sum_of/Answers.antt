@@ -1,5 +1,5 @@
 use Rattle.std.proofs.Common.{◌≤◌, ◌∙◌, arith, rules}
-use Rattle.app_edit.proofs.FewBytes.{four_bytes, one_byte, two_bytes}
+use Rattle.app_edit.proofs.ShortSums.{four_bytes, one_byte, two_bytes}
 use Rattle.app_edit.proofs.checksums.sum_of.Goals as goal
 
 pub returns-in-len1 : goal.returns-in-len1
