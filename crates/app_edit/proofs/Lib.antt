@@ -13,6 +13,7 @@ mod PlacedSums
 mod PlacesStay
 mod ReadBack
 mod Sent
+mod ShortSums
 mod Stays
 mod StaysValid
 mod Sums

@@ -4,6 +4,7 @@ ghost use Rattle.std.specs.Prelude.{◌≡◌, ◌≤◌, ◌+◌, ◌^◌, leng
 ghost use Rattle.ip_wire.specs.IpAddress.{version_of};
 ghost use Rattle.ip_wire.specs.WordSum.{updated};
 ghost use Rattle.app_edit.specs.Edited.{can_be_left, dst_of, edited, header_checksum, is_left, looks_left, pseudo_header_sum, segment_sum, src_of, transport_checksum, updated_by, updated_checksum, updated_over, with_header_checksum, with_transport_checksum, with_word, word_at, written};
+ghost use Rattle.app_edit.specs.Checksums.{sum_at};
 ghost use Rattle.app_edit.specs.Filled.{filled};
 ghost use Rattle.app_edit.specs.Places.{Holds, InFrame, addresses_end, addresses_start};
 
@@ -27,6 +28,7 @@ pub enum Offload {
 
 impl Places {
     // Writes bytes from byte `at` on, and updates the checksums that cover them.
+    #[inline(always)]
     pub(crate) fn replace(&self, frame: &mut [u8], at: usize, bytes: &[u8], offload: Offload)
         requires places { Holds self.now frame.old }
         requires room { at + length bytes.now ≤ length frame.old }
@@ -40,6 +42,7 @@ impl Places {
     }
 
     // The checksum of an IPv4 header after these bytes are written; 0 for IPv6.
+    #[inline(always)]
     fn header_checksum(&self, frame: &[u8], at: usize, bytes: &[u8]) -> u16
         requires places { Holds self.now frame.now }
         requires room { at + length bytes.now ≤ length frame.now }
@@ -56,6 +59,7 @@ impl Places {
     }
 
     // The checksum of the transport packet after these bytes are written; 0 if there is none.
+    #[inline(always)]
     fn transport_checksum(&self, frame: &[u8], at: usize, bytes: &[u8], offload: Offload) -> u16
         requires places { Holds self.now frame.now }
         requires room { at + length bytes.now ≤ length frame.now }
@@ -70,6 +74,7 @@ impl Places {
         }
     }
 
+    #[inline(always)]
     fn write_header_checksum(&self, frame: &mut [u8], checksum: u16)
         requires { 26 ≤ length frame.old }
         ensures { frame.new ≡ with_header_checksum self.now.version frame.old checksum }
@@ -79,6 +84,7 @@ impl Places {
         }
     }
 
+    #[inline(always)]
     fn write_transport_checksum(&self, frame: &mut [u8], checksum: u16)
         requires { Holds self.now frame.old }
         ensures { frame.new ≡ with_transport_checksum self.now.carried frame.old checksum }
@@ -104,6 +110,7 @@ impl Segment {
     }
 
     // The checksum field after the bytes `before` from byte `at` on became `after`.
+    #[inline(always)]
     fn updated_checksum(
         &self,
         version: IpVersion,
@@ -235,6 +242,7 @@ fn dst_of(version: IpVersion, frame: &[u8]) -> IpAddress
 
 // The field of a checksum that covers the bytes from `first` up to `last`, after the bytes `before` from byte `at` on
 // became `after`.
+#[inline(always)]
 fn update_over(field: u16, first: usize, last: usize, at: usize, before: &[u8], after: &[u8]) -> u16
     requires same { length before.now ≡ length after.now }
     requires room { at + length after.now ≤ 2 ^ 63 }
@@ -244,7 +252,44 @@ fn update_over(field: u16, first: usize, last: usize, at: usize, before: &[u8], 
 }
 
 // The same for the checksum of this protocol. That of UDP differs from the others: a field of 0 stays.
+#[inline(always)]
 fn update_by(
+    protocol: IpProtocol,
+    field: u16,
+    first: usize,
+    last: usize,
+    at: usize,
+    before: &[u8],
+    after: &[u8],
+) -> u16
+    requires same { length before.now ≡ length after.now }
+    requires room { at + length after.now ≤ 2 ^ 63 }
+    ensures { result ≡ updated_over (updated_by protocol) field first last at before.now after.now }
+{
+    let end = at + after.len();
+    if end <= first || last <= at || after.is_empty() {
+        return field;
+    }
+    if first <= at && end <= last {
+        return update_whole(protocol, field, at, before, after);
+    }
+    update_partly(protocol, field, first, last, at, before, after)
+}
+
+// The same if the checksum covers all these bytes, as in most edits. Their sums are then the same for all checksums.
+#[inline(always)]
+fn update_whole(protocol: IpProtocol, field: u16, at: usize, before: &[u8], after: &[u8]) -> u16
+    ensures { result ≡ updated_by protocol field (sum_at at before.now) (sum_at at after.now) }
+{
+    match protocol {
+        IpProtocol::Udp => update_udp_bytes(field, at, before, after),
+        _ => update_bytes(field, at, before, after),
+    }
+}
+
+// The same if the checksum covers only some of these bytes.
+#[inline(never)]
+fn update_partly(
     protocol: IpProtocol,
     field: u16,
     first: usize,
@@ -263,13 +308,11 @@ fn update_by(
         return field;
     }
     let (before, after) = (&before[from - at..to - at], &after[from - at..to - at]);
-    match protocol {
-        IpProtocol::Udp => update_udp_bytes(field, from, before, after),
-        _ => update_bytes(field, from, before, after),
-    }
+    update_whole(protocol, field, from, before, after)
 }
 
 // The number in the two bytes from byte `at` on.
+#[inline(always)]
 fn word_at(frame: &[u8], at: usize) -> u16
     requires { at + 2 ≤ length frame.now }
     ensures { result ≡ word_at frame.now at }
@@ -277,6 +320,7 @@ fn word_at(frame: &[u8], at: usize) -> u16
     NetworkEndian::read_u16(&frame[at..])
 }
 
+#[inline(always)]
 fn write_word(frame: &mut [u8], at: usize, number: u16)
     requires { at + 2 ≤ length frame.old }
     ensures { frame.new ≡ with_word frame.old at number }
@@ -285,6 +329,7 @@ fn write_word(frame: &mut [u8], at: usize, number: u16)
 }
 
 // Writes bytes from byte `at` on.
+#[inline(always)]
 fn write_at(frame: &mut [u8], at: usize, bytes: &[u8])
     requires { at + length bytes.now ≤ length frame.old }
     ensures { frame.new ≡ written frame.old at bytes.now }
