@@ -322,7 +322,7 @@ struct lk_frame {
     size_t transport_offset; /* of the UDP, TCP or ICMP header, also of a rejected one that is stored */
     size_t payload_offset;   /* of the payload */
     size_t payload_len;      /* ends within the frame, before its padding */
-    struct lk_endpoint src;  /* the sender; the port is 0 unless a UDP or TCP header is stored */
+    struct lk_endpoint src;  /* the sender; the port is 0 unless a UDP or TCP header is stored, or begins in a fragment */
     struct lk_endpoint dst;
     struct lk_ip ip;
     struct lk_tcp tcp;
@@ -332,7 +332,7 @@ struct lk_frame {
     uint8_t network;            /* an `lk_network`: the header that was read */
     uint8_t transport;          /* an `lk_transport`: the header that was read */
     uint8_t rejected;           /* an `lk_transport`: the header that was rejected, but is stored */
-    uint8_t is_fragment;        /* 1: a part of an IP packet, so its payload is not parsed */
+    uint8_t is_fragment;        /* 1: a part of an IP packet, so only ports of its payload are stored */
     uint8_t ipv4_checksum;      /* an `lk_verdict` */
     uint8_t transport_checksum; /* an `lk_verdict` */
     uint8_t protocol;           /* the number of the transport header or the payload, after IPv6 extension headers */
@@ -365,6 +365,10 @@ struct lk_frame {
  *   quoted is a beginning: lk_read_captured_packet reads it, with LK_MAX_LEN as `len`.
  * - The values of an IPv6 fragment header are stored. If it is that of a fragment, `is_fragment` is 1, `protocol` is 44,
  *   and the payload begins at it. That of an atomic fragment, which is a whole packet (RFC 6946), is stepped through.
+ * - Of the first fragment of a UDP or TCP packet the ports are stored, if these 4 bytes are there: `is_fragment` is 1 and
+ *   `ip.fragment_offset` is 0. `transport` is LK_NO_TRANSPORT, and the payload begins as in other fragments. Over IPv6 the
+ *   number of the protocol is its first byte. Later fragments have the ports 0. So has a first fragment with an extension
+ *   header after its fragment header.
  * - An extension header that does not end within the packet is rejected with LK_TOO_SHORT.
  *
  * A loop over many short frames that are not in the caches, each in a buffer of its own, is faster if it
@@ -390,7 +394,8 @@ int lk_read_packet(const uint8_t *ptr, size_t len, struct lk_frame *frame);
  * - An IPv6 extension header that was cut gives LK_HEADER_CUT, and the fields of the headers before it are stored.
  * - If a TCP, UDP or ICMP checksum covers bytes that were not captured, its verdict is LK_CHECKSUM_CUT. But a UDP
  *   checksum of 0 is LK_LEFT_OUT, or LK_WRONG over IPv6.
- * - An ICMP message of which fewer than 8 bytes were captured has no transport, and no header is rejected.
+ * - An ICMP message of which fewer than 8 bytes were captured has no transport, and no header is rejected. A first
+ *   fragment of which the ports were not captured has the ports 0.
  * - `payload_len` is that of the whole frame: the payload may end past the captured bytes. */
 int lk_read_captured(const uint8_t *ptr, size_t captured, size_t len, struct lk_frame *frame);
 int lk_read_captured_packet(const uint8_t *ptr, size_t captured, size_t len, struct lk_frame *frame);
@@ -453,8 +458,9 @@ int lk_read_linktype(uint32_t link_type, const uint8_t *ptr, size_t captured, si
  *     ARP 192.0.2.1 > 192.0.2.2 op=1 hardware=02-00-00-00-00-01 len=0
  *     Ethernet 02-00-00-00-00-01 > 02-00-00-00-00-02 type=0x0800 len=19 (too short)
  *
- * - The sender is before the receiver. There are ports if a UDP or TCP header is stored, also a rejected one. If no ARP
- *   or IP header was read, the line has `ethernet`: the addresses, which are 0 for other links, and the type.
+ * - The sender is before the receiver. There are ports if a UDP or TCP header is stored, also a rejected one, and none of
+ *   a fragment. If no ARP or IP header was read, the line has `ethernet`: the addresses, which are 0 for other links, and
+ *   the type.
  * - A UDP or TCP header that is rejected, but is stored, is printed as one that was read. Another protocol, a fragment and
  *   a header that is not stored have `proto`, which is `protocol`.
  * - Of the TCP flags `syn`, `fin`, `rst`, `psh`, `ece` and `cwr` are printed. If ACK is set, `ack` follows `seq`; if URG

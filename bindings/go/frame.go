@@ -99,7 +99,7 @@ type Frame struct {
 	Transport         Transport // the header that was read
 	Rejected          Transport // the header that was rejected, but whose fields are in Headers
 	Protocol          uint8     // the number of the transport or the payload of an IP packet, after IPv6 extension headers
-	IsFragment        bool      // a part of an IP packet, so its payload is not parsed
+	IsFragment        bool      // a part of an IP packet, so only ports of its payload are stored
 	IPv4Checksum      Verdict
 	TransportChecksum Verdict
 	NetworkOffset     int    // of the ARP or IP header, from the first byte of the frame or packet

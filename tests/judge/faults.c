@@ -70,6 +70,7 @@ __attribute__((constructor)) static void choose(void)
         "the length of an authentication header in units of 8 bytes", "an address before a route with segments left written",
         "the length of an authentication header in units of 8 bytes",
         "a parameter problem about an option to be dropped", "a pointer that counts from the end of the IPv6 header",
+        "the length of an authentication header in units of 8 bytes", "the ports of a later fragment",
     };
     const char *number = getenv("FAULT");
     fault = number ? (enum fault)atoi(number) : NO_FAULT;
@@ -164,6 +165,9 @@ int __wrap_lk_read_frame(const uint8_t *ptr, size_t len, struct lk_frame *frame)
     __real_lk_read_frame(ptr, len, frame);
     if (fault != HEADER_CUT_FOR_TOO_SHORT)
         spoil_frame(frame, len);
+    if (fault == LATER_PORTS_STORED && frame->network == LK_IPV4 && frame->protocol == 17 &&
+        frame->ip.fragment_offset > 0 && frame->payload_len >= 2)
+        frame->src.port = (uint16_t)(ptr[frame->payload_offset] << 8 | ptr[frame->payload_offset + 1]);
     return frame->reason;
 }
 

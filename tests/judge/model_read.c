@@ -167,6 +167,16 @@ static void read_icmp(const struct capture *capture, struct lk_frame *frame, siz
                                         : LK_WRONG;
 }
 
+/* A fragment of which the last header names this protocol: only the first fragment begins with its ports. */
+static void read_first_ports(const struct capture *capture, struct lk_frame *frame, unsigned protocol, size_t at, size_t len)
+{
+    struct part part = part_at(capture, at, len);
+    if (frame->ip.fragment_offset != 0 || (protocol != 17 && protocol != 6) || part.known < 4)
+        return;
+    frame->src.port = (uint16_t)get_word(part.ptr);
+    frame->dst.port = (uint16_t)get_word(part.ptr + 2);
+}
+
 static void read_transport(const struct capture *capture, struct lk_frame *frame, size_t at, size_t len)
 {
     if (frame->protocol == (frame->network == LK_IPV4 ? 1 : 58))
@@ -253,7 +263,9 @@ static void read_ipv4(const struct capture *capture, struct lk_frame *frame, siz
     read_ipv4_fields(frame, part.ptr);
     carries(frame, at + header_len, len);
     frame->is_fragment = frame->ip.more_fragments || frame->ip.fragment_offset != 0;
-    if (!frame->is_fragment)
+    if (frame->is_fragment)
+        read_first_ports(capture, frame, frame->protocol, at + header_len, len);
+    else
         read_transport(capture, frame, at + header_len, len);
 }
 
@@ -330,8 +342,10 @@ static void read_next(const struct capture *capture, struct lk_frame *frame, siz
         return;
     if (frame->protocol == 44)
         read_fragment_header(frame, part);
-    if (frame->is_fragment)
+    if (frame->is_fragment) {
+        read_first_ports(capture, frame, part.ptr[0], at + 8, len - 8);
         return;
+    }
     header_len = extension_len(frame->protocol, part.ptr);
     frame->protocol = part.ptr[0];
     carries(frame, at + header_len, len - header_len);

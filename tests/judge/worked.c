@@ -80,6 +80,7 @@ void make_worked_calls(void)
 #undef FRAME
     worked_read();
     worked_extended();
+    worked_ports();
     worked_link();
     worked_options();
     worked_write();

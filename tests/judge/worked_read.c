@@ -219,7 +219,7 @@ static void reads_frames(void)
 
 static void reads_fragments(void)
 {
-    READS(fragment4_first, fragment4(0, 1));
+    READS(fragment4_first, with_ports(fragment4(0, 1), 0x3132, 0x4142));
     READS(fragment4_middle, fragment4(0x918, 1));
     READS(fragment4_last, fragment4(0xfff8, 0));
     READS(fragment6_first, fragment6(0, 1));

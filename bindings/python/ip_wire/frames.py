@@ -66,7 +66,7 @@ class Frame:
     network: Optional[Network]
     arp: Optional[Arp]
     ip: Optional[Ip]
-    src: Optional[Endpoint]  # of ARP or IP; the port is 0 unless a UDP or TCP header is there
+    src: Optional[Endpoint]  # of ARP or IP; the port is 0 unless a UDP or TCP header is there, or begins in a fragment
     dst: Optional[Endpoint]
     protocol: Optional[int]  # the number of the transport or the payload of an IP packet, after IPv6 extension headers
     is_fragment: bool

@@ -224,13 +224,13 @@ impl<'a> Frame<'a> {
         (self.network()? != Network::Arp).then(|| self.fields.ip.into())
     }
 
-    /// The sender in the ARP or IP header. The port is 0 unless a UDP or TCP header is there.
+    /// The sender in the ARP or IP header. The port is 0 unless a UDP or TCP header is there, or begins in a fragment.
     #[must_use]
     pub fn src(&self) -> Option<SocketAddr> {
         self.fields.src.socket_addr()
     }
 
-    /// The receiver in the ARP or IP header. The port is 0 unless a UDP or TCP header is there.
+    /// The receiver in the ARP or IP header. The port is 0 unless a UDP or TCP header is there, or begins in a fragment.
     #[must_use]
     pub fn dst(&self) -> Option<SocketAddr> {
         self.fields.dst.socket_addr()
@@ -243,7 +243,7 @@ impl<'a> Frame<'a> {
         (self.network()? != Network::Arp).then_some(self.fields.protocol)
     }
 
-    /// Whether this is a part of an IP packet, so that its payload is not parsed.
+    /// Whether this is a part of an IP packet, so that only ports of its payload are stored.
     #[must_use]
     pub fn is_fragment(&self) -> bool {
         self.fields.is_fragment != 0

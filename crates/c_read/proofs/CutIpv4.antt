@@ -12,15 +12,17 @@ use Rattle.ip_wire.specs.Ipv4 as ipv4
 use Rattle.ip_wire.specs.Ipv4.{ipv4_of}
 use Rattle.ip_wire.specs.Types.{IpAddress, IpProtocol, Ipv4, Ipv4Repr}
 use Rattle.ip_wire.specs.declared.IpProtocol.TheVariants as protocol
+use Rattle.c_structs.specs.Written.{flag}
 use Rattle.c_structs.specs.declared.codes.Reason.TheVariants as reason
 use Rattle.c_structs.specs.declared.types.FrameFields.{FrameFields}
 use Rattle.c_read.proofs.CutBytes.{field-front, le-false, le-true, longer, lt-false, lt-true, range-following, range-front}
 use Rattle.c_read.proofs.CutMessage.{cut-message}
+use Rattle.c_read.proofs.CutPorts.{cut-part}
 use Rattle.c_read.proofs.CutOf.{Follows, IsNext, IsStart, cut-as, cut-network, if-has, nothing-follows, rejected-next, same-of, start-network, start-rejected, start-transport, stored-next, transport-follows}
 use Rattle.c_read.proofs.CutTcp.{cut-tcp}
 use Rattle.c_read.proofs.CutUdp.{cut-udp}
 use Rattle.c_read.specs.Captured.{IsCutOf, before, begun_ipv4, cut_header, cut_ipv4, cut_payload, cut_transport_by, is_no_ipv4, transport_header}
-use Rattle.c_read.specs.FrameFields.{ipv4_fault, ipv4_values, rejected, with_ipv4, with_ipv4_fields, with_ipv4_header, with_payload, with_transport_by}
+use Rattle.c_read.specs.FrameFields.{ipv4_fault, ipv4_values, rejected, with_ipv4, with_ipv4_fields, with_ipv4_header, with_part, with_payload, with_transport_by}
 
 -- ---- what a packet carries
 
@@ -71,7 +73,7 @@ decide header_len total_len version len h = elim (cases_lt header_len 20) [
 
 -- the struct of a packet, by its header and its payload
 abbrev carrying : FrameFields → Bool → Ipv4Repr → List ℕ → FrameFields
-carrying next fragment v payload = if fragment then next else with_payload next (Ipv4 v) payload
+carrying next fragment v payload = if fragment then with_part next payload else with_payload next (Ipv4 v) payload
 
 absent : (bytes : List ℕ) → ipv4.is_read false bytes ≡ false → ipv4_of false bytes ≡ None
 unfolding ipv4_of
@@ -115,7 +117,8 @@ ipv4-next f bytes len start fits least = elim (bool (ipv4.is_read false bytes)) 
       let transport : next.transport ≡ 0 = start-transport f start in
       let rejected : next.rejected ≡ 0 = start-rejected f start in
       let follows : Follows next (carrying next (ipv4.is_fragment bytes) v payload) =
-      if-has (Follows next) (ipv4.is_fragment bytes) next (with_payload next (Ipv4 v) payload) (nothing-follows next reason.TooShort transport rejected).0
+      if-has (Follows next) (ipv4.is_fragment bytes) (with_part next payload) (with_payload next (Ipv4 v) payload)
+      (record { ethernet = refl; network = refl; offset = refl; begins = (nothing-follows next reason.TooShort transport rejected).0.begins })
       (transport-follows next v.next_header (src_addr_of (Ipv4 v)) (dst_addr_of (Ipv4 v)) payload transport rejected)
       in
       subst (λ g. IsNext f g len) (sym (some f bytes read)) (stored-next f next (carrying next (ipv4.is_fragment bytes) v payload) len (ipv4.header_len bytes) follows refl refl refl refl (least read))
@@ -247,13 +250,13 @@ begun n f bytes rest fresh h captured cut s place =
     let found = some-front f bytes rest (front ++ back) h captured s payload ∙ ap (λ (n : ℕ). carrying (with_ipv4_fields f bytes v n) (ipv4.is_fragment bytes) v (front ++ back)) count in
     let clean : next ≡ before transport_header next = ap (λ (g : FrameFields). with_ipv4_fields g bytes v (tl - hl)) fresh in
     let many : length front ≡ length bytes - hl = dropped hl bytes in
-    cut-as _ _ _ _ refl found (by (ipv4.is_fragment bytes) next front back v clean (sym count) (omega (arith, place, many, captured)) (omega (arith, many, captured, cut)))
+    cut-as _ _ _ _ refl found (by (ipv4.is_fragment bytes) next front back v clean (λ part. ap flag part) refl (sym count) (omega (arith, place, many, captured)) (omega (arith, many, captured, cut)))
   where
-    by : (b : Bool) (next : FrameFields) (front back : List ℕ) (v : Ipv4Repr) → next ≡ before transport_header next → next.payload_len ≡ length (front ++ back)
-        → n ≡ next.payload_offset + length front → length front < next.payload_len
-        → IsCutOf n (if b then next else cut_payload next (Ipv4 v) front) (carrying next b v (front ++ back))
-    by true next front back v clean len place missing = same-of _ _ refl
-    by false next front back v clean len place missing = cut-by n next v.next_header (src_addr_of (Ipv4 v)) (dst_addr_of (Ipv4 v)) front back clean len place missing
+    by : (b : Bool) (next : FrameFields) (front back : List ℕ) (v : Ipv4Repr) → next ≡ before transport_header next → (b ≡ true → next.is_fragment ≡ 1) → next.network ≡ 2
+        → next.payload_len ≡ length (front ++ back) → n ≡ next.payload_offset + length front → length front < next.payload_len
+        → IsCutOf n (if b then with_part next front else cut_payload next (Ipv4 v) front) (carrying next b v (front ++ back))
+    by true next front back v clean part network len place missing = cut-part n next front back clean (part refl) network place
+    by false next front back v clean part network len place missing = cut-by n next v.next_header (src_addr_of (Ipv4 v)) (dst_addr_of (Ipv4 v)) front back clean len place missing
 
 -- the tests of the cut reader
 no-header : (f : FrameFields) (bytes : List ℕ) → 20 ≤ length bytes → length bytes < ipv4.total_len bytes

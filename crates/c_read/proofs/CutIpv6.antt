@@ -1,5 +1,5 @@
 -- The struct of an IPv6 packet that was not captured as a whole.
-use Rattle.std.proofs.Common.{ℕ, ◌≡◌, ◌∙◌, ◌≤◌, ◌<◌, inl, inr, ◌+◌, ◌*◌, ◌-◌, ◌==◌, ◌&&◌, ◌||◌, not, nat_le, nat_lt, if◌then◌else◌, Bool, true, false, List, ◌++◌, Option, Some, None, ap, drop, length, refl, slice_range, subst, sym, take, arith}
+use Rattle.std.proofs.Common.{ℕ, ◌≡◌, ◌∙◌, ◌≤◌, ◌<◌, ◌⊎◌, inl, inr, ◌+◌, ◌*◌, ◌-◌, ◌==◌, ◌&&◌, ◌||◌, not, nat_le, nat_lt, if◌then◌else◌, Bool, true, false, List, ◌++◌, Option, Some, None, ap, drop, length, refl, slice_range, subst, sym, take, arith}
 use Rattle.std.proofs.lemmas.Bool.{cases_lt, eqb-true}
 use Rattle.std.proofs.lemmas.List.{drop-append-le}
 use Rattle.std.specs.Option.{option_map_or}
@@ -17,14 +17,16 @@ use Rattle.c_structs.specs.declared.codes.Reason.TheVariants as reason
 use Rattle.c_structs.specs.declared.types.FrameFields.{FrameFields}
 use Rattle.c_structs.specs.declared.types.Ip.{Ip}
 use Rattle.c_read.proofs.CutBytes.{field-front, le-false, le-true, longer, lt-false, lt-true, range-following, range-front}
-use Rattle.c_read.proofs.ChainSteps.{chain-right}
+use Rattle.c_read.proofs.ChainSteps.{chain-right, none-some}
 use Rattle.c_read.proofs.CutChain.{CutsChain, chain-front}
 use Rattle.c_read.proofs.CutIpv4.{bool, cut-by, dropped}
+use Rattle.c_read.proofs.CutPorts.{cut-fragment, no-ports}
 use Rattle.c_read.proofs.CutOf.{IsNext, IsStart, KeepsBefore, cut-as, cut-network, rejected-next, same-of, start-network, start-rejected, start-transport, stored-next, transport-before, transport-follows}
 use Rattle.c_read.proofs.StoredChain.{a-fault, cut-extension-kept, extension-kept, no-part}
-use Rattle.c_read.specs.Captured.{IsCutOf, IsCutWithin, after_network, before, begun_ipv6, cut_extended, cut_header, cut_ipv6, transport_header}
-use Rattle.c_read.specs.FrameFields.{fragment_values, ipv6_fault, ipv6_values, rejected, with_chain, with_extended, with_ipv6, with_ipv6_fields, with_ipv6_header, with_transport_by}
+use Rattle.c_read.specs.Captured.{IsCutOf, IsCutWithin, after_network, before, begun_ipv6, cut_extended, cut_header, cut_ipv6, cut_transport_by, transport_header}
+use Rattle.c_read.specs.FrameFields.{fragment_values, ipv6_fault, ipv6_values, is_first, rejected, stepped_over, with_chain, with_extended, with_ipv6, with_ipv6_fields, with_ipv6_header, with_transport_by}
 use Rattle.c_read.specs.Ipv6Chain.{chain_of, is_part}
+use Rattle.c_read.specs.Ipv6Steps.{is_extension}
 use Rattle.c_read.specs.declared.ipv6_chain.Chain.{Chain}
 
 -- ---- whether the bytes are a header
@@ -64,7 +66,7 @@ ipv6-next f bytes len start fits few = elim (bool (ipv6.is_read bytes)) [
       let payload = ipv6.payload_of bytes in
       let next = with_ipv6_fields f bytes v (length payload) in
       let c = chain_of next.protocol (length payload) payload in
-      let part = with_chain next c in
+      let part = with_chain next c (drop c.len payload) in
       let follows = transport-follows part (protocol_of c.protocol) (src_addr_of (Ipv6 v)) (dst_addr_of (Ipv6 v)) (drop c.len payload) (start-transport f start) (start-rejected f start) in
       subst (λ g. IsNext f g len) (sym (some f bytes read))
       (stored-next f part (carrying next v payload) len (40 + c.len) follows refl refl refl (omega arith) (omega (arith, few)))
@@ -126,9 +128,10 @@ record IsBare (f : FrameFields) : Type 0 where
   after : f.payload_offset ≡ f.network_offset + 40
   ip : f.ip ≡ record f.ip { ident = 0; fragment_offset = 0; more_fragments = 0 }
   whole : f.is_fragment ≡ 0
+  network : f.network ≡ 3
 
-chain-clean : (f : FrameFields) (c : Chain) → f ≡ before transport_header f → with_chain f c ≡ before transport_header (with_chain f c)
-chain-clean f c clean = ap (λ (g : FrameFields). with_chain g c) clean ∙ sym (ap (λ (g : FrameFields). before transport_header (with_chain g c)) clean)
+chain-clean : (f : FrameFields) (c : Chain) → f ≡ before transport_header f → stepped_over f c ≡ before transport_header (stepped_over f c)
+chain-clean f c clean = ap (λ (g : FrameFields). stepped_over g c) clean ∙ sym (ap (λ (g : FrameFields). before transport_header (stepped_over g c)) clean)
 
 -- the values of the IP header, but for those of a fragment header
 other-values : (i : Ip) (o : Option Ipv6FragmentRepr) → record (option_map_or (fragment_values i) o i) { ident = 0; fragment_offset = 0; more_fragments = 0 }
@@ -157,8 +160,8 @@ whole-values i (Some v) clean h =
     ∙ ap (λ (b : Bool). record i { ident = v.ident; fragment_offset = 0; more_fragments = flag b }) more
 
 -- the struct after a chain that ends at a header that was cut, by that of the whole packet
-chain-fields : (f : FrameFields) (c d : Chain) (g : FrameFields) → IsBare f → KeepsBefore (with_chain f d) g → ((v : Ipv6FragmentRepr) → c.fragment ≡ Some v → is_part v ≡ false)
-    → let k = with_chain f c in k ≡ record (before transport_header g) {
+chain-fields : (f : FrameFields) (c d : Chain) (g : FrameFields) → IsBare f → KeepsBefore (stepped_over f d) g → ((v : Ipv6FragmentRepr) → c.fragment ≡ Some v → is_part v ≡ false)
+    → let k = stepped_over f c in k ≡ record (before transport_header g) {
       ip = record g.ip { ident = k.ip.ident; fragment_offset = 0; more_fragments = 0 };
       is_fragment = 0;
       protocol = k.protocol;
@@ -167,7 +170,7 @@ chain-fields : (f : FrameFields) (c d : Chain) (g : FrameFields) → IsBare f �
       payload_len = k.payload_len;
     }
 chain-fields f c d g bare kept part =
-    let k = with_chain f c in
+    let k = stepped_over f c in
     let values = whole-values f.ip c.fragment bare.ip part in
     let whole = ap (λ (n : ℕ). option_map_or (λ v. flag (is_part v)) c.fragment n) bare.whole ∙ no-part c.fragment part in
     ap (λ (e : FrameFields). record e { payload_offset = k.payload_offset; payload_len = k.payload_len; ip = k.ip; protocol = k.protocol; is_fragment = k.is_fragment; reason = k.reason }) bare.clean
@@ -197,11 +200,19 @@ chain-fields f c d g bare kept part =
       payload_len = k.payload_len;
     }) kept)
 
+-- the ports after the headers of whole packets are not those of a fragment
+not-first : (o : Option Ipv6FragmentRepr) → ((v : Ipv6FragmentRepr) → o ≡ Some v → is_part v ≡ false) → option_map_or is_first o false ≡ false
+not-first None h = refl
+not-first (Some v) h = ap (λ (b : Bool). b && v.frag_offset == 0) (not-part v (h v refl)).0
+
+chain-whole : (f : FrameFields) (c : Chain) (rest : List ℕ) → ((v : Ipv6FragmentRepr) → c.fragment ≡ Some v → is_part v ≡ false) → with_chain f c rest ≡ stepped_over f c
+chain-whole f c rest h = no-ports (stepped_over f c) (option_map_or is_first c.fragment false) (protocol_of (field rest 0 8)) (drop 8 rest) (not-first c.fragment h)
+
 -- the chain of the captured bytes ends at a header that was cut
 within-chain : (n : ℕ) (f : FrameFields) (c d : Chain) (src dst bytes rest : List ℕ) → IsBare f → n ≡ f.payload_offset + length bytes → CutsChain (length bytes) c d
-    → IsCutWithin n (with_chain f c) (with_transport_by (with_chain f d) (protocol_of d.protocol) (address.Ipv6 src) (address.Ipv6 dst) rest)
+    → IsCutWithin n (stepped_over f c) (with_transport_by (with_chain f d rest) (protocol_of d.protocol) (address.Ipv6 src) (address.Ipv6 dst) rest)
 within-chain n f c d src dst bytes rest bare place cut =
-    let h = with_chain f d in
+    let h = with_chain f d rest in
     let p = protocol_of d.protocol in
     let g = with_transport_by h p (address.Ipv6 src) (address.Ipv6 dst) rest in
     let none = ap (λ (k : FrameFields). k.transport) bare.clean in
@@ -225,7 +236,35 @@ within-chain n f c d src dst bytes rest bare place cut =
 
 -- what a chain leads to
 abbrev led : FrameFields → List ℕ → List ℕ → List ℕ → Chain → FrameFields
-led f src dst bytes c = with_transport_by (with_chain f c) (protocol_of c.protocol) (address.Ipv6 src) (address.Ipv6 dst) (drop c.len bytes)
+led f src dst bytes c = with_transport_by (with_chain f c (drop c.len bytes)) (protocol_of c.protocol) (address.Ipv6 src) (address.Ipv6 dst) (drop c.len bytes)
+
+-- the chain of the captured bytes is that of the whole packet
+ended-cut : (n : ℕ) (f : FrameFields) (src dst : List ℕ) (c : Chain) (bytes rest : List ℕ) → IsBare f
+    → ((v : Ipv6FragmentRepr) → c.fragment ≡ Some v → is_part v ≡ true → c.protocol ≡ 44) → f.payload_len - c.len ≡ length (bytes ++ rest)
+    → n ≡ f.payload_offset + c.len + length bytes → length bytes < f.payload_len - c.len
+    → IsCutOf n (cut_transport_by (with_chain f c bytes) (protocol_of c.protocol) (address.Ipv6 src) (address.Ipv6 dst) bytes)
+    (with_transport_by (with_chain f c (bytes ++ rest)) (protocol_of c.protocol) (address.Ipv6 src) (address.Ipv6 dst) (bytes ++ rest))
+ended-cut n f src dst c bytes rest bare ends len place missing = elim (parted c.fragment) [
+  | inl whole ↦
+      let p = protocol_of c.protocol in
+      cut-as _ _ _ _ (ap (λ (g : FrameFields). cut_transport_by g p (address.Ipv6 src) (address.Ipv6 dst) bytes) (chain-whole f c bytes whole))
+      (ap (λ (g : FrameFields). with_transport_by g p (address.Ipv6 src) (address.Ipv6 dst) (bytes ++ rest)) (chain-whole f c (bytes ++ rest) whole))
+      (cut-by n (stepped_over f c) p (address.Ipv6 src) (address.Ipv6 dst) bytes rest (chain-clean f c bare.clean) len place missing)
+  | inr (v, is, part) ↦
+      let number : is_extension c.protocol ≡ true = ap is_extension (ends v is part) in
+      cut-as _ _ _ _ (cut-extension-kept (with_chain f c bytes) c.protocol src dst bytes number)
+      (extension-kept (with_chain f c (bytes ++ rest)) c.protocol src dst (bytes ++ rest) number)
+      (cut-fragment n (stepped_over f c) (option_map_or is_first c.fragment false) bytes rest (chain-clean f c bare.clean)
+      (ap (λ (o : Option Ipv6FragmentRepr). option_map_or (λ u. flag (is_part u)) o f.is_fragment) is ∙ ap flag part) bare.network place)
+]
+  where
+    -- there is the header of a fragment or not
+    parted : (o : Option Ipv6FragmentRepr) → ((v : Ipv6FragmentRepr) → o ≡ Some v → is_part v ≡ false) ⊎ ((v : Ipv6FragmentRepr) × (o ≡ Some v) × (is_part v ≡ true))
+    parted None = inl (λ v e. none-some v e)
+    parted (Some v) = elim (bool (is_part v)) [
+      | inl part ↦ inr (v, refl, part)
+      | inr whole ↦ inl (λ u e. subst (λ (p : Option Ipv6FragmentRepr). option_map_or is_part p false ≡ false) e whole)
+    ]
 
 extended-cut : (n : ℕ) (f : FrameFields) (src dst bytes rest : List ℕ) → IsBare f → f.payload_len ≡ length (bytes ++ rest) → n ≡ f.payload_offset + length bytes
     → length bytes < f.payload_len → IsCutOf n (cut_extended f (address.Ipv6 src) (address.Ipv6 dst) bytes) (with_extended f (address.Ipv6 src) (address.Ipv6 dst) (bytes ++ rest))
@@ -237,18 +276,20 @@ extended-cut n f src dst bytes rest bare len place missing =
     ap (λ (k : ℕ). led f src dst all (chain_of f.protocol k all)) (sym len) in
     elim (chain-front f.protocol f.payload_len bytes rest len) [
       | inr cut ↦
-          cut-as _ _ _ _ (cut-extension-kept (with_chain f c) c.protocol src dst (drop c.len bytes) cut.number) found
-          (inr (inr (within-chain n f c d src dst bytes (drop d.len all) bare place cut)))
+          let kept = cut-extension-kept (with_chain f c (drop c.len bytes)) c.protocol src dst (drop c.len bytes) cut.number in
+          cut-as _ _ _ _ (kept ∙ chain-whole f c (drop c.len bytes) cut.part) found
+          (inr (inr (inl (within-chain n f c d src dst bytes (drop d.len all) bare place cut))))
       | inl same ↦
-          let within = (chain-right f.protocol f.payload_len bytes).within in
+          let right = chain-right f.protocol f.payload_len bytes in
+          let within = right.within in
           let size = dropped c.len bytes in
           let more = longer bytes rest in
           let left = longer (drop c.len bytes) rest in
           let p = protocol_of c.protocol in
           let whole = found ∙ ap (led f src dst all) (sym same)
-          ∙ ap (with_transport_by (with_chain f c) p (address.Ipv6 src) (address.Ipv6 dst)) (drop-append-le c.len bytes rest within) in
+          ∙ ap (λ (l : List ℕ). with_transport_by (with_chain f c l) p (address.Ipv6 src) (address.Ipv6 dst) l) (drop-append-le c.len bytes rest within) in
           cut-as _ _ _ _ refl whole
-          (cut-by n (with_chain f c) p (address.Ipv6 src) (address.Ipv6 dst) (drop c.len bytes) rest (chain-clean f c bare.clean)
+          (ended-cut n f src dst c (drop c.len bytes) rest bare (λ v e part. (right.part v e part).0)
           (omega (arith, len, more, left, size, within)) (omega (arith, place, size, within)) (omega (arith, size, within, missing)))
     ]
 
@@ -301,7 +342,7 @@ begun n f bytes rest start h cut whole version place =
     ∙ sym (ap (λ (g : FrameFields). record (with_ipv6_fields g bytes v v.payload_len).ip { ident = 0; fragment_offset = 0; more_fragments = 0 }) start) in
     let many : length front ≡ length bytes - 40 = dropped 40 bytes in
     cut-as _ _ _ _ refl found
-    (extended-cut n next v.src_addr v.dst_addr front back (record { clean = clean; after = refl; ip = values; whole = ap (λ (g : FrameFields). g.is_fragment) start })
+    (extended-cut n next v.src_addr v.dst_addr front back (record { clean = clean; after = refl; ip = values; whole = ap (λ (g : FrameFields). g.is_fragment) start; network = refl })
     (sym count) (omega (arith, place, many, h)) (omega (arith, many, h, cut, size)))
 
 -- what the cut reader stores, by its tests

@@ -32,7 +32,7 @@ use Rattle.c_structs.specs.declared.codes.Reason.TheVariants as reason
 use Rattle.c_structs.specs.declared.types.FrameFields.{FrameFields}
 use Rattle.c_read.proofs.CutBytes.{field-front}
 use Rattle.c_read.proofs.StoredHeaders.{is-headed}
-use Rattle.c_read.specs.FrameFields.{after_header, fields_of, rejected, rejected_transport, tcp_fault, udp_fault, with_carried, with_extended, with_frame, with_ipv4_header, with_ipv6_header, with_message, with_payload, with_tcp_header, with_transport_by, with_udp_header, has_message, with_icmp}
+use Rattle.c_read.specs.FrameFields.{after_header, fields_of, rejected, rejected_transport, tcp_fault, udp_fault, with_carried, with_extended, with_frame, with_ipv4_header, with_ipv6_header, with_message, with_part, with_payload, with_tcp_header, with_transport_by, with_udp_header, has_message, with_icmp}
 use Rattle.c_read.specs.FrameOptions.{header_in}
 use Rattle.c_read.specs.Stored.{Locates, headed, linked, upper_payload, upper_protocol}
 use Rattle.c_read.specs.TcpOptions.{ReadsItems}
@@ -131,10 +131,11 @@ carried-placed frame v ethertype.Arp =
 carried-placed frame v ethertype.Ipv4 =
     let f = linked frame v in
     let bytes = drop 14 frame in
-    by-value (ipv4_of false bytes) (λ w. let next = with_ipv4_header f bytes w in if ipv4.is_fragment bytes then next else with_payload next (Ipv4 w) (ipv4_payload bytes)) _ frame
+    by-value (ipv4_of false bytes) (λ w. let next = with_ipv4_header f bytes w in if ipv4.is_fragment bytes then with_part next (ipv4_payload bytes) else with_payload next (Ipv4 w) (ipv4_payload bytes)) _ frame
     (λ w is. let next = with_ipv4_header f bytes w in
     let h = is-headed frame v (Ipv4 w) ((ipv4_of-Reads false bytes w).0 is) in
-    by-test (ipv4.is_fragment bytes) next (with_payload next (Ipv4 w) (ipv4_payload bytes)) frame (no-header next frame h.transport)
+    by-test (ipv4.is_fragment bytes) (with_part next (ipv4_payload bytes)) (with_payload next (Ipv4 w) (ipv4_payload bytes)) frame
+    (no-header (with_part next (ipv4_payload bytes)) frame h.transport)
     (transport-placed next w.next_header (src_addr_of (Ipv4 w)) (dst_addr_of (Ipv4 w)) frame (ipv4_payload bytes) h.transport h.payload))
     (no-header _ frame refl)
 carried-placed frame v ethertype.Ipv6 =

@@ -22,7 +22,7 @@ use Rattle.c_structs.specs.declared.codes.Reason.TheVariants as reason
 use Rattle.c_structs.specs.declared.types.FrameFields.{FrameFields}
 use Rattle.c_read.proofs.FieldsOf.{packet_fields_of-some}
 use Rattle.c_read.proofs.StoredHeaders.{fields_of-linked}
-use Rattle.c_read.specs.FrameFields.{bare_of, after_header, fields_of, ipv4_fault, ipv6_fault, packet_fields_of, rejected, rejected_transport, tcp_fault, udp_fault, with_carried, with_chain, with_extended, with_ipv4, with_ipv4_header, with_ipv6, with_ipv6_header, with_packet, with_payload, with_tcp, with_tcp_header, with_transport_by, with_udp, with_udp_header, has_message, with_icmp}
+use Rattle.c_read.specs.FrameFields.{bare_of, after_header, fields_of, ipv4_fault, ipv6_fault, packet_fields_of, rejected, rejected_transport, tcp_fault, udp_fault, with_carried, with_chain, with_extended, with_ipv4, with_ipv4_header, with_ipv6, with_ipv6_header, with_packet, with_part, with_payload, with_tcp, with_tcp_header, with_transport_by, with_udp, with_udp_header, has_message, with_icmp}
 use Rattle.c_read.specs.Ipv6Chain.{chain_of}
 use Rattle.c_read.specs.declared.ipv6_chain.Chain.{Chain}
 use Rattle.c_read.specs.Stored.{IsTypeOf, in_frame, linked}
@@ -81,9 +81,10 @@ ipv4-header v f bytes w =
 
 ipv4-in : (v : EthernetRepr) (f : FrameFields) (bytes : List ℕ) → with_ipv4 (in_frame v f) bytes ≡ in_frame v (with_ipv4 f bytes)
 ipv4-in v f bytes =
-    chosen-by v (ipv4_of false bytes) (λ w. let next = with_ipv4_header f bytes w in if ipv4.is_fragment bytes then next else with_payload next (Ipv4 w) (ipv4_payload bytes)) _
+    chosen-by v (ipv4_of false bytes) (λ w. let next = with_ipv4_header f bytes w in if ipv4.is_fragment bytes then with_part next (ipv4_payload bytes) else with_payload next (Ipv4 w) (ipv4_payload bytes)) _
     (rejected f (ipv4_fault bytes)) _
-    (λ w. chosen v (ipv4.is_fragment bytes) (with_ipv4_header f bytes w) (with_payload (with_ipv4_header f bytes w) (Ipv4 w) (ipv4_payload bytes)) _ _ (ipv4-header v f bytes w)
+    (λ w. chosen v (ipv4.is_fragment bytes) (with_part (with_ipv4_header f bytes w) (ipv4_payload bytes)) (with_payload (with_ipv4_header f bytes w) (Ipv4 w) (ipv4_payload bytes)) _ _
+    (ap (λ (h : FrameFields). with_part h (ipv4_payload bytes)) (ipv4-header v f bytes w))
     (payload-in v (with_ipv4_header f bytes w) _ (Ipv4 w) (ipv4_payload bytes) (ipv4-header v f bytes w)))
     refl
 
@@ -92,16 +93,16 @@ ipv6-header v f bytes w =
     let same : f.payload_offset + 14 + 40 ≡ f.payload_offset + 40 + 14 = omega arith in
     ap (λ (n : ℕ). record (in_frame v (with_ipv6_header f bytes w)) { payload_offset = n }) same
 
-chain-in : (v : EthernetRepr) (f : FrameFields) (c : Chain) → with_chain (in_frame v f) c ≡ in_frame v (with_chain f c)
-chain-in v f c =
+chain-in : (v : EthernetRepr) (f : FrameFields) (c : Chain) (rest : List ℕ) → with_chain (in_frame v f) c rest ≡ in_frame v (with_chain f c rest)
+chain-in v f c rest =
     let same : f.payload_offset + 14 + c.len ≡ f.payload_offset + c.len + 14 = omega arith in
-    ap (λ (n : ℕ). record (in_frame v (with_chain f c)) { payload_offset = n }) same
+    ap (λ (n : ℕ). record (in_frame v (with_chain f c rest)) { payload_offset = n }) same
 
 extended-in : (v : EthernetRepr) (f : FrameFields) (src dst : IpAddress) (bytes : List ℕ) → with_extended (in_frame v f) src dst bytes ≡ in_frame v (with_extended f src dst bytes)
 extended-in v f src dst bytes =
     let c = chain_of f.protocol (length bytes) bytes in
-    ap (λ (h : FrameFields). with_transport_by h (protocol_of c.protocol) src dst (drop c.len bytes)) (chain-in v f c)
-    ∙ transport-in v (with_chain f c) (protocol_of c.protocol) src dst (drop c.len bytes)
+    ap (λ (h : FrameFields). with_transport_by h (protocol_of c.protocol) src dst (drop c.len bytes)) (chain-in v f c (drop c.len bytes))
+    ∙ transport-in v (with_chain f c (drop c.len bytes)) (protocol_of c.protocol) src dst (drop c.len bytes)
 
 ipv6-in : (v : EthernetRepr) (f : FrameFields) (bytes : List ℕ) → with_ipv6 (in_frame v f) bytes ≡ in_frame v (with_ipv6 f bytes)
 ipv6-in v f bytes =

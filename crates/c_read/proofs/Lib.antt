@@ -9,6 +9,7 @@ mod CutIpv4
 mod CutIpv6
 mod CutMessage
 pub mod CutOf
+mod CutPorts
 mod CutTcp
 mod CutUdp
 mod CutWorked
@@ -25,4 +26,5 @@ mod StoredFrame
 mod StoredHeaders
 mod StoredParts
 mod TcpUsual
+mod Transports
 mod Untagged

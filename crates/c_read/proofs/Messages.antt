@@ -41,7 +41,7 @@ use Rattle.c_read.proofs.FieldsOf.{packet_fields_of-some}
 use Rattle.c_read.proofs.StoredFrame.{with_carried-ipv4, with_carried-ipv6}
 use Rattle.c_read.proofs.StoredHeaders.{fields_of-linked, header-there}
 use Rattle.c_read.specs.Captured.{IsCutOf, captured_of, captured_packet_of, cut_carried, cut_header, link, network, options, transport_header}
-use Rattle.c_read.specs.FrameFields.{after_header, arp_fault, bare_of, fields_of, has_message, ipv4_fault, ipv6_fault, is_icmp, ipv6_chain, packet_fields_of, rejected, rejected_transport, tcp_fault, udp_fault, with_carried, with_extended, with_frame, with_icmp, with_ipv4, with_ipv4_header, with_ipv6, with_ipv6_header, with_message, with_packet, with_payload, with_tcp_header, with_transport_by, with_udp_header}
+use Rattle.c_read.specs.FrameFields.{after_header, arp_fault, bare_of, fields_of, has_message, ipv4_fault, ipv6_fault, is_icmp, ipv6_chain, packet_fields_of, rejected, rejected_transport, tcp_fault, udp_fault, with_carried, with_extended, with_frame, with_icmp, with_ipv4, with_ipv4_header, with_ipv6, with_ipv6_header, with_message, with_packet, with_part, with_payload, with_tcp_header, with_transport_by, with_udp_header}
 use Rattle.c_read.specs.Links.{linked_after, linked_by, linked_of, with_linked}
 use Rattle.c_read.specs.Messages.{CarriesIcmp, IsIcmp, StoresMessage}
 use Rattle.c_read.specs.Stored.{headed, headed_by, linked, upper_payload, upper_protocol}
@@ -100,10 +100,11 @@ named-ipv6 p a bytes e = absurd (cc)
 
 ipv4-tells : {Q : Type 0} (f : FrameFields) (bytes : List ℕ) → IsNew f → ((w : Ipv4Repr) → IsIcmp bytes (Ipv4 w) (ipv4_payload bytes) → Q) → Tells Q (with_ipv4 f bytes)
 ipv4-tells f bytes n give =
-    by-value (ipv4_of false bytes) (λ w. let next = with_ipv4_header f bytes w in if ipv4.is_fragment bytes then next else with_payload next (Ipv4 w) (ipv4_payload bytes)) (rejected f (ipv4_fault bytes))
+    by-value (ipv4_of false bytes) (λ w. let next = with_ipv4_header f bytes w in if ipv4.is_fragment bytes then with_part next (ipv4_payload bytes) else with_payload next (Ipv4 w) (ipv4_payload bytes)) (rejected f (ipv4_fault bytes))
     (λ w is. let next = with_ipv4_header f bytes w in
     let fresh : IsNew next = record { transport = n.transport; icmp = n.icmp } in
-    by-test (ipv4.is_fragment bytes) next (with_payload next (Ipv4 w) (ipv4_payload bytes)) (λ part. new next fresh)
+    by-test (ipv4.is_fragment bytes) (with_part next (ipv4_payload bytes)) (with_payload next (Ipv4 w) (ipv4_payload bytes))
+    (λ part. new (with_part next (ipv4_payload bytes)) (record { transport = n.transport; icmp = n.icmp }))
     (λ whole. transport-tells next w.next_header (src_addr_of (Ipv4 w)) (dst_addr_of (Ipv4 w)) (ipv4_payload bytes) fresh (λ has. give w (record {
       reads = ((ipv4_of-Reads false bytes w).0 is, whole);
       protocol = named-ipv4 w.next_header w.src_addr (ipv4_payload bytes) has;
@@ -171,7 +172,8 @@ kept f g transport icmp t = record { named = λ e. t.named (sym transport ∙ e)
 cut-tells : {Q : Type 0} {n : ℕ} (f g : FrameFields) → IsCutOf n f g → Tells Q g → Tells Q f
 cut-tells f g (inl (inl h)) t = kept f g (ap (λ (k : FrameFields). k.transport) h.fields) (ap (λ (k : FrameFields). k.icmp) h.fields) t
 cut-tells f g (inl (inr l)) t = silent f 0 (ap (λ (k : FrameFields). k.transport) l.fields) (λ e. omega (arith, e)) (ap (λ (k : FrameFields). k.icmp) l.fields)
-cut-tells f g (inr (inr at)) t = silent f 0 (ap (λ (k : FrameFields). k.transport) at.fields) (λ e. omega (arith, e)) (ap (λ (k : FrameFields). k.icmp) at.fields)
+cut-tells f g (inr (inr (inr l))) t = kept f g (ap (λ (k : FrameFields). k.transport) l.fields) (ap (λ (k : FrameFields). k.icmp) l.fields) t
+cut-tells f g (inr (inr (inl at))) t = silent f 0 (ap (λ (k : FrameFields). k.transport) at.fields) (λ e. omega (arith, e)) (ap (λ (k : FrameFields). k.icmp) at.fields)
 cut-tells f g (inr (inl (link, at))) t = silent f 0 (ap (λ (k : FrameFields). k.transport) at.fields) (λ e. omega (arith, e)) (ap (λ (k : FrameFields). k.icmp) at.fields)
 cut-tells f g (inr (inl (network, at))) t = silent f 0 (ap (λ (k : FrameFields). k.transport) at.fields) (λ e. omega (arith, e)) (ap (λ (k : FrameFields). k.icmp) at.fields)
 cut-tells f g (inr (inl (transport_header, at))) t = silent f 0 (ap (λ (k : FrameFields). k.transport) at.fields) (λ e. omega (arith, e)) (ap (λ (k : FrameFields). k.icmp) at.fields)

@@ -27,7 +27,7 @@ use Rattle.c_structs.specs.declared.types.FrameFields.{FrameFields}
 use Rattle.c_read.proofs.ChainSteps.{chain-right}
 use Rattle.c_read.proofs.StoredChain.{extension-kept, given, no-fault}
 use Rattle.c_read.proofs.StoredParts.{IsFault, tcp-faulty, udp-faulty}
-use Rattle.c_read.specs.FrameFields.{after_header, fields_of, rejected, rejected_transport, tcp_fault, udp_fault, with_carried, with_chain, with_extended, with_frame, with_ipv4_header, with_ipv6_header, with_message, with_payload, with_tcp_header, with_transport_by, with_udp_header, has_message, with_icmp}
+use Rattle.c_read.specs.FrameFields.{after_header, fields_of, rejected, rejected_transport, tcp_fault, udp_fault, with_carried, with_chain, with_extended, with_frame, with_ipv4_header, with_ipv6_header, with_message, with_part, with_payload, with_tcp_header, with_transport_by, with_udp_header, has_message, with_icmp}
 use Rattle.c_read.specs.Ipv6Chain.{chain_of}
 use Rattle.c_read.specs.Stored.{linked}
 
@@ -83,8 +83,8 @@ transport-apart f p src dst bytes n =
 extended-apart : (f : FrameFields) (src dst bytes : List ℕ) → IsNew f → Apart (with_extended f (address.Ipv6 src) (address.Ipv6 dst) bytes)
 extended-apart f src dst bytes n =
     let c = chain_of f.protocol (length bytes) bytes in
-    let next = with_chain f c in
     let rest = drop c.len bytes in
+    let next = with_chain f c rest in
     elim (given c.fault) [
       | inl none ↦
           transport-apart next (protocol_of c.protocol) (address.Ipv6 src) (address.Ipv6 dst) rest
@@ -100,10 +100,11 @@ message-apart f (EthernetIpv4 operation source_hardware source_protocol target_h
 carried-apart : (f : FrameFields) (t : EthernetProtocol) (bytes : List ℕ) → IsNew f → Apart (with_carried f t bytes)
 carried-apart f ethertype.Arp bytes n = by-value (arp_of bytes) (with_message f) _ (λ w. message-apart f w n) (early f _ n.transport n.rejected)
 carried-apart f ethertype.Ipv4 bytes n =
-    by-value (ipv4_of false bytes) (λ w. let next = with_ipv4_header f bytes w in if ipv4.is_fragment bytes then next else with_payload next (Ipv4 w) (ipv4_payload bytes)) _
+    by-value (ipv4_of false bytes) (λ w. let next = with_ipv4_header f bytes w in if ipv4.is_fragment bytes then with_part next (ipv4_payload bytes) else with_payload next (Ipv4 w) (ipv4_payload bytes)) _
     (λ w. let next = with_ipv4_header f bytes w in
     let new : IsNew next = record { reason = n.reason; transport = n.transport; rejected = n.rejected } in
-    by-test (ipv4.is_fragment bytes) next (with_payload next (Ipv4 w) (ipv4_payload bytes)) (same next new)
+    by-test (ipv4.is_fragment bytes) (with_part next (ipv4_payload bytes)) (with_payload next (Ipv4 w) (ipv4_payload bytes))
+    (same (with_part next (ipv4_payload bytes)) (record { reason = n.reason; transport = n.transport; rejected = n.rejected }))
     (transport-apart next w.next_header (src_addr_of (Ipv4 w)) (dst_addr_of (Ipv4 w)) (ipv4_payload bytes) new))
     (early f _ n.transport n.rejected)
 carried-apart f ethertype.Ipv6 bytes n =

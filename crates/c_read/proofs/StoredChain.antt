@@ -20,17 +20,17 @@ use Rattle.c_read.specs.declared.ipv6_chain.Chain.{Chain}
 
 -- ---- a packet without extension headers
 
-begun-chain : (f : FrameFields) → with_chain f (begun f.protocol) ≡ f
-begun-chain f =
+begun-chain : (f : FrameFields) (rest : List ℕ) → with_chain f (begun f.protocol) rest ≡ f
+begun-chain f rest =
     let offset : f.payload_offset + 0 ≡ f.payload_offset = omega arith in
     let len : f.payload_len - 0 ≡ f.payload_len = omega arith in
     ap (λ (n : ℕ). record f { payload_offset = n; payload_len = f.payload_len - 0 }) offset ∙ ap (λ (n : ℕ). record f { payload_len = n }) len
 
 plain-by : (f : FrameFields) (src dst : IpAddress) (bytes : List ℕ) (c : Chain) → c ≡ begun f.protocol
-    → with_transport_by (with_chain f c) (protocol_of c.protocol) src dst (drop c.len bytes) ≡ with_transport_by f (protocol_of f.protocol) src dst bytes
+    → with_transport_by (with_chain f c (drop c.len bytes)) (protocol_of c.protocol) src dst (drop c.len bytes) ≡ with_transport_by f (protocol_of f.protocol) src dst bytes
 plain-by f src dst bytes c is =
-    ap (λ (d : Chain). with_transport_by (with_chain f d) (protocol_of d.protocol) src dst (drop d.len bytes)) is
-    ∙ ap (λ (g : FrameFields). with_transport_by g (protocol_of f.protocol) src dst bytes) (begun-chain f)
+    ap (λ (d : Chain). with_transport_by (with_chain f d (drop d.len bytes)) (protocol_of d.protocol) src dst (drop d.len bytes)) is
+    ∙ ap (λ (g : FrameFields). with_transport_by g (protocol_of f.protocol) src dst bytes) (begun-chain f bytes)
 
 -- its payload is stored as by itself
 pub extended-none : (f : FrameFields) (src dst : IpAddress) (bytes : List ℕ) → is_extension f.protocol ≡ false

@@ -29,7 +29,7 @@ use Rattle.c_structs.specs.declared.codes.Verdict.TheVariants as verdict
 use Rattle.c_structs.specs.declared.types.FrameFields.{FrameFields}
 use Rattle.c_structs.specs.declared.types.Ip.{Ip}
 use Rattle.c_read.proofs.StoredHeaders.{fields_of-linked, is-headed, is-transported, other-chosen, with_transport_by-read}
-use Rattle.c_read.specs.FrameFields.{fields_of, with_carried, with_ipv4_header, with_message, with_payload, with_transport_by, has_message, with_icmp}
+use Rattle.c_read.specs.FrameFields.{fields_of, with_carried, with_ipv4_header, with_message, with_part, with_payload, with_transport_by, has_message, with_icmp}
 use Rattle.c_read.specs.Stored.{HasVerdicts, StepsFrame, Stores, headed, headed_by, linked, struct_of, transported, unchecked, upper_payload, upper_protocol}
 
 -- ---- the whole frame
@@ -50,7 +50,7 @@ with_carried-arp f t bytes w type read = rw (type, read) refl
 
 -- what is stored of an IPv4 packet, a fragment or not
 pub with_carried-choice : (f : FrameFields) (t : EthernetProtocol) (bytes : List ℕ) (w : Ipv4Repr) → t ≡ ethertype.Ipv4 → ipv4_of false bytes ≡ Some w
-    → with_carried f t bytes ≡ (if ipv4.is_fragment bytes then with_ipv4_header f bytes w else with_payload (with_ipv4_header f bytes w) (Ipv4 w) (ipv4_payload bytes))
+    → with_carried f t bytes ≡ (if ipv4.is_fragment bytes then with_part (with_ipv4_header f bytes w) (ipv4_payload bytes) else with_payload (with_ipv4_header f bytes w) (Ipv4 w) (ipv4_payload bytes))
 with_carried-choice f t bytes w type read = rw (type, read) refl
 
 -- the struct of a frame that is parsed whole

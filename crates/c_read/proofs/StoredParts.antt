@@ -40,7 +40,7 @@ use Rattle.c_read.proofs.ChainSteps.{chain-right, none-some}
 use Rattle.c_read.proofs.StoredChain.{a-fault, extension-kept, given, no-part}
 use Rattle.c_read.proofs.StoredFrame.{chosen-network, with_carried-choice, with_carried-ipv4, with_carried-ipv6}
 use Rattle.c_read.proofs.StoredHeaders.{fields_of-linked, first-chosen, is-headed, rest-found}
-use Rattle.c_read.specs.FrameFields.{arp_fault, after_header, fields_of, ipv4_fault, ipv6_fault, rejected, rejected_transport, tcp_fault, udp_fault, ipv6_chain, with_arp, with_carried, with_ipv4, with_ipv4_header, with_ipv6, with_message, with_payload, with_tcp_header, with_transport_by, with_udp_header, has_message, with_icmp}
+use Rattle.c_read.specs.FrameFields.{arp_fault, after_header, fields_of, ipv4_fault, ipv6_fault, rejected, rejected_transport, tcp_fault, udp_fault, ipv6_chain, with_arp, with_carried, with_ipv4, with_ipv4_header, with_ipv6, with_message, with_part, with_payload, with_tcp_header, with_transport_by, with_udp_header, has_message, with_icmp}
 use Rattle.c_read.specs.Stored.{StepsCarried, StepsFrame, StoresFragment, StoresRejected, StoresRejectedBy, StoresUnread, extension_fault_of, headed, headed_by, linked, network_fault, unchecked, upper_payload, upper_protocol}
 use Rattle.c_read.specs.Ipv6Chain.{is_part}
 
@@ -132,9 +132,10 @@ ipv4-only f bytes read whole = elim (given (ipv4_of false bytes)) [
   | inr (w, is) ↦
       let next = with_ipv4_header f bytes w in
       let inner = with_payload next (Ipv4 w) (ipv4_payload bytes) in
-      let part = chosen-whole (ipv4.is_fragment bytes) next inner (rw is at whole) refl in
+      let fragment = with_part next (ipv4_payload bytes) in
+      let part = chosen-whole (ipv4.is_fragment bytes) fragment inner (rw is at whole) refl in
       let (t, reads) = between-only next w.next_header (src_addr_of (Ipv4 w)) (dst_addr_of (Ipv4 w)) (ipv4_payload bytes)
-      (chosen-reason (ipv4.is_fragment bytes) next inner part (rw is at read))
+      (chosen-reason (ipv4.is_fragment bytes) fragment inner part (rw is at read))
       in
       (packet (Ipv4 w) t, (refl, ((ipv4_of-Reads false bytes w).0 is, part), refl, reads))
 ]
@@ -187,17 +188,17 @@ only-read frame read network whole = elim (given (ethernet_of frame)) [
 -- ---- an IPv4 fragment
 
 with_carried-fragment : (f : FrameFields) (t : EthernetProtocol) (bytes : List ℕ) (w : Ipv4Repr) → t ≡ ethertype.Ipv4 → ipv4_of false bytes ≡ Some w → ipv4.is_fragment bytes ≡ true
-    → with_carried f t bytes ≡ with_ipv4_header f bytes w
+    → with_carried f t bytes ≡ with_part (with_ipv4_header f bytes w) (ipv4_payload bytes)
 with_carried-fragment f t bytes w type read part = rw (type, read) (first-chosen (ipv4.is_fragment bytes) _ _ part)
 
--- the struct of an IPv4 fragment stores its header
+-- the struct of an IPv4 fragment stores its header and its ports
 pub stores-fragment : (frame : List ℕ) (v : EthernetRepr) (w : Ipv4Repr) → ethernet.Reads frame v → v.ethertype ≡ ethertype.Ipv4 → ipv4.Reads (drop 14 frame) false w
     → ipv4.is_fragment (drop 14 frame) ≡ true → StoresFragment (fields_of frame) frame v w
 stores-fragment frame v w link type r part =
     let bytes = drop 14 frame in
     let is = fields_of-linked frame v link ∙ with_carried-fragment (linked frame v) v.ethertype bytes w type ((ipv4_of-Reads false bytes w).1 r) part in
     let h = is-headed frame v (Ipv4 w) r in
-    rw is (record { part = ap flag part; fields = refl; values = h.protocol; payload = h.payload })
+    rw is (record { part = ap flag part; fields = refl; values = h.protocol; payload = record { len = h.payload.len; octets = h.payload.octets } })
 
 -- ---- a rejected transport header
 
@@ -311,11 +312,12 @@ stores-rejected frame v (Ipv4 w) link type r fault =
     let bytes = drop 14 frame in
     let f = linked frame v in
     let g = headed frame v (Ipv4 w) in
+    let part = with_part g (ipv4_payload bytes) in
     let inner = with_payload g (Ipv4 w) (ipv4_payload bytes) in
     let read = (ipv4_of-Reads false bytes w).1 r in
     let is = fields_of-linked frame v link in
-    let chosen : with_carried f v.ethertype bytes ≡ (if ipv4.is_fragment bytes then g else inner) = with_carried-choice f v.ethertype bytes w type read in
-    let whole = rejected-whole g inner (ipv4.is_fragment bytes) refl (rw (is ∙ chosen) at fault) in
+    let chosen : with_carried f v.ethertype bytes ≡ (if ipv4.is_fragment bytes then part else inner) = with_carried-choice f v.ethertype bytes w type read in
+    let whole = rejected-whole part inner (ipv4.is_fragment bytes) refl (rw (is ∙ chosen) at fault) in
     let all = is ∙ with_carried-ipv4 f v.ethertype bytes w type read whole in
     rw all (stores-after_header frame v (Ipv4 w) r (rw all at fault) refl (λ stores. ap flag whole))
 stores-rejected frame v (Ipv6 w) link type r fault =
@@ -351,7 +353,7 @@ carried-unread f ethertype.Ipv4 bytes same network = elim (given (ipv4_of false 
   | inr (w, is) ↦
       let next = with_ipv4_header f bytes w in
       let inner = with_payload next (Ipv4 w) (ipv4_payload bytes) in
-      let two = chosen-network (ipv4.is_fragment bytes) next inner 2 refl (between-network next w.next_header (src_addr_of (Ipv4 w)) (dst_addr_of (Ipv4 w)) (ipv4_payload bytes)) in
+      let two = chosen-network (ipv4.is_fragment bytes) (with_part next (ipv4_payload bytes)) inner 2 refl (between-network next w.next_header (src_addr_of (Ipv4 w)) (dst_addr_of (Ipv4 w)) (ipv4_payload bytes)) in
       absurd (let no = rw is at network in omega (arith, no, two))
 ]
 carried-unread f ethertype.Ipv6 bytes same network = elim (given (ipv6_of bytes)) [

@@ -26,7 +26,7 @@ use Rattle.c_structs.specs.declared.codes.Verdict.TheVariants as verdict
 use Rattle.c_structs.specs.declared.types.FrameFields.{FrameFields}
 use Rattle.c_read.specs.Ipv6Chain.{chain_of}
 use Rattle.c_read.specs.Summary.{transport_of}
-use Rattle.c_read.specs.FrameFields.{bare_of, after_header, fields_of, has_message, ipv4_fault, ipv6_fault, packet_fields_of, rejected, rejected_transport, tcp_fault, with_arp, with_chain, with_icmp, with_ipv4, with_ipv4_fields, with_ipv6, with_ipv6_fields, with_link, with_tcp_fields, with_udp, with_udp_fields}
+use Rattle.c_read.specs.FrameFields.{bare_of, after_header, fields_of, has_message, ipv4_fault, ipv6_fault, packet_fields_of, rejected, rejected_transport, tcp_fault, with_arp, with_chain, with_icmp, with_ipv4, with_ipv4_fields, with_ipv6, with_ipv6_fields, with_link, with_part, with_tcp_fields, with_udp, with_udp_fields}
 
 -- ---- the headers
 
@@ -71,7 +71,8 @@ cut_arp f bytes = if nat_lt (length bytes) 28 then cut_header f 28 else with_arp
 abbrev pub begun_ipv4 : FrameFields → List ℕ → FrameFields
 begun_ipv4 f bytes =
     let v = ipv4.header_of bytes in let next = with_ipv4_fields f bytes v v.payload_len in
-    if ipv4.is_fragment bytes then next else cut_payload next (Ipv4 v) (drop (ipv4.header_len bytes) bytes)
+    let payload = drop (ipv4.header_len bytes) bytes in
+    if ipv4.is_fragment bytes then with_part next payload else cut_payload next (Ipv4 v) payload
 
 -- whether the bytes are no IPv4 header, whatever follows them
 abbrev pub is_no_ipv4 : FrameFields → List ℕ → Bool
@@ -91,7 +92,8 @@ cut_ipv4 f bytes =
 -- the fields with those of the payload of an IPv6 packet: of its extension headers, and of what they lead to
 abbrev pub cut_extended : FrameFields → IpAddress → IpAddress → List ℕ → FrameFields
 cut_extended f src dst bytes =
-    let c = chain_of f.protocol f.payload_len bytes in cut_transport_by (with_chain f c) (protocol_of c.protocol) src dst (drop c.len bytes)
+    let c = chain_of f.protocol f.payload_len bytes in let rest = drop c.len bytes in
+    cut_transport_by (with_chain f c rest) (protocol_of c.protocol) src dst rest
 
 -- the fields with those of an IPv6 packet whose header was captured, but not all of its payload
 abbrev pub begun_ipv6 : FrameFields → List ℕ → FrameFields
@@ -240,6 +242,17 @@ pub record LacksMessage (n : ℕ) (f g : FrameFields) : Type 0 where
     icmp = no_icmp;
   }
 
+-- where the ports of a first fragment end: they begin with its payload, and over IPv6 after the fragment header
+abbrev pub ports_end : FrameFields → ℕ
+ports_end g = g.payload_offset + (if g.network == network_code network_kind.Ipv4 then 4 else 12)
+
+-- the ports of a first fragment were cut: they are not stored, and all other fields are those of the whole frame
+pub record LacksPorts (n : ℕ) (f g : FrameFields) : Type 0 where
+  pub part : g.is_fragment ≡ 1
+  pub missing : n < ports_end g
+  pub fields : f ≡ record g { src = record g.src { port = 0 }; dst = record g.dst { port = 0 } }
+
 -- the fields of a frame of which the first n bytes were captured, by those of the whole frame
 abbrev pub IsCutOf : ℕ → FrameFields → FrameFields → Type 0
-IsCutOf n f g = (HasHeaders n f g ⊎ LacksMessage n f g) ⊎ (((h : CutHeader) × IsCutAt n h f g) ⊎ IsCutWithin n f g)
+IsCutOf n f g =
+    (HasHeaders n f g ⊎ LacksMessage n f g) ⊎ (((h : CutHeader) × IsCutAt n h f g) ⊎ (IsCutWithin n f g ⊎ LacksPorts n f g))

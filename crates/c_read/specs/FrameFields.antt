@@ -1,6 +1,6 @@
 -- The values of a frame as the struct of C.
--- Pinned by: `worked/read`, `worked/options`
-use Rattle.std.specs.Prelude.{ℕ, ◌+◌, ◌*◌, ◌/◌, ◌%◌, ◌-◌, ◌==◌, ◌&&◌, ◌||◌, not, nat_le, nat_lt, is_none, if◌then◌else◌, Bool, false, List, drop, length}
+-- Pinned by: `worked/read`, `worked/options`, `worked/ports`
+use Rattle.std.specs.Prelude.{ℕ, ◌+◌, ◌*◌, ◌/◌, ◌%◌, ◌-◌, ◌==◌, ◌&&◌, ◌||◌, not, nat_le, nat_lt, is_none, if◌then◌else◌, Bool, true, false, List, drop, length}
 use Rattle.std.specs.Option.{option_map_or}
 use Rattle.ip_wire.specs.Arp as arp
 use Rattle.ip_wire.specs.Arp.{arp_of}
@@ -184,6 +184,22 @@ with_transport_by f p src dst bytes = with_message_by f p src dst bytes
 abbrev pub with_payload : FrameFields → IpRepr → List ℕ → FrameFields
 with_payload f v bytes = with_transport_by f (next_header_of v) (src_addr_of v) (dst_addr_of v) bytes
 
+-- ---- the ports of a fragment
+
+-- whether a header of this protocol begins with two ports: UDP and TCP
+abbrev pub begins_with_ports : IpProtocol → Bool
+begins_with_ports protocol.Udp = true
+begins_with_ports protocol.Tcp = true
+begins_with_ports _ = false
+
+-- The fields of a fragment, with the ports of the UDP or TCP header that it begins with, if it is the first one and these
+-- 4 bytes are there. `bytes` are those after its headers.
+abbrev pub with_first_ports : FrameFields → Bool → IpProtocol → List ℕ → FrameFields
+with_first_ports f first p bytes = let there = first && nat_le 4 (length bytes) && begins_with_ports p in record f {
+  src = record f.src { port = if there then field bytes 0 16 else f.src.port };
+  dst = record f.dst { port = if there then field bytes 16 16 else f.dst.port };
+}
+
 -- ---- ARP, IPv4 and IPv6
 
 -- the fields with those of an ARP packet; only padding follows it
@@ -237,11 +253,15 @@ with_ipv4_fields f bytes v payload_len =
 abbrev pub with_ipv4_header : FrameFields → List ℕ → Ipv4Repr → FrameFields
 with_ipv4_header f bytes v = with_ipv4_fields f bytes v (length (ipv4_payload bytes))
 
--- the fields with those of an IPv4 packet, or why it is rejected; the payload of a fragment is not parsed
+-- the fields after the header of an IPv4 fragment with this payload, which is not parsed: only the ports are stored
+abbrev pub with_part : FrameFields → List ℕ → FrameFields
+with_part f payload = with_first_ports f (f.ip.fragment_offset == 0) (protocol_of f.protocol) payload
+
+-- the fields with those of an IPv4 packet, or why it is rejected
 abbrev pub with_ipv4 : FrameFields → List ℕ → FrameFields
 with_ipv4 f bytes =
     option_map_or (λ v. let next = with_ipv4_header f bytes v in
-    if ipv4.is_fragment bytes then next else with_payload next (Ipv4 v) (ipv4_payload bytes))
+    if ipv4.is_fragment bytes then with_part next (ipv4_payload bytes) else with_payload next (Ipv4 v) (ipv4_payload bytes))
     (ipv4_of false bytes) (rejected f (ipv4_fault bytes))
 
 -- the values of an IPv6 header without its addresses; the traffic class is a DSCP of 6 bits, followed by ECN
@@ -274,18 +294,30 @@ with_ipv6_header f bytes v = with_ipv6_fields f bytes v (length (ipv6.payload_of
 abbrev pub fragment_values : Ip → Ipv6FragmentRepr → Ip
 fragment_values ip v = record ip { ident = v.ident; fragment_offset = 8 * v.frag_offset; more_fragments = flag v.more_frags }
 
--- the fields with those of an IPv6 fragment header
-abbrev pub with_fragment_header : FrameFields → Ipv6FragmentRepr → FrameFields
-with_fragment_header f v = record f { ip = fragment_values f.ip v; is_fragment = flag (is_part v) }
+-- whether a fragment header with these values is that of the first fragment
+abbrev pub is_first : Ipv6FragmentRepr → Bool
+is_first v = v.more_frags && (v.frag_offset == 0)
 
--- the fields with those of the extension headers of an IPv6 packet; what follows them is the payload
-abbrev pub with_chain : FrameFields → Chain → FrameFields
-with_chain f c = let next = after_header f c.len (f.payload_len - c.len) in record next {
+-- the fields with those of an IPv6 fragment header, and with the ports after it; `rest` begins with this header
+abbrev pub with_fragment_header : FrameFields → Ipv6FragmentRepr → List ℕ → FrameFields
+with_fragment_header f v rest =
+    with_first_ports (record f { ip = fragment_values f.ip v; is_fragment = flag (is_part v) }) (is_first v)
+    (protocol_of (field rest 0 8)) (drop 8 rest)
+
+-- the fields with those of the extension headers of an IPv6 packet, but for ports; what follows them is the payload
+abbrev pub stepped_over : FrameFields → Chain → FrameFields
+stepped_over f c = let next = after_header f c.len (f.payload_len - c.len) in record next {
   ip = option_map_or (fragment_values f.ip) c.fragment f.ip;
   protocol = c.protocol;
   is_fragment = option_map_or (λ v. flag (is_part v)) c.fragment f.is_fragment;
   reason = option_map_or reason_code c.fault f.reason;
 }
+
+-- the fields with those of the extension headers of an IPv6 packet. Of a first fragment, `rest` begins with the fragment
+-- header, which the ports follow.
+abbrev pub with_chain : FrameFields → Chain → List ℕ → FrameFields
+with_chain f c rest =
+    with_first_ports (stepped_over f c) (option_map_or is_first c.fragment false) (protocol_of (field rest 0 8)) (drop 8 rest)
 
 -- the extension headers of an IPv6 packet
 abbrev pub ipv6_chain : List ℕ → Chain
@@ -294,7 +326,12 @@ ipv6_chain bytes = chain_of (field bytes 48 8) (length (ipv6.payload_of bytes)) 
 -- the fields with those of the payload of an IPv6 packet: of its extension headers, and of what they lead to
 abbrev pub with_extended : FrameFields → IpAddress → IpAddress → List ℕ → FrameFields
 with_extended f src dst bytes =
-    let c = chain_of f.protocol (length bytes) bytes in with_transport_by (with_chain f c) (protocol_of c.protocol) src dst (drop c.len bytes)
+    let c = chain_of f.protocol (length bytes) bytes in let rest = drop c.len bytes in
+    with_transport_by (with_chain f c rest) (protocol_of c.protocol) src dst rest
+
+-- whether this is the number of TCP, UDP or ICMPv6
+abbrev pub is_ipv6_transport : ℕ → Bool
+is_ipv6_transport n = (n == 6) || (n == 17) || (n == 58)
 
 -- the fields with those of an IPv6 packet, or why it is rejected
 abbrev pub with_ipv6 : FrameFields → List ℕ → FrameFields

@@ -26,7 +26,7 @@ use Rattle.c_structs.specs.declared.codes.TransportKind.TheVariants as transport
 use Rattle.c_structs.specs.declared.codes.Verdict.TheVariants as verdict
 use Rattle.c_structs.specs.declared.types.FrameFields.{FrameFields}
 use Rattle.c_read.specs.Ipv6Steps.{is_extension}
-use Rattle.c_read.specs.FrameFields.{arp_fault, after_header, has_message, ipv4_fault, ipv6_fault, rejected, rejected_transport, tcp_fault, udp_fault, ipv6_chain, with_chain, with_ipv4_header, with_ipv6_header, with_link, with_message, with_message_by, with_tcp_header, with_udp_header}
+use Rattle.c_read.specs.FrameFields.{arp_fault, after_header, has_message, ipv4_fault, ipv6_fault, rejected, rejected_transport, tcp_fault, udp_fault, ipv6_chain, with_chain, with_ipv4_header, with_ipv6_header, with_link, with_message, with_message_by, with_part, with_tcp_header, with_udp_header}
 
 -- no checksum is verified
 abbrev pub unchecked : ChecksumCapabilities
@@ -76,7 +76,7 @@ linked frame v = with_link (nothing_of (length frame)) v (length (drop 14 frame)
 -- the struct of a packet after its IP header and its IPv6 extension headers
 abbrev pub headed_by : FrameFields → List ℕ → IpRepr → FrameFields
 headed_by f bytes (Ipv4 w) = with_ipv4_header f bytes w
-headed_by f bytes (Ipv6 w) = with_chain (with_ipv6_header f bytes w) (ipv6_chain bytes)
+headed_by f bytes (Ipv6 w) = with_chain (with_ipv6_header f bytes w) (ipv6_chain bytes) (upper_payload (Ipv6 w) bytes)
 
 -- the struct of a frame after its IP header and its IPv6 extension headers
 abbrev pub headed : List ℕ → EthernetRepr → IpRepr → FrameFields
@@ -171,10 +171,10 @@ pub record Stores (f : FrameFields) (frame : List ℕ) (v : EthernetRepr) (w : C
   pub values : HasValues f w
   pub payload : Locates f frame (innermost (drop 14 frame) w)
 
--- the struct stores the headers of an IPv4 fragment, whose payload is not parsed
+-- the struct stores the headers of an IPv4 fragment and its ports; its payload is not parsed
 pub record StoresFragment (f : FrameFields) (frame : List ℕ) (v : EthernetRepr) (w : Ipv4Repr) : Type 0 where
   pub part : f.is_fragment ≡ 1
-  pub fields : f ≡ headed frame v (Ipv4 w)
+  pub fields : f ≡ with_part (headed frame v (Ipv4 w)) (packet_payload (Ipv4 w) (drop 14 frame))
   pub values : HasProtocol f (Ipv4 w)
   pub payload : Locates f frame (packet_payload (Ipv4 w) (drop 14 frame))
 

@@ -13,7 +13,7 @@ ghost use Rattle.c_read.specs.Captured.{IsCutOf, begun_ipv4, begun_ipv6, capture
 use crate::faults::{ARP_LEN, ipv4_fault, ipv6_fault, tcp_fault};
 use crate::frame_fields::{
     reject, step_after, store_arp, store_chain, store_ipv4, store_ipv4_header, store_ipv6,
-    store_ipv6_header, store_link,
+    store_ipv6_header, store_link, store_part,
 };
 use crate::icmp_fields::{is_icmp, store_icmp_fields};
 use crate::ipv6_chain::Chain;
@@ -174,6 +174,8 @@ fn store_begun_ipv4(fields: &mut FrameFields, bytes: &[u8])
         let dst_addr = IpAddress::Ipv4(header.dst_addr);
         let protocol = fields.ip.protocol;
         store_cut_transport(fields, protocol, &src_addr, &dst_addr, &bytes[header_len..]);
+    } else {
+        store_part(fields, &bytes[header_len..]);
     }
 }
 
@@ -238,8 +240,8 @@ fn store_cut_extended(
     ensures within { fields.new.payload_offset + fields.new.payload_len ≤ fields.old.payload_offset + fields.old.payload_len }
 {
     let chain = Chain::of(fields.protocol, fields.payload_len, bytes);
-    store_chain(fields, &chain);
     let rest = &bytes[chain.len..];
+    store_chain(fields, &chain, rest);
     store_cut_transport(fields, chain.protocol, src_addr, dst_addr, rest);
 }
 

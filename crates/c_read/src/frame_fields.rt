@@ -1,19 +1,21 @@
 //! The values of a frame, stored in the struct of C.
 
-ghost use Rattle.std.specs.Prelude.{◌≡◌, ◌≤◌, ◌+◌, IfSome, drop, length};
+ghost use Rattle.std.specs.Prelude.{◌≡◌, ◌≤◌, ◌+◌, IfSome, drop, length, true};
+ghost use Rattle.ip_wire.specs.Field.{field};
+ghost use Rattle.ip_wire.specs.Protocol.{protocol_of};
 ghost use Rattle.ip_wire.specs.IpAddress.{version_of};
 ghost use Rattle.ip_wire.specs.Arp as arp;
 ghost use Rattle.ip_wire.specs.Ethernet as ethernet;
 ghost use Rattle.ip_wire.specs.Ipv4 as ipv4;
 ghost use Rattle.ip_wire.specs.Ipv6 as ipv6;
 ghost use Rattle.c_structs.specs.Addresses.{endpoint_of};
-ghost use Rattle.c_read.specs.FrameFields.{after_header, fields_of, packet_fields_of, rejected, with_arp, with_chain, with_extended, with_fragment_header, with_frame, with_ipv4, with_ipv4_fields, with_ipv6, with_ipv6_fields, with_link, with_message, with_packet};
+ghost use Rattle.c_read.specs.FrameFields.{after_header, fields_of, is_first, is_ipv6_transport, packet_fields_of, rejected, with_arp, with_chain, with_extended, with_first_ports, with_fragment_header, with_frame, with_ipv4, with_ipv4_fields, with_ipv6, with_ipv6_fields, with_link, with_message, with_packet, with_part};
 ghost use Rattle.c_read.specs.Ipv6Steps.{is_extension};
 
 use crate::faults::{ARP_LEN, arp_fault, ipv4_fault, ipv6_fault};
 use crate::ipv6_chain::{Chain, is_part};
-use crate::ipv6_steps::is_extension;
-use crate::transport_fields::store_transport;
+use crate::ipv6_steps::UNIT;
+use crate::transport_fields::{store_first_ports, store_transport};
 use crate::verdicts::ipv4_verdict;
 use byteorder::{ByteOrder, NetworkEndian};
 use c_structs::{
@@ -33,6 +35,11 @@ const TCP: u8 = 6;
 const UDP: u8 = 17;
 
 const ICMPV6: u8 = 58;
+
+// The numbers of extension headers are the bits that are set: 0, 43, 44, 51 and 60.
+const EXTENSIONS: u64 = 0x1008_1800_0000_0001;
+
+const LAST_EXTENSION: u8 = 60;
 
 // The byte of the EtherType in an Ethernet header.
 const ETHERTYPE: usize = 12;
@@ -177,7 +184,7 @@ fn store_message(fields: &mut FrameFields, bytes: &[u8])
     step_after(fields, ARP_LEN, 0);
 }
 
-// Stores an IPv4 packet. The payload of a fragment is not parsed.
+// Stores an IPv4 packet. Of the payload of a fragment only ports are stored.
 #[inline(always)]
 pub(super) fn store_ipv4(fields: &mut FrameFields, bytes: &[u8])
     requires offset { fields.old.payload_offset ≤ 28 }
@@ -195,9 +202,22 @@ pub(super) fn store_ipv4(fields: &mut FrameFields, bytes: &[u8])
                 let dst_addr = IpAddress::Ipv4(header.dst_addr);
                 let protocol = fields.ip.protocol;
                 store_transport(fields, protocol, &src_addr, &dst_addr, payload);
+            } else {
+                store_part(fields, payload);
             }
         }
         Err(_) => reject(fields, ipv4_fault(&packet)),
+    }
+}
+
+// Stores the ports of an IPv4 fragment with this payload, if it is the first one.
+#[cold]
+#[inline(never)]
+pub(super) fn store_part(fields: &mut FrameFields, payload: &[u8])
+    ensures { fields.new ≡ with_part fields.old payload.now }
+{
+    if fields.ip.fragment_offset == 0 {
+        store_first_ports(fields, fields.protocol, payload);
     }
 }
 
@@ -253,25 +273,31 @@ pub(super) fn store_ipv6(fields: &mut FrameFields, bytes: &[u8])
             let protocol = fields.ip.protocol;
             let src_addr = IpAddress::Ipv6(header.src_addr);
             let dst_addr = IpAddress::Ipv6(header.dst_addr);
-            if begins_chain(protocol) {
-                store_extended(fields, src_addr, dst_addr, payload);
-            } else {
+            if is_ipv6_transport(protocol) {
                 store_transport(fields, protocol, &src_addr, &dst_addr, payload);
+            } else if begins_chain(protocol) {
+                store_extended(fields, src_addr, dst_addr, payload);
             }
         }
         Err(_) => reject(fields, ipv6_fault(&packet)),
     }
 }
 
-// Whether an extension header follows the IPv6 header. The usual transports are compared first, as `store_transport` does.
+// Whether this is the number of TCP, UDP or ICMPv6.
+#[inline(always)]
+fn is_ipv6_transport(protocol: u8) -> bool
+    ensures { result ≡ is_ipv6_transport protocol }
+{
+    matches!(protocol, TCP | UDP | ICMPV6)
+}
+
+// Whether an extension header follows the IPv6 header. The numbers are no cases of a `match`: of these and the transports
+// the compiler would make one table of jumps, which takes a usual packet longer.
 #[inline(always)]
 fn begins_chain(protocol: u8) -> bool
     ensures { result ≡ is_extension protocol }
 {
-    match protocol {
-        TCP | UDP | ICMPV6 => false,
-        _ => is_extension(protocol),
-    }
+    protocol <= LAST_EXTENSION && (EXTENSIONS >> protocol) % 2 == 1
 }
 
 // Stores the header of an IPv6 packet with a payload of this length.
@@ -312,36 +338,55 @@ fn store_extended(fields: &mut FrameFields, src_addr: IpAddress, dst_addr: IpAdd
     ensures within { fields.new.payload_offset + fields.new.payload_len ≤ fields.old.payload_offset + length bytes.now }
 {
     let chain = Chain::of(fields.protocol, bytes.len(), bytes);
-    store_chain(fields, &chain);
     let rest = &bytes[chain.len..];
+    store_chain(fields, &chain, rest);
     store_transport(fields, chain.protocol, &src_addr, &dst_addr, rest);
 }
 
-// Stores the extension headers of an IPv6 packet.
-pub(super) fn store_chain(fields: &mut FrameFields, chain: &Chain)
+// Stores the extension headers of an IPv6 packet. A fragment header is the first of the rest.
+pub(super) fn store_chain(fields: &mut FrameFields, chain: &Chain, rest: &[u8])
     requires offset { fields.old.payload_offset ≤ 68 }
     requires len { chain.now.len ≤ fields.old.payload_len }
     requires bounded { chain.now.len ≤ 65535 }
     requires part { IfSome chain.now.fragment (λ v. v.frag_offset ≤ 8191) }
-    ensures { fields.new ≡ with_chain fields.old chain.now }
+    ensures { fields.new ≡ with_chain fields.old chain.now rest.now }
 {
     step_after(fields, chain.len, fields.payload_len - chain.len);
     fields.protocol = chain.protocol;
-    if let Some(header) = &chain.fragment {
-        store_fragment_header(fields, header);
-    }
     if let Some(fault) = chain.fault {
         reject(fields, fault);
     }
+    if let Some(header) = &chain.fragment {
+        store_fragment_header(fields, header, rest);
+    }
 }
 
-// Stores a fragment header.
-fn store_fragment_header(fields: &mut FrameFields, header: &Ipv6FragmentRepr)
+// Stores a fragment header, and the ports after it.
+fn store_fragment_header(fields: &mut FrameFields, header: &Ipv6FragmentRepr, rest: &[u8])
     requires { header.now.frag_offset ≤ 8191 }
-    ensures { fields.new ≡ with_fragment_header fields.old header.now }
+    ensures { fields.new ≡ with_fragment_header fields.old header.now rest.now }
 {
     fields.ip.ident = header.ident;
     fields.ip.fragment_offset = 8 * header.frag_offset;
     fields.ip.more_fragments = u8::from(header.more_frags);
     fields.is_fragment = u8::from(is_part(header));
+    if is_first(header) {
+        store_ports_after(fields, rest);
+    }
+}
+
+// Stores the ports after the header of a first fragment, with which these bytes begin.
+fn store_ports_after(fields: &mut FrameFields, rest: &[u8])
+    ensures { fields.new ≡ with_first_ports fields.old true (protocol_of (field rest.now 0 8)) (drop 8 rest.now) }
+{
+    if rest.len() >= UNIT {
+        store_first_ports(fields, rest[0], &rest[UNIT..]);
+    }
+}
+
+// Whether a fragment header with these values is that of the first fragment.
+fn is_first(header: &Ipv6FragmentRepr) -> bool
+    ensures { result ≡ is_first header.now }
+{
+    header.more_frags && header.frag_offset == 0
 }

@@ -1,11 +1,11 @@
 //! The values of transport headers, stored in the struct of C.
 
-ghost use Rattle.std.specs.Prelude.{◌≡◌, ◌≤◌, ◌+◌, length};
+ghost use Rattle.std.specs.Prelude.{◌≡◌, ◌≤◌, ◌+◌, length, true};
 ghost use Rattle.ip_wire.specs.IpAddress.{version_of};
 ghost use Rattle.ip_wire.specs.Protocol.{protocol_of};
 ghost use Rattle.ip_wire.specs.Tcp as tcp;
 ghost use Rattle.ip_wire.specs.Udp as udp;
-ghost use Rattle.c_read.specs.FrameFields.{rejected_transport, udp_fault, with_tcp, with_tcp_fields, with_tcp_header, with_transport_by, with_udp, with_udp_fields, with_udp_header};
+ghost use Rattle.c_read.specs.FrameFields.{begins_with_ports, rejected_transport, udp_fault, with_first_ports, with_tcp, with_tcp_fields, with_tcp_header, with_transport_by, with_udp, with_udp_fields, with_udp_header};
 
 use crate::faults::{tcp_fault, udp_fault};
 use crate::frame_fields::{reject, step_after};
@@ -18,6 +18,9 @@ use ip_wire::{
     UDP_HEADER_LEN, UdpPacket, UdpRepr,
 };
 use wire_icmp::ICMP_HEADER_LEN;
+
+// The length of the ports at the beginning of a UDP or TCP header.
+const PORTS_LEN: usize = 4;
 
 // Stores the payload of a packet with this protocol number between two addresses. The number is compared
 // here as it is: its name in the header would have been looked up before.
@@ -193,4 +196,25 @@ pub(super) fn reject_transport(fields: &mut FrameFields, reason: Reason)
     fields.rejected = fields.transport;
     fields.transport = TransportKind::None.code();
     reject(fields, reason);
+}
+
+// Stores the ports that a first fragment of this protocol begins with, if they are there.
+pub(super) fn store_first_ports(fields: &mut FrameFields, protocol: u8, bytes: &[u8])
+    ensures { fields.new ≡ with_first_ports fields.old true (protocol_of protocol) bytes.now }
+{
+    if bytes.len() >= PORTS_LEN && begins_with_ports(protocol) {
+        let header = UdpPacket::new_unchecked(bytes);
+        fields.src.port = header.src_port();
+        fields.dst.port = header.dst_port();
+    }
+}
+
+// Whether a header of this protocol begins with two ports.
+fn begins_with_ports(protocol: u8) -> bool
+    ensures { result ≡ begins_with_ports (protocol_of protocol) }
+{
+    matches!(
+        IpProtocol::from(protocol),
+        IpProtocol::Udp | IpProtocol::Tcp
+    )
 }
