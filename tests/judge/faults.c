@@ -68,9 +68,8 @@ __attribute__((constructor)) static void choose(void)
         "the number in the IPv6 header as that after extension headers", "a route with segments left as complete",
         "hop-by-hop options in any place", "an atomic fragment as a fragment",
         "the length of an authentication header in units of 8 bytes", "an address before a route with segments left written",
-        "the length of an authentication header in units of 8 bytes",
         "a parameter problem about an option to be dropped", "a pointer that counts from the end of the IPv6 header",
-        "the length of an authentication header in units of 8 bytes", "the ports of a later fragment",
+        "the ports of a later fragment",
     };
     const char *number = getenv("FAULT");
     fault = number ? (enum fault)atoi(number) : NO_FAULT;

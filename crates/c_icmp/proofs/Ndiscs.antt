@@ -1,29 +1,53 @@
 -- Neighbour discovery in a frame.
-use Rattle.std.proofs.Common.{◌≡◌, ◌∙◌, List, MatchOption, ℕ, Option, Some, None, ap, refl, subst₂, sym}
-use Rattle.std.specs.Option.{unwrap_or}
-use Rattle.ip_wire.proofs.Parsed.{IsParsed}
-use Rattle.ip_wire.specs.Frame.{other, packet}
-use Rattle.ip_wire.specs.FrameValue.{carried_of}
-use Rattle.ip_wire.specs.Types.{IpRepr}
-use Rattle.ip_wire.specs.declared.Frame.{Frame}
+use Rattle.std.proofs.Common.{◌≡◌, ◌∙◌, List, MatchOption, ℕ, Option, Some, None, ap, drop, subst₂, sym}
+use Rattle.ip_wire.specs.Ethernet as ethernet
+use Rattle.ip_wire.specs.Frame.{IsReadWhole, other, packet}
+use Rattle.ip_wire.specs.Ipv6 as ipv6
+use Rattle.ip_wire.specs.Types.{EthernetRepr, IpRepr, Ipv4, Ipv6, Ipv6Repr}
+use Rattle.ip_wire.specs.declared.EthernetProtocol.TheVariants as ethertype
 use Rattle.wire_icmp.specs.declared.ndisc.repr.NdiscRepr.{NdiscRepr}
 use Rattle.c_icmp.specs.Neighbours.{CarriesNdisc, ReadsNdisc}
 
--- the message of a frame is that of its packet
-pub message-in : (request : Frame) (frame : List ℕ) (header : IpRepr) (message : List ℕ) (result : Option NdiscRepr) → IsParsed request frame
-    → carried_of request.carried ≡ Some (packet header (other message))
-    → MatchOption result ((v : NdiscRepr) → ¬ CarriesNdisc header message v) (CarriesNdisc header message)
+-- the message of a frame is the payload of its IPv6 packet
+pub in-packet : (frame message : List ℕ) (link : EthernetRepr) (ip : Ipv6Repr) (result : Option NdiscRepr) → ethernet.Reads frame link → link.ethertype ≡ ethertype.Ipv6
+    → ipv6.Reads (drop 14 frame) ip → ((w : Ipv6Repr) → ipv6.Reads (drop 14 frame) w → w ≡ ip) → message ≡ ipv6.payload_of (drop 14 frame)
+    → MatchOption result ((v : NdiscRepr) → ¬ CarriesNdisc (Ipv6 ip) message v) (CarriesNdisc (Ipv6 ip) message)
     → MatchOption result ((v : NdiscRepr) → ¬ ReadsNdisc frame v) (ReadsNdisc frame)
-message-in request frame header message None parsed is none = λ v it.
-    let found = (parsed it.header (packet it.ip (other it.message))).1 it.reads in
-    let whole : packet header (other message) ≡ packet it.ip (other it.message) = ap (λ o. unwrap_or o (packet header (other message))) (sym is ∙ found.1) in
-    let ip : it.ip ≡ header = cc in
-    let body : it.message ≡ message = cc in
-    none v (subst₂ (λ h m. CarriesNdisc h m v) ip body it.carries)
-message-in request frame header message (Some v) parsed is carries = record {
-  header = request.header;
-  ip = header;
+in-packet frame message link ip None header type reads one is none = λ v it. no-message v it.header it.ip it.message it.reads it.carries
+  where
+    no-message : (v : NdiscRepr) (h : EthernetRepr) (w : IpRepr) (m : List ℕ) → IsReadWhole frame h (packet w (other m)) → ¬ CarriesNdisc w m v
+    no-message v h (Ipv4 w) m whole carries = carries
+    no-message v h (Ipv6 w) m whole carries =
+        let (of, inside, (udp, tcp, body)) = whole.reads_carried in
+        none v (subst₂ (λ p b. CarriesNdisc p b v) (ap Ipv6 (one w inside)) (body ∙ sym is) carries)
+in-packet frame message link ip (Some v) header type reads one is carries = record {
+  header = link;
+  ip = Ipv6 ip;
   message = message;
-  reads = (parsed request.header (packet header (other message))).0 (refl, is);
+  reads = record {
+    reads_header = header;
+    reads_carried = (type, reads, (λ udp. absurd (let other = carries.0 in cc), λ tcp. absurd (let other = carries.0 in cc), is));
+  };
   carries = carries;
 }
+
+-- a frame without an Ethernet header has none
+pub no-header : (frame : List ℕ) → ((h : EthernetRepr) → ¬ ethernet.Reads frame h) → (v : NdiscRepr) → ¬ ReadsNdisc frame v
+no-header frame none v it = none it.header it.reads.reads_header
+
+-- nor does one with another EtherType
+pub other-type : (frame : List ℕ) (link : EthernetRepr) → ((h : EthernetRepr) → ethernet.Reads frame h → h ≡ link) → ¬ (link.ethertype ≡ ethertype.Ipv6)
+    → (v : NdiscRepr) → ¬ ReadsNdisc frame v
+other-type frame link one differs v it = of-version it.ip it.message it.reads it.carries
+  where
+    of-version : (w : IpRepr) (m : List ℕ) → IsReadWhole frame it.header (packet w (other m)) → ¬ CarriesNdisc w m v
+    of-version (Ipv4 w) m whole carries = carries
+    of-version (Ipv6 w) m whole carries = differs (ap (λ h. h.ethertype) (sym (one it.header whole.reads_header)) ∙ whole.reads_carried.0)
+
+-- nor does one without an IPv6 header
+pub no-packet : (frame : List ℕ) → ((w : Ipv6Repr) → ¬ ipv6.Reads (drop 14 frame) w) → (v : NdiscRepr) → ¬ ReadsNdisc frame v
+no-packet frame none v it = of-version it.ip it.message it.reads it.carries
+  where
+    of-version : (w : IpRepr) (m : List ℕ) → IsReadWhole frame it.header (packet w (other m)) → ¬ CarriesNdisc w m v
+    of-version (Ipv4 w) m whole carries = carries
+    of-version (Ipv6 w) m whole carries = none w whole.reads_carried.1

@@ -11,8 +11,8 @@ use crate::types::Ndisc;
 use c_structs::{Addr, Failure, FrameFields, Ip};
 use c_write::{emit_headers, headers_len, ip_header};
 use ip_wire::{
-    Carried, ChecksumCapabilities, EthernetAddress, Frame, IpAddress, IpProtocol, IpRepr, Ipv6Repr,
-    Transport,
+    ChecksumCapabilities, EthernetAddress, EthernetFrame, EthernetProtocol, EthernetRepr,
+    IpAddress, IpProtocol, Ipv6Packet, Ipv6Repr,
 };
 use wire_icmp::{IcmpPacket, NDISC_HOP_LIMIT, NdiscNeighborFlags, NdiscRepr};
 
@@ -112,30 +112,22 @@ fn hardware_bytes(hardware: Option<EthernetAddress>) -> [u8; 6]
 fn parse_ndisc(frame: &[u8]) -> Option<NdiscRepr>
     ensures { MatchOption result ((v : NdiscRepr) → ¬ ReadsNdisc frame.now v) (ReadsNdisc frame.now) }
 {
-    match Frame::parse(frame, &ChecksumCapabilities::default()) {
-        Ok(parsed) => match &parsed.carried {
-            Carried::Packet(header, inner) => match inner {
-                Transport::Other(message) => parse_message(header, message),
-                _ => None,
-            },
-            _ => None,
-        },
+    let view = EthernetFrame::new_unchecked(frame);
+    let Ok(link) = EthernetRepr::parse(&view) else {
+        return None;
+    };
+    if link.ethertype != EthernetProtocol::Ipv6 {
+        return None;
+    }
+    let packet = Ipv6Packet::new_unchecked(view.payload());
+    match Ipv6Repr::parse(&packet) {
+        Ok(ip) => parse_message(&ip, packet.payload()),
         Err(_) => None,
     }
 }
 
-// The message after an IP header, if it is valid.
-fn parse_message(header: &IpRepr, message: &[u8]) -> Option<NdiscRepr>
-    ensures { MatchOption result ((v : NdiscRepr) → ¬ CarriesNdisc header.now message.now v) (CarriesNdisc header.now message.now) }
-{
-    match header {
-        IpRepr::Ipv6(ip) => parse_after(ip, message),
-        IpRepr::Ipv4(_) => None,
-    }
-}
-
-// The same after an IPv6 header.
-fn parse_after(ip: &Ipv6Repr, message: &[u8]) -> Option<NdiscRepr>
+// The message after an IPv6 header, if it is valid.
+fn parse_message(ip: &Ipv6Repr, message: &[u8]) -> Option<NdiscRepr>
     ensures { MatchOption result ((v : NdiscRepr) → ¬ CarriesNdisc (Ipv6 ip.now) message.now v) (CarriesNdisc (Ipv6 ip.now) message.now) }
 {
     if ip.next_header != IpProtocol::Icmpv6 {
