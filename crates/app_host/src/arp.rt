@@ -16,8 +16,8 @@ use ip_wire::{
 pub fn reply<'a>(request: &Frame<'_>, ours: &Interface) -> Option<Frame<'a>>
     ensures { Gives (ArpRepliesFrame ours.now request.now) result }
 {
-    match request.carried {
-        Carried::Arp(message) => match reply_to(&message, ours) {
+    match &request.carried {
+        Carried::Arp(message) => match reply_to(message, ours) {
             Some((asker, reply)) => Some(Frame::arp(ours.hardware_addr, asker, reply)),
             None => None,
         },

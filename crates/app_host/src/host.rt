@@ -116,7 +116,7 @@ fn dscp_in(request: &Frame<'_>, frame: &[u8]) -> u8
     ensures fits { result < 64 }
     ensures is { (v : IpRepr) (inner : Inner) → 16 ≤ length frame.now → request.now.carried ≡ Packet v inner → result ≡ dscp_of (version_of v) (drop 14 frame.now) }
 {
-    match request.carried {
+    match &request.carried {
         Carried::Packet(header, _) => {
             if frame.len() < ETHERNET_HEADER_LEN + 2 {
                 return 0;
@@ -140,10 +140,10 @@ fn port_unreachable<'a>(
     ensures error { message.Gives (UnreachableFrame host.now frame.now request.now) result }
     ensures unmarked { IfSome result (λ error. error.dscp ≡ 0) }
 {
-    match request.carried {
+    match &request.carried {
         Carried::Packet(header, inner) => match inner {
             Transport::Udp(ports, _) => {
-                if !host.interface.accepts(&request.header, &header) {
+                if !host.interface.accepts(&request.header, header) {
                     return None;
                 }
                 if host.serves(ports.dst_port) {

@@ -18,9 +18,9 @@ pub fn reply<'a>(request: &Frame<'a>, dscp: u8, ours: &Interface) -> Option<Mess
     ensures reply { Gives (RepliesEchoFrame ours.now request.now) result }
     ensures dscp { IfSome result (λ reply. reply.dscp ≡ dscp) }
 {
-    match request.carried {
+    match &request.carried {
         Carried::Packet(header, inner) => match inner {
-            Transport::Other(bytes) => match reply_to(&request.header, &header, bytes, ours) {
+            Transport::Other(bytes) => match reply_to(&request.header, header, bytes, ours) {
                 Some(reply) => Some(MessageFrame { dscp, ..reply }),
                 None => None,
             },

@@ -36,6 +36,7 @@ const IPV6_QUOTE_LEN: usize = 1232;
 /// - It carries an ICMP error or redirect, or may be part of one: it is a later fragment of ICMPv6.
 ///
 /// The broadcast address of a subnet is not known here, so it counts as that of a host.
+#[inline(always)]
 pub fn error<'a>(frame: &'a [u8], ours: &Interface, message: IcmpRepr) -> Option<MessageFrame<'a>>
     ensures error { Gives (IsError ours.now frame.now message) result }
     ensures unmarked { IfSome result (λ error. error.dscp ≡ 0) }
@@ -44,7 +45,7 @@ pub fn error<'a>(frame: &'a [u8], ours: &Interface, message: IcmpRepr) -> Option
 }
 
 /// As `error`. If `to_groups`, also about a packet to a multicast group of the interface (RFC 4443, section 2.4 e.3).
-#[inline(always)]
+#[inline(never)]
 pub(crate) fn error_to<'a>(
     frame: &'a [u8],
     ours: &Interface,
@@ -75,6 +76,7 @@ pub(crate) fn error_to<'a>(
 }
 
 // Whether a packet with these headers goes from one other host through this interface to one host.
+#[inline(always)]
 fn is_between_hosts(link: &EthernetRepr, header: &IpRepr, ours: &Interface) -> bool
     ensures { IsTrue result ↔ IsBetweenHosts ours.now link.now header.now }
 {

@@ -26,10 +26,10 @@ pub fn reply<'a>(request: &Frame<'_>, ours: &Interface) -> Option<MessageFrame<'
     ensures reply { Gives (AdvertisesFrame ours.now request.now) result }
     ensures unmarked { IfSome result (λ advert. advert.dscp ≡ 0) }
 {
-    match request.carried {
+    match &request.carried {
         Carried::Packet(header, inner) => match header {
             IpRepr::Ipv6(header) => match inner {
-                Transport::Other(bytes) => reply_to(&request.header, &header, bytes, ours),
+                Transport::Other(bytes) => reply_to(&request.header, header, bytes, ours),
                 _ => None,
             },
             _ => None,

@@ -27,14 +27,14 @@ pub fn reply<'a>(request: &Frame<'_>, frame: &'a [u8], ours: &Interface) -> Opti
     ensures reply { Gives (ProblemFrame ours.now frame.now request.now) result }
     ensures unmarked { IfSome result (λ error. error.dscp ≡ 0) }
 {
-    match request.carried {
+    match &request.carried {
         Carried::Packet(header, inner) => match header {
             IpRepr::Ipv6(header) => match inner {
                 Transport::Other(payload) => {
                     if header.next_header == IpProtocol::Icmpv6 {
                         return None;
                     }
-                    reply_to(&header, payload, frame, ours)
+                    reply_to(header, payload, frame, ours)
                 }
                 _ => None,
             },

@@ -19,16 +19,16 @@ pub fn reply<'a>(
     requires { Fits request.now }
     ensures { Gives (TcpRepliesFrame ours.now ports.now offer.now request.now) result }
 {
-    match request.carried {
+    match &request.carried {
         Carried::Packet(header, inner) => match inner {
             Transport::Tcp(segment) => {
-                if !ours.accepts(&request.header, &header) {
+                if !ours.accepts(&request.header, header) {
                     return None;
                 }
-                match reply_to(&segment, ports, offer) {
+                match reply_to(segment, ports, offer) {
                     Some(reply) => {
                         let (src_addr, dst_addr) = (ours.hardware_addr, request.header.src_addr);
-                        match Frame::tcp(src_addr, dst_addr, header_back(&header), reply) {
+                        match Frame::tcp(src_addr, dst_addr, header_back(header), reply) {
                             Ok(reply) => Some(reply),
                             Err(_) => None,
                         }

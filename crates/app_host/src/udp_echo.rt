@@ -15,13 +15,13 @@ const FIRST_USER_PORT: u16 = 1024;
 pub fn echo<'a>(request: &Frame<'a>, ours: &Interface, port: u16) -> Option<Frame<'a>>
     ensures { Gives (EchoesFrame ours.now port request.now) result }
 {
-    match request.carried {
+    match &request.carried {
         Carried::Packet(header, inner) => match inner {
             Transport::Udp(ports, payload) => {
                 let is_asked = ports.dst_port == port
                     && ports.src_port >= FIRST_USER_PORT
                     && ports.src_port > port;
-                if !is_asked || !ours.accepts(&request.header, &header) {
+                if !is_asked || !ours.accepts(&request.header, header) {
                     return None;
                 }
                 let (src_addr, dst_addr) = (ours.hardware_addr, request.header.src_addr);
@@ -29,7 +29,7 @@ pub fn echo<'a>(request: &Frame<'a>, ours: &Interface, port: u16) -> Option<Fram
                     src_port: ports.dst_port,
                     dst_port: ports.src_port,
                 };
-                match Frame::udp(src_addr, dst_addr, header_back(&header), back, payload) {
+                match Frame::udp(src_addr, dst_addr, header_back(header), back, payload) {
                     Ok(reply) => Some(reply),
                     Err(_) => None,
                 }
