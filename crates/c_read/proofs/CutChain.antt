@@ -1,35 +1,35 @@
 -- Extension headers that were not all captured.
-use Rattle.std.proofs.Common.{ℕ, zero, suc, ◌≡◌, ◌∙◌, ◌≤◌, ◌<◌, ◌⊎◌, inl, inr, ◌+◌, ◌*◌, ◌-◌, ◌==◌, ◌&&◌, not, nat_lt, if◌then◌else◌, Bool, true, false, List, ◌++◌, Option, Some, None, ap, drop, length, refl, subst, sym, arith}
+use Rattle.std.proofs.Common.{ℕ, zero, suc, ◌≡◌, ◌∙◌, ◌≤◌, ◌<◌, ◌⊎◌, inl, inr, ◌+◌, ◌-◌, ◌==◌, ◌&&◌, not, nat_lt, if◌then◌else◌, Bool, true, false, List, ◌++◌, Option, Some, None, ap, drop, length, refl, subst, sym, arith}
 use Rattle.std.specs.Bool.{⊤}
 use Rattle.std.proofs.lemmas.Bool.{cases_lt}
 use Rattle.std.proofs.lemmas.List.{drop-append-le}
 use Rattle.ip_wire.specs.Field.{field}
 use Rattle.ip_wire.specs.declared.Ipv6FragmentRepr.{Ipv6FragmentRepr}
-use Rattle.c_structs.specs.declared.codes.Reason.{Reason}
-use Rattle.c_structs.specs.declared.codes.Reason.TheVariants as reason
-use Rattle.c_read.proofs.ChainSteps.{IsGoing, IsRight, Next, by-step, none-some, step-right, walked-has}
+use Rattle.wire_extensions.proofs.Steps.{IsGoing, IsRight, Next, by-step, grows, least-len, none-some, step-right}
 use Rattle.c_read.proofs.CutBytes.{field-front, longer, lt-false, lt-true}
 use Rattle.c_read.proofs.CutIpv4.{dropped}
-use Rattle.c_read.specs.Ipv6Chain.{begun, by_fault, chain_of, entered, extension_fault, is_part, stepped, walked}
-use Rattle.c_read.specs.Ipv6Steps.{extension_len, is_extension}
-use Rattle.c_read.specs.declared.ipv6_chain.Chain.{Chain}
+use Rattle.wire_extensions.specs.Chain.{begun, by_fault, chain_of, entered, extension_fault, is_part, stepped, walked}
+use Rattle.wire_extensions.specs.Extension.{extension_len, is_extension}
+use Rattle.wire_extensions.specs.declared.chain.Chain.{Chain}
+use Rattle.wire_extensions.specs.declared.chain.ExtensionFault.{ExtensionFault}
+use Rattle.wire_extensions.specs.declared.chain.ExtensionFault.TheVariants as fault
 
 -- ---- one header
 
 -- the tests of a header, by its length, the bytes that are left and were captured, and what the other tests say
-abbrev tests : ℕ → ℕ → ℕ → Option Reason → Option Reason
+abbrev tests : ℕ → ℕ → ℕ → Option ExtensionFault → Option ExtensionFault
 tests header len captured others =
-    if nat_lt len 8 then Some reason.TooShort
-    else if nat_lt captured 8 then Some reason.HeaderCut
-    else if nat_lt len header then Some reason.TooShort
-    else if nat_lt captured header then Some reason.HeaderCut
+    if nat_lt len 8 then Some fault.TooShort
+    else if nat_lt captured 8 then Some fault.HeaderCut
+    else if nat_lt len header then Some fault.TooShort
+    else if nat_lt captured header then Some fault.HeaderCut
     else others
 
 -- what a header is rejected for, if it is there as a whole
-abbrev others : ℕ → Bool → List ℕ → Option Reason
+abbrev others : ℕ → Bool → List ℕ → Option ExtensionFault
 others protocol first bytes =
-    if (protocol == 43) && not (field bytes 24 8 == 0) then Some reason.HopsLeft
-    else if (protocol == 0) && not first then Some reason.BadOrder
+    if (protocol == 43) && not (field bytes 24 8 == 0) then Some fault.HopsLeft
+    else if (protocol == 0) && not first then Some fault.BadOrder
     else None
 
 len-front : (protocol : ℕ) (bytes rest : List ℕ) → 8 ≤ length bytes → extension_len protocol (bytes ++ rest) ≡ extension_len protocol bytes
@@ -54,19 +54,11 @@ entered-front c bytes rest h =
 -- the header was captured, or it ends after the captured bytes
 abbrev IsCutHeader : ℕ → Bool → ℕ → List ℕ → List ℕ → Type 0
 IsCutHeader protocol first len bytes rest =
-    (extension_fault protocol first len bytes ≡ Some reason.HeaderCut) × (length bytes < extension_len protocol (bytes ++ rest))
+    (extension_fault protocol first len bytes ≡ Some fault.HeaderCut) × (length bytes < extension_len protocol (bytes ++ rest))
 
 abbrev IsSeenHeader : Chain → Bool → ℕ → List ℕ → List ℕ → Type 0
 IsSeenHeader c first len bytes rest =
     by_fault c bytes (extension_fault c.protocol first len bytes) ≡ by_fault c (bytes ++ rest) (extension_fault c.protocol first len (bytes ++ rest))
-
-least-len : (protocol : ℕ) (bytes : List ℕ) → 8 ≤ extension_len protocol bytes
-least-len protocol bytes = by (protocol == 44) (protocol == 51)
-  where
-    by : (a b : Bool) → 8 ≤ (if a then 8 else if b then 8 + 4 * field bytes 8 8 else 8 + 8 * field bytes 8 8)
-    by true b = omega arith
-    by false true = omega arith
-    by false false = omega arith
 
 header-front : (c : Chain) (first : Bool) (len : ℕ) (bytes rest : List ℕ) → len ≡ length (bytes ++ rest)
     → IsSeenHeader c first len bytes rest ⊎ IsCutHeader c.protocol first len bytes rest
@@ -76,8 +68,8 @@ header-front c first len bytes rest is =
     let p = c.protocol in
     elim (cases_lt len 8) [
       | inl few ↦
-          let a : extension_fault p first len bytes ≡ Some reason.TooShort = rw (lt-true len 8 few) refl in
-          let b : extension_fault p first len all ≡ Some reason.TooShort = rw (lt-true len 8 few) refl in
+          let a : extension_fault p first len bytes ≡ Some fault.TooShort = rw (lt-true len 8 few) refl in
+          let b : extension_fault p first len all ≡ Some fault.TooShort = rw (lt-true len 8 few) refl in
           inl (ap (by_fault c bytes) a ∙ sym (ap (by_fault c all) b))
       | inr enough ↦ elim (cases_lt (length bytes) 8) [
         | inl few ↦
@@ -88,8 +80,8 @@ header-front c first len bytes rest is =
             let more : 8 ≤ length all = omega (arith, size, h) in
             elim (cases_lt len (extension_len p bytes)) [
               | inl short ↦
-                  let a : extension_fault p first len bytes ≡ Some reason.TooShort = rw (lt-false len 8 enough, lt-false (length bytes) 8 h, lt-true len (extension_len p bytes) short) refl in
-                  let b : extension_fault p first len all ≡ Some reason.TooShort =
+                  let a : extension_fault p first len bytes ≡ Some fault.TooShort = rw (lt-false len 8 enough, lt-false (length bytes) 8 h, lt-true len (extension_len p bytes) short) refl in
+                  let b : extension_fault p first len all ≡ Some fault.TooShort =
                   ap (λ (n : ℕ). tests n len (length all) (others p first all)) same
                   ∙ rw (lt-false len 8 enough, lt-false (length all) 8 more, lt-true len (extension_len p bytes) short) refl in
                   inl (ap (by_fault c bytes) a ∙ sym (ap (by_fault c all) b))
@@ -112,7 +104,7 @@ header-front c first len bytes rest is =
       ]
     ]
   where
-    seen : (o : Option Reason) → 8 ≤ length bytes → by_fault c bytes o ≡ by_fault c (bytes ++ rest) o
+    seen : (o : Option ExtensionFault) → 8 ≤ length bytes → by_fault c bytes o ≡ by_fault c (bytes ++ rest) o
     seen (Some why) h = refl
     seen None h = sym (entered-front c bytes rest h)
 
@@ -120,7 +112,7 @@ header-front c first len bytes rest is =
 
 -- the chain at a header that was not captured as a whole
 abbrev pub cut_at : Chain → Chain
-cut_at c = record c { fault = Some reason.HeaderCut }
+cut_at c = record c { fault = Some fault.HeaderCut }
 
 -- a step at a header that was cut, and the step of the whole packet
 record StepsCut (len : ℕ) (bytes all : List ℕ) (c : Chain) : Type 0 where
@@ -185,18 +177,11 @@ step-front len bytes rest c is within = by (is_extension c.protocol) refl
 
 -- the chain of the captured bytes ends at a header that was cut; that of the whole packet goes past it, or ends there
 pub record CutsChain (n : ℕ) (c d : Chain) : Type 0 where
-  pub fault : c.fault ≡ Some reason.HeaderCut
+  pub fault : c.fault ≡ Some fault.HeaderCut
   pub number : is_extension c.protocol ≡ true
   pub part : (v : Ipv6FragmentRepr) → c.fragment ≡ Some v → is_part v ≡ false
   pub order : c.len ≤ d.len
   pub missing : (n < d.len) ⊎ ((d.len ≡ c.len) × (is_extension d.protocol ≡ true))
-
--- a chain only grows
-grows : (len : ℕ) (bytes : List ℕ) (n : ℕ) (c : Chain) → c.len ≤ (walked n len bytes c).len
-grows len bytes n c =
-    walked-has (λ d. c.len ≤ d.len) (λ d. c.len ≤ d.len) len bytes (λ d g. g)
-    (λ d g. by-step (λ s. Next (λ e. c.len ≤ e.len) (λ e. c.len ≤ e.len) s.0 s.1) len bytes d (λ other. g) (λ why number fault. g) (λ number none part. g)
-    (λ number none atomic. omega (arith, g)) (λ number other none. omega (arith, g))) n c (omega arith)
 
 -- a step that goes on passes a byte
 passes : (len : ℕ) (bytes : List ℕ) (c : Chain) → (stepped len bytes c).1 ≡ true → c.len < (stepped len bytes c).0.len

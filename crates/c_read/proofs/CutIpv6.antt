@@ -17,7 +17,7 @@ use Rattle.c_structs.specs.declared.codes.Reason.TheVariants as reason
 use Rattle.c_structs.specs.declared.types.FrameFields.{FrameFields}
 use Rattle.c_structs.specs.declared.types.Ip.{Ip}
 use Rattle.c_read.proofs.CutBytes.{field-front, le-false, le-true, longer, lt-false, lt-true, range-following, range-front}
-use Rattle.c_read.proofs.ChainSteps.{chain-right, none-some}
+use Rattle.wire_extensions.proofs.Steps.{chain-right, none-some}
 use Rattle.c_read.proofs.CutChain.{CutsChain, chain-front}
 use Rattle.c_read.proofs.CutIpv4.{bool, cut-by, dropped}
 use Rattle.c_read.proofs.CutPorts.{cut-fragment, no-ports}
@@ -25,9 +25,10 @@ use Rattle.c_read.proofs.CutOf.{IsNext, IsStart, KeepsBefore, cut-as, cut-networ
 use Rattle.c_read.proofs.StoredChain.{a-fault, cut-extension-kept, extension-kept, no-part}
 use Rattle.c_read.specs.Captured.{IsCutOf, IsCutWithin, after_network, before, begun_ipv6, cut_extended, cut_header, cut_ipv6, cut_transport_by, transport_header}
 use Rattle.c_read.specs.FrameFields.{fragment_values, ipv6_fault, ipv6_values, is_first, rejected, stepped_over, with_chain, with_extended, with_ipv6, with_ipv6_fields, with_ipv6_header, with_transport_by}
-use Rattle.c_read.specs.Ipv6Chain.{chain_of, is_part}
-use Rattle.c_read.specs.Ipv6Steps.{is_extension}
-use Rattle.c_read.specs.declared.ipv6_chain.Chain.{Chain}
+use Rattle.wire_extensions.specs.Chain.{chain_of, is_part}
+use Rattle.wire_extensions.specs.Extension.{is_extension}
+use Rattle.wire_extensions.specs.declared.chain.Chain.{Chain}
+use Rattle.wire_extensions.specs.declared.chain.ExtensionFault.TheVariants as fault
 
 -- ---- whether the bytes are a header
 
@@ -223,7 +224,7 @@ within-chain n f c d src dst bytes rest bare place cut =
     let after = bare.after in
     let order = cut.order in
     record {
-      reason = a-fault c.fault reason.HeaderCut f.reason cut.fault;
+      reason = a-fault c.fault fault.HeaderCut f.reason cut.fault;
       after = rw follows.offset (omega (arith, after));
       missing = elim cut.missing [
         | inl past ↦ inl (rw begins (omega (arith, place, past)))

@@ -23,8 +23,8 @@ use Rattle.c_structs.specs.declared.types.FrameFields.{FrameFields}
 use Rattle.c_read.proofs.FieldsOf.{packet_fields_of-some}
 use Rattle.c_read.proofs.StoredHeaders.{fields_of-linked}
 use Rattle.c_read.specs.FrameFields.{bare_of, after_header, fields_of, ipv4_fault, ipv6_fault, packet_fields_of, rejected, rejected_transport, tcp_fault, udp_fault, with_carried, with_chain, with_extended, with_ipv4, with_ipv4_header, with_ipv6, with_ipv6_header, with_packet, with_part, with_payload, with_tcp, with_tcp_header, with_transport_by, with_udp, with_udp_header, has_message, with_icmp}
-use Rattle.c_read.specs.Ipv6Chain.{chain_of}
-use Rattle.c_read.specs.declared.ipv6_chain.Chain.{Chain}
+use Rattle.wire_extensions.specs.Chain.{chain_of}
+use Rattle.wire_extensions.specs.declared.chain.Chain.{Chain}
 use Rattle.c_read.specs.Stored.{IsTypeOf, in_frame, linked}
 
 -- ---- choices

@@ -1,6 +1,4 @@
 pub mod CapturedOf
-mod ChainLeads
-mod ChainSteps
 mod CutArp
 mod CutBytes
 mod CutChain

@@ -8,12 +8,12 @@ use Rattle.ip_wire.specs.Ipv6.{payload_of}
 use Rattle.ip_wire.specs.Protocol.{number_of, protocol_of}
 use Rattle.ip_wire.specs.Types.{EthernetRepr, IpProtocol, IpRepr, Ipv4, Ipv6}
 use Rattle.ip_wire.specs.declared.ChecksumCapabilities.{ChecksumCapabilities}
-use Rattle.c_read.proofs.ChainSteps.{chain-none}
+use Rattle.wire_extensions.proofs.Steps.{chain-none}
 use Rattle.c_read.specs.FrameFields.{ipv6_chain}
-use Rattle.c_read.specs.Ipv6Chain.{begun}
-use Rattle.c_read.specs.Ipv6Steps.{is_extension}
+use Rattle.wire_extensions.specs.Chain.{begun}
+use Rattle.wire_extensions.specs.Extension.{is_extension}
 use Rattle.c_read.specs.Stored.{HasNoExtension, StepsFrame}
-use Rattle.c_read.specs.declared.ipv6_chain.Chain.{Chain}
+use Rattle.wire_extensions.specs.declared.chain.Chain.{Chain}
 
 pub plain-steps : (caps : ChecksumCapabilities) (frame : List ℕ) (v : EthernetRepr) (w : IpRepr) (t : Transport) → ReadsFrame caps frame v (packet w t) → HasNoExtension w
     → StepsFrame caps frame v (packet w t)

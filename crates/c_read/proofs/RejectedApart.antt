@@ -24,11 +24,11 @@ use Rattle.c_structs.specs.Verdicts.{icmp_verdict}
 use Rattle.c_structs.specs.declared.codes.Reason.{Reason}
 use Rattle.c_structs.specs.declared.codes.Reason.TheVariants as reason
 use Rattle.c_structs.specs.declared.types.FrameFields.{FrameFields}
-use Rattle.c_read.proofs.ChainSteps.{chain-right}
+use Rattle.wire_extensions.proofs.Steps.{chain-right}
 use Rattle.c_read.proofs.StoredChain.{extension-kept, given, no-fault}
 use Rattle.c_read.proofs.StoredParts.{IsFault, tcp-faulty, udp-faulty}
 use Rattle.c_read.specs.FrameFields.{after_header, fields_of, rejected, rejected_transport, tcp_fault, udp_fault, with_carried, with_chain, with_extended, with_frame, with_ipv4_header, with_ipv6_header, with_message, with_part, with_payload, with_tcp_header, with_transport_by, with_udp_header, has_message, with_icmp}
-use Rattle.c_read.specs.Ipv6Chain.{chain_of}
+use Rattle.wire_extensions.specs.Chain.{chain_of}
 use Rattle.c_read.specs.Stored.{linked}
 
 -- no transport header is named where one is rejected, and no rejected one where none is

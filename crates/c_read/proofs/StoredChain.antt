@@ -1,5 +1,5 @@
 -- What the struct of an IPv6 packet has of its extension headers.
-use Rattle.std.proofs.Common.{ℕ, ◌≡◌, ◌∙◌, ◌⊎◌, inl, inr, ◌==◌, ◌+◌, ◌-◌, Bool, true, false, List, Option, Some, None, ap, drop, length, refl, subst, sym, arith}
+use Rattle.std.proofs.Common.{ℕ, ◌≡◌, ◌≢◌, ◌∙◌, ◌⊎◌, inl, inr, ◌==◌, ◌+◌, ◌-◌, Bool, true, false, List, Option, Some, None, ap, drop, length, refl, subst, sym, arith}
 use Rattle.std.proofs.lemmas.Bool.{eqb-true}
 use Rattle.std.specs.Option.{option_map_or}
 use Rattle.ip_wire.specs.Protocol.{protocol_of}
@@ -8,15 +8,16 @@ use Rattle.ip_wire.specs.declared.IpAddress.TheVariants as address
 use Rattle.ip_wire.specs.declared.Ipv6FragmentRepr.{Ipv6FragmentRepr}
 use Rattle.c_structs.specs.Codes.{reason_code}
 use Rattle.c_structs.specs.Written.{flag}
-use Rattle.c_structs.specs.declared.codes.Reason.{Reason}
 use Rattle.c_structs.specs.declared.types.FrameFields.{FrameFields}
 use Rattle.c_structs.specs.declared.types.Ip.{Ip}
-use Rattle.c_read.proofs.ChainSteps.{chain-none}
+use Rattle.wire_extensions.proofs.Steps.{chain-none}
 use Rattle.c_read.specs.Captured.{cut_transport_by}
-use Rattle.c_read.specs.FrameFields.{fragment_values, with_chain, with_extended, with_transport_by}
-use Rattle.c_read.specs.Ipv6Chain.{begun, chain_of, is_part}
-use Rattle.c_read.specs.Ipv6Steps.{is_extension}
-use Rattle.c_read.specs.declared.ipv6_chain.Chain.{Chain}
+use Rattle.c_read.specs.FrameFields.{extension_reason, fragment_values, with_chain, with_extended, with_transport_by}
+use Rattle.wire_extensions.specs.Chain.{begun, chain_of, is_part}
+use Rattle.wire_extensions.specs.Extension.{is_extension}
+use Rattle.wire_extensions.specs.declared.chain.Chain.{Chain}
+use Rattle.wire_extensions.specs.declared.chain.ExtensionFault.{ExtensionFault}
+use Rattle.wire_extensions.specs.declared.chain.ExtensionFault.TheVariants as fault
 
 -- ---- a packet without extension headers
 
@@ -69,12 +70,22 @@ pub chain-protocol : (i : Ip) (o : Option Ipv6FragmentRepr) → (option_map_or (
 chain-protocol i None = refl
 chain-protocol i (Some v) = refl
 
--- without a fault no reason is stored
-pub no-fault : (o : Option Reason) (n : ℕ) → o ≡ None → option_map_or reason_code o n ≡ n
-no-fault o n none = ap (λ (p : Option Reason). option_map_or reason_code p n) none
+-- the number of the reason of a fault, which is not that of "read"
+abbrev number : ExtensionFault → ℕ
+number why = reason_code (extension_reason why)
 
-pub a-fault : (o : Option Reason) (why : Reason) (n : ℕ) → o ≡ Some why → option_map_or reason_code o n ≡ reason_code why
-a-fault o why n is = ap (λ (p : Option Reason). option_map_or reason_code p n) is
+pub numbered : (why : ExtensionFault) → number why ≢ 0
+numbered fault.TooShort = λ z. absurd (omega (arith, z))
+numbered fault.HeaderCut = λ z. absurd (omega (arith, z))
+numbered fault.HopsLeft = λ z. absurd (omega (arith, z))
+numbered fault.BadOrder = λ z. absurd (omega (arith, z))
+
+-- without a fault no reason is stored
+pub no-fault : (o : Option ExtensionFault) (n : ℕ) → o ≡ None → option_map_or number o n ≡ n
+no-fault o n none = ap (λ (p : Option ExtensionFault). option_map_or number p n) none
+
+pub a-fault : (o : Option ExtensionFault) (why : ExtensionFault) (n : ℕ) → o ≡ Some why → option_map_or number o n ≡ number why
+a-fault o why n is = ap (λ (p : Option ExtensionFault). option_map_or number p n) is
 
 -- a packet is whole, unless there is the header of a fragment
 pub no-part : (o : Option Ipv6FragmentRepr) → ((v : Ipv6FragmentRepr) → o ≡ Some v → is_part v ≡ false) → option_map_or (λ v. flag (is_part v)) o 0 ≡ 0

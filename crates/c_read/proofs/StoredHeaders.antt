@@ -28,7 +28,7 @@ use Rattle.ip_wire.specs.declared.TcpControl.TheVariants as control
 use Rattle.c_structs.specs.Verdicts.{icmp_verdict}
 use Rattle.c_structs.specs.declared.types.FrameFields.{FrameFields}
 use Rattle.c_structs.specs.declared.codes.Verdict.{Verdict}
-use Rattle.c_read.proofs.ChainSteps.{chain-right}
+use Rattle.wire_extensions.proofs.Steps.{chain-right}
 use Rattle.c_read.proofs.CutBytes.{lt-false}
 use Rattle.c_read.proofs.StoredChain.{chain-protocol, no-fault}
 use Rattle.c_read.specs.FrameFields.{fields_of, ipv6_chain, with_carried, with_ipv6_header, with_transport_by, has_message, is_icmp, with_icmp, with_message_by}

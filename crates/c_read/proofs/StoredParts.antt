@@ -36,13 +36,13 @@ use Rattle.c_structs.specs.declared.codes.Reason.TheVariants as reason
 use Rattle.c_structs.specs.declared.types.FrameFields.{FrameFields}
 use Rattle.c_structs.specs.declared.types.Ip.{Ip}
 use Rattle.c_structs.specs.declared.codes.Verdict.{Verdict}
-use Rattle.c_read.proofs.ChainSteps.{chain-right, none-some}
-use Rattle.c_read.proofs.StoredChain.{a-fault, extension-kept, given, no-part}
+use Rattle.wire_extensions.proofs.Steps.{chain-right, none-some}
+use Rattle.c_read.proofs.StoredChain.{a-fault, extension-kept, given, no-part, numbered}
 use Rattle.c_read.proofs.StoredFrame.{chosen-network, with_carried-choice, with_carried-ipv4, with_carried-ipv6}
 use Rattle.c_read.proofs.StoredHeaders.{fields_of-linked, first-chosen, is-headed, rest-found}
 use Rattle.c_read.specs.FrameFields.{arp_fault, after_header, fields_of, ipv4_fault, ipv6_fault, rejected, rejected_transport, tcp_fault, udp_fault, ipv6_chain, with_arp, with_carried, with_ipv4, with_ipv4_header, with_ipv6, with_message, with_part, with_payload, with_tcp_header, with_transport_by, with_udp_header, has_message, with_icmp}
 use Rattle.c_read.specs.Stored.{StepsCarried, StepsFrame, StoresFragment, StoresRejected, StoresRejectedBy, StoresUnread, extension_fault_of, headed, headed_by, linked, network_fault, unchecked, upper_payload, upper_protocol}
-use Rattle.c_read.specs.Ipv6Chain.{is_part}
+use Rattle.wire_extensions.specs.Chain.{is_part}
 
 -- ---- faults
 
@@ -157,7 +157,7 @@ ipv6-only f bytes read = elim (given (ipv6_of bytes)) [
             (packet (Ipv6 w) t, (refl, (ipv6_of-Reads bytes w).0 is, none, reads))
         | inr (why, fault) ↦
             let same = extension-kept next c.protocol w.src_addr w.dst_addr rest (right.fault why fault) in
-            absurd (right.code why fault (sym (a-fault c.fault why f.reason fault) ∙ sym (ap (λ (g : FrameFields). g.reason) same) ∙ inner))
+            absurd (numbered why (sym (a-fault c.fault why f.reason fault) ∙ sym (ap (λ (g : FrameFields). g.reason) same) ∙ inner))
       ]
 ]
 

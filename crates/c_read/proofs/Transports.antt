@@ -7,7 +7,7 @@ use Rattle.ip_wire.specs.Types.{IpProtocol}
 use Rattle.ip_wire.specs.declared.IpAddress.TheVariants as address
 use Rattle.c_structs.specs.declared.types.FrameFields.{FrameFields}
 use Rattle.c_read.specs.FrameFields.{is_ipv6_transport, with_transport_by}
-use Rattle.c_read.specs.Ipv6Steps.{is_extension}
+use Rattle.wire_extensions.specs.Extension.{is_extension}
 
 -- ---- transports
 

@@ -24,7 +24,7 @@ use Rattle.c_structs.specs.declared.codes.Reason.TheVariants as reason
 use Rattle.c_structs.specs.declared.codes.TransportKind.TheVariants as transport
 use Rattle.c_structs.specs.declared.codes.Verdict.TheVariants as verdict
 use Rattle.c_structs.specs.declared.types.FrameFields.{FrameFields}
-use Rattle.c_read.specs.Ipv6Chain.{chain_of}
+use Rattle.wire_extensions.specs.Chain.{chain_of}
 use Rattle.c_read.specs.Summary.{transport_of}
 use Rattle.c_read.specs.FrameFields.{bare_of, after_header, fields_of, has_message, ipv4_fault, ipv6_fault, packet_fields_of, rejected, rejected_transport, tcp_fault, with_arp, with_chain, with_icmp, with_ipv4, with_ipv4_fields, with_ipv6, with_ipv6_fields, with_link, with_part, with_tcp_fields, with_udp, with_udp_fields}
 

@@ -39,8 +39,10 @@ use Rattle.c_structs.specs.declared.types.FrameFields.{FrameFields}
 use Rattle.c_structs.specs.declared.types.Icmp.{Icmp}
 use Rattle.c_structs.specs.declared.types.Ip.{Ip}
 use Rattle.c_structs.specs.declared.types.Tcp.{Tcp}
-use Rattle.c_read.specs.Ipv6Chain.{chain_of, is_part}
-use Rattle.c_read.specs.declared.ipv6_chain.Chain.{Chain}
+use Rattle.wire_extensions.specs.Chain.{chain_of, is_part}
+use Rattle.wire_extensions.specs.declared.chain.Chain.{Chain}
+use Rattle.wire_extensions.specs.declared.chain.ExtensionFault.{ExtensionFault}
+use Rattle.wire_extensions.specs.declared.chain.ExtensionFault.TheVariants as fault
 
 -- ---- where the payload begins
 
@@ -75,6 +77,13 @@ ipv6_fault bytes =
     if nat_lt (length bytes) 40 then reason.TooShort
     else if not (field bytes 0 4 == 6) then reason.BadVersion
     else reason.BadLength
+
+-- why an IPv6 extension header is rejected
+abbrev pub extension_reason : ExtensionFault → Reason
+extension_reason fault.TooShort = reason.TooShort
+extension_reason fault.HeaderCut = reason.HeaderCut
+extension_reason fault.HopsLeft = reason.HopsLeft
+extension_reason fault.BadOrder = reason.BadOrder
 
 -- why at least 8 bytes that do not parse as a UDP packet are rejected
 abbrev pub udp_fault : List ℕ → Reason
@@ -310,7 +319,7 @@ stepped_over f c = let next = after_header f c.len (f.payload_len - c.len) in re
   ip = option_map_or (fragment_values f.ip) c.fragment f.ip;
   protocol = c.protocol;
   is_fragment = option_map_or (λ v. flag (is_part v)) c.fragment f.is_fragment;
-  reason = option_map_or reason_code c.fault f.reason;
+  reason = option_map_or (λ why. reason_code (extension_reason why)) c.fault f.reason;
 }
 
 -- the fields with those of the extension headers of an IPv6 packet. Of a first fragment, `rest` begins with the fragment

@@ -1,7 +1,6 @@
 pub mod Captured
 pub mod FrameFields
 pub mod FrameOptions
-pub mod Ipv6Chain
 pub mod Ipv6Steps
 pub mod Links
 pub mod Messages

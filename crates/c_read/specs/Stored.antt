@@ -25,7 +25,8 @@ use Rattle.c_structs.specs.declared.codes.Reason.TheVariants as reason
 use Rattle.c_structs.specs.declared.codes.TransportKind.TheVariants as transport
 use Rattle.c_structs.specs.declared.codes.Verdict.TheVariants as verdict
 use Rattle.c_structs.specs.declared.types.FrameFields.{FrameFields}
-use Rattle.c_read.specs.Ipv6Steps.{is_extension}
+use Rattle.wire_extensions.specs.Extension.{is_extension}
+use Rattle.wire_extensions.specs.declared.chain.ExtensionFault.{ExtensionFault}
 use Rattle.c_read.specs.FrameFields.{arp_fault, after_header, has_message, ipv4_fault, ipv6_fault, rejected, rejected_transport, tcp_fault, udp_fault, ipv6_chain, with_chain, with_ipv4_header, with_ipv6_header, with_link, with_message, with_message_by, with_part, with_tcp_header, with_udp_header}
 
 -- no checksum is verified
@@ -45,7 +46,7 @@ upper_payload (Ipv4 w) bytes = ipv4_payload bytes
 upper_payload (Ipv6 w) bytes = drop (ipv6_chain bytes).len (payload_of bytes)
 
 -- why an extension header of the packet is rejected, if one is
-abbrev pub extension_fault_of : IpRepr → List ℕ → Option Reason
+abbrev pub extension_fault_of : IpRepr → List ℕ → Option ExtensionFault
 extension_fault_of (Ipv4 w) bytes = None
 extension_fault_of (Ipv6 w) bytes = (ipv6_chain bytes).fault
 

@@ -16,7 +16,6 @@ use crate::frame_fields::{
     store_ipv6_header, store_link, store_part,
 };
 use crate::icmp_fields::{is_icmp, store_icmp_fields};
-use crate::ipv6_chain::Chain;
 use crate::transport_fields::{reject_transport, store_tcp_fields, store_udp, store_udp_fields};
 use crate::verdicts::cut_udp_verdict;
 use c_structs::{FrameFields, Reason, Verdict};
@@ -25,6 +24,7 @@ use ip_wire::{
     IPV6_HEADER_LEN, IpAddress, IpProtocol, Ipv4Packet, Ipv4Repr, Ipv6Packet, Ipv6Repr,
     TCP_HEADER_LEN, TcpPacket, TcpRepr, UDP_HEADER_LEN, UdpPacket,
 };
+use wire_extensions::Chain;
 use wire_icmp::{ICMP_HEADER_LEN, IcmpPacket};
 
 /// Stores the values of a frame of `len` bytes of which fewer were captured, up to a header that is

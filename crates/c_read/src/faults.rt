@@ -5,12 +5,13 @@ ghost use Rattle.ip_wire.specs.Ipv4 as ipv4;
 ghost use Rattle.ip_wire.specs.Ipv6 as ipv6;
 ghost use Rattle.ip_wire.specs.Tcp as tcp;
 ghost use Rattle.ip_wire.specs.Udp as udp;
-ghost use Rattle.c_read.specs.FrameFields.{arp_fault, ipv4_fault, ipv6_fault, tcp_fault, udp_fault};
+ghost use Rattle.c_read.specs.FrameFields.{arp_fault, extension_reason, ipv4_fault, ipv6_fault, tcp_fault, udp_fault};
 
 use c_structs::Reason;
 use ip_wire::{
     IPV4_HEADER_LEN, IPV6_HEADER_LEN, Ipv4Packet, Ipv6Packet, TCP_HEADER_LEN, TcpPacket, UdpPacket,
 };
+use wire_extensions::ExtensionFault;
 
 /// The length of an ARP packet for Ethernet and IPv4, in bytes.
 pub const ARP_LEN: usize = 28;
@@ -52,6 +53,19 @@ pub fn ipv6_fault(packet: &Ipv6Packet<'_>) -> Reason
         Reason::BadVersion
     } else {
         Reason::BadLength
+    }
+}
+
+/// Why an IPv6 extension header is rejected.
+#[cold]
+pub fn extension_reason(fault: ExtensionFault) -> Reason
+    ensures { result ≡ extension_reason fault }
+{
+    match fault {
+        ExtensionFault::TooShort => Reason::TooShort,
+        ExtensionFault::HeaderCut => Reason::HeaderCut,
+        ExtensionFault::HopsLeft => Reason::HopsLeft,
+        ExtensionFault::BadOrder => Reason::BadOrder,
     }
 }
 

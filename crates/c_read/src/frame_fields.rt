@@ -10,11 +10,9 @@ ghost use Rattle.ip_wire.specs.Ipv4 as ipv4;
 ghost use Rattle.ip_wire.specs.Ipv6 as ipv6;
 ghost use Rattle.c_structs.specs.Addresses.{endpoint_of};
 ghost use Rattle.c_read.specs.FrameFields.{after_header, fields_of, is_first, is_ipv6_transport, packet_fields_of, rejected, with_arp, with_chain, with_extended, with_first_ports, with_fragment_header, with_frame, with_ipv4, with_ipv4_fields, with_ipv6, with_ipv6_fields, with_link, with_message, with_packet, with_part};
-ghost use Rattle.c_read.specs.Ipv6Steps.{is_extension};
+ghost use Rattle.wire_extensions.specs.Extension.{is_extension};
 
-use crate::faults::{ARP_LEN, arp_fault, ipv4_fault, ipv6_fault};
-use crate::ipv6_chain::{Chain, is_part};
-use crate::ipv6_steps::UNIT;
+use crate::faults::{ARP_LEN, arp_fault, extension_reason, ipv4_fault, ipv6_fault};
 use crate::transport_fields::{store_first_ports, store_transport};
 use crate::verdicts::ipv4_verdict;
 use byteorder::{ByteOrder, NetworkEndian};
@@ -28,6 +26,7 @@ use ip_wire::{
     Ipv6FragmentRepr, Ipv6Packet, Ipv6Repr,
 };
 use net_base::array_at;
+use wire_extensions::{Chain, EXTENSION_UNIT, is_part};
 
 // The numbers of the usual transports (IANA, protocol numbers).
 const TCP: u8 = 6;
@@ -354,7 +353,7 @@ pub(super) fn store_chain(fields: &mut FrameFields, chain: &Chain, rest: &[u8])
     step_after(fields, chain.len, fields.payload_len - chain.len);
     fields.protocol = chain.protocol;
     if let Some(fault) = chain.fault {
-        reject(fields, fault);
+        reject(fields, extension_reason(fault));
     }
     if let Some(header) = &chain.fragment {
         store_fragment_header(fields, header, rest);
@@ -379,8 +378,8 @@ fn store_fragment_header(fields: &mut FrameFields, header: &Ipv6FragmentRepr, re
 fn store_ports_after(fields: &mut FrameFields, rest: &[u8])
     ensures { fields.new ≡ with_first_ports fields.old true (protocol_of (field rest.now 0 8)) (drop 8 rest.now) }
 {
-    if rest.len() >= UNIT {
-        store_first_ports(fields, rest[0], &rest[UNIT..]);
+    if rest.len() >= EXTENSION_UNIT {
+        store_first_ports(fields, rest[0], &rest[EXTENSION_UNIT..]);
     }
 }
 

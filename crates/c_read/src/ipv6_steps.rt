@@ -1,23 +1,17 @@
 //! The headers of an IPv6 packet one by one, each by its place.
 
 ghost use Rattle.std.specs.Prelude.{◌≡◌, ◌≤◌, length, take};
-ghost use Rattle.c_read.specs.Ipv6Steps.{extension_len, first_of, following, is_extension, step, step_to};
+ghost use Rattle.c_read.specs.Ipv6Steps.{first_of, following, step, step_to};
 
 use byteorder::{ByteOrder, NetworkEndian};
 use c_structs::Ipv6HeaderPlace;
 use ip_wire::{IPV6_HEADER_LEN, Ipv6Packet};
+use wire_extensions::{EXTENSION_UNIT, FRAGMENT, extension_len, is_extension};
 
-// The protocols of an IPv6 header, of fragment and authentication headers, and of what no header follows.
+// The protocols of an IPv6 header, and of what no header follows.
 const IPV6: u8 = 41;
 
-pub(super) const FRAGMENT: u8 = 44;
-
-const AUTHENTICATION: u8 = 51;
-
 const NO_NEXT_HEADER: u8 = 59;
-
-// The length of the shortest extension header, and of a fragment header, in bytes.
-pub(super) const UNIT: usize = 8;
 
 /// Steps to the next header of a packet, first to the IPv6 header, and returns 1. Returns 0 if no extension header
 /// follows, and -1 if there is no IPv6 header or the next one is cut, and stores nothing then.
@@ -63,7 +57,7 @@ fn step_to(header: &mut Ipv6HeaderPlace, rest: &[u8], at: usize) -> i32
     ensures returned { result ≡ (step_to rest.now at header.old).0 }
     ensures stored { header.new ≡ (step_to rest.now at header.old).1 }
 {
-    if rest.len() < UNIT {
+    if rest.len() < EXTENSION_UNIT {
         return -1;
     }
     let len = extension_len(header.next, rest);
@@ -77,29 +71,6 @@ fn step_to(header: &mut Ipv6HeaderPlace, rest: &[u8], at: usize) -> i32
         next: following(header.next, rest),
     };
     1
-}
-
-// Whether this is the number of an extension header: hop-by-hop options, routing, fragment, authentication,
-// destination options.
-#[inline(always)]
-pub(super) fn is_extension(protocol: u8) -> bool
-    ensures { result ≡ is_extension protocol }
-{
-    matches!(protocol, 0 | 43 | 44 | 51 | 60)
-}
-
-// The length of an extension header in bytes.
-pub(super) fn extension_len(protocol: u8, bytes: &[u8]) -> usize
-    requires { 8 ≤ length bytes.now }
-    ensures value { result ≡ extension_len protocol bytes.now }
-    ensures least { 8 ≤ result }
-    ensures bounded { result ≤ 2048 }
-{
-    match protocol {
-        FRAGMENT => UNIT,
-        AUTHENTICATION => UNIT + 4 * usize::from(bytes[1]),
-        _ => UNIT + UNIT * usize::from(bytes[1]),
-    }
 }
 
 // The protocol of what follows an extension header.

@@ -11,7 +11,7 @@ ghost use Rattle.ip_wire.specs.Types.{EthernetRepr, IpRepr, Ipv4Repr, UdpRepr};
 ghost use Rattle.ip_wire.specs.Field.{field};
 ghost use Rattle.wire_link.specs.Link.{is_tag};
 ghost use Rattle.c_read.specs.FrameFields.{fields_of};
-ghost use Rattle.c_read.specs.Ipv6Chain.{IsThrough, LeadsTo, chain_of};
+ghost use Rattle.wire_extensions.specs.Chain.{IsThrough, LeadsTo, chain_of};
 ghost use Rattle.c_read.specs.Summary.{tcp_line, udp_line, with_verdicts};
 ghost use Rattle.c_structs.specs.Written.{Prints};
 ghost use Rattle.c_read.specs.Stored.{HasNoExtension, HasVerdicts, IsTypeOf, StepsFrame, Stores, StoresFragment, StoresRejected, StoresUnread, in_frame, unchecked};

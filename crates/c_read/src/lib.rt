@@ -7,7 +7,6 @@ mod faults;
 mod frame_fields;
 mod frame_options;
 mod icmp_fields;
-mod ipv6_chain;
 mod ipv6_steps;
 pub mod laws;
 mod links;

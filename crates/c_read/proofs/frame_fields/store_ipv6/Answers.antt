@@ -8,7 +8,7 @@ use Rattle.c_read.proofs.StoredChain.{extended-none}
 use Rattle.c_read.proofs.StoredFrame.{with_carried-ipv6}
 use Rattle.c_read.proofs.Transports.{other-kept, transport-plain}
 use Rattle.c_read.specs.FrameFields.{is_ipv6_transport, with_ipv6_header, with_transport_by}
-use Rattle.c_read.specs.Ipv6Steps.{is_extension}
+use Rattle.wire_extensions.specs.Extension.{is_extension}
 use Rattle.c_read.proofs.frame_fields.store_ipv6.Goals as goal
 
 pub returns-then-is_ipv6_transport-clause-value : goal.returns-then-is_ipv6_transport-clause-value

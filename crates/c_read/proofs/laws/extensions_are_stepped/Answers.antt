@@ -1,4 +1,4 @@
-use Rattle.c_read.proofs.ChainLeads.{chain-leads}
+use Rattle.wire_extensions.proofs.Leads.{chain-leads}
 use Rattle.c_read.proofs.PlainFrame.{plain-steps}
 use Rattle.c_read.proofs.laws.extensions_are_stepped.Goals as goal
 
