@@ -209,6 +209,15 @@ INLINE int store_transport(const struct packet *packet, struct lk_frame *frame, 
     return LK_READ;
 }
 
+/* Stores the ports of the first fragment of a UDP or TCP packet. */
+INLINE void store_first_ports(uint8_t protocol, const uint8_t *ptr, size_t len, struct lk_frame *frame)
+{
+    if (len < 4 || (protocol != PROTOCOL_TCP && protocol != PROTOCOL_UDP))
+        return;
+    frame->src.port = swap_16(load_16(ptr));
+    frame->dst.port = swap_16(load_16(ptr + 2));
+}
+
 INLINE int store_ipv4(const uint8_t *ptr, size_t len, struct lk_frame *frame, struct lk_tcp_options *options)
 {
     struct packet packet;
@@ -235,7 +244,11 @@ INLINE int store_ipv4(const uint8_t *ptr, size_t len, struct lk_frame *frame, st
     frame->is_fragment = (uint8_t)packet.is_fragment;
     frame->ipv4_checksum = ipv4_holds(&packet) ? LK_RIGHT : LK_WRONG;
     follow(frame, (size_t)(packet.payload - ptr), packet.len);
-    return packet.is_fragment ? LK_READ : store_transport(&packet, frame, options);
+    if (!packet.is_fragment)
+        return store_transport(&packet, frame, options);
+    if (!frame->ip.fragment_offset)
+        store_first_ports(packet.protocol, packet.payload, packet.len, frame);
+    return LK_READ;
 }
 
 /* Whether it is the protocol of an extension header. The usual protocols are none. */
@@ -284,8 +297,11 @@ static OUTLINE int step_through(struct packet *packet, struct lk_frame *frame)
             frame->ip.fragment_offset = fragment & 0xfff8;
             frame->ip.more_fragments = fragment & 1;
             frame->ip.ident = swap_32(load_32(ptr + 4));
-            if (frame->is_fragment)
+            if (frame->is_fragment) {
+                if (!frame->ip.fragment_offset)
+                    store_first_ports(ptr[0], ptr + len, packet->len - len, frame);
                 return LK_READ;
+            }
         }
         frame->protocol = packet->protocol = ptr[0];
         packet->payload += len;
