@@ -106,20 +106,20 @@ class Lines:
         self.reassembler = self.library.Reassembler() if "--whole" in options else None
         self.has_colors = os.isatty(1)
         self.is_followed = "--follow" in options
-        self.count, self.clock, self.are_known = 0, 0, {}
+        self.clock, self.are_known = 0, {}
 
     def print_file(self, source, prefix):
         """Returns after the last packet, or the last one that is wanted."""
         if self.is_followed:
             source = Growing(source)
         unknown = 0
-        for number, packet in enumerate(lines_of_capture.read_packets(source, any_link=True), 1):
-            if self.left == 0:
-                break
-            self.count += 1
+        packets = () if self.left == 0 else lines_of_capture.read_packets(source, any_link=True)
+        for number, packet in enumerate(packets, 1):
             unknown += not self.print_packet(f"{prefix}{number} {when(packet.time)}", packet)
             if self.is_followed:
                 self.output.flush()
+            if self.left == 0:
+                break
         if unknown:
             frame_lines.report(f"of an unknown link type: {counted(unknown, 'packet')}")
 
@@ -156,6 +156,8 @@ class Lines:
             return ""
 
     def print_line(self, prefix, frame, words):
+        if self.left == 0:
+            return
         line = str(frame)
         if " ICMP type=" in line:
             line = with_name(line, frame)
@@ -164,8 +166,6 @@ class Lines:
         self.output.add_text(f"{prefix}{words}{line}\n")
         if self.left is not None:
             self.left -= 1
-            if self.left == 0:
-                self.output.flush()
 
 
 def with_name(line, frame):

@@ -212,6 +212,12 @@ LINES = [
          f"2 {START}IPv4 192.0.2.1 > 192.0.2.2 proto=17 fragment=8 len=8\n"
          f"2 {START}whole IPv4 192.0.2.1:4321 > 192.0.2.2:7 UDP len=8 (no checksum)\n",
          data=linktype(101, *FRAGMENTS), name="--lines --whole"),
+    case("--lines --whole -c 2", f"1 {START}IPv4 192.0.2.1 > 192.0.2.2 proto=17 fragment=0+ len=8\n"
+         f"2 {START}IPv4 192.0.2.1 > 192.0.2.2 proto=17 fragment=8 len=8\n",
+         data=linktype(101, *FRAGMENTS, PACKET), name="--lines --whole -c"),
+    case(f"--lines -c 9 {ECHO} {ECHO} {ECHO} | cut -d ' ' -f 1", "".join(
+        f"{ECHO}:{number}\n" for number in (1, 2, 3, 4, 5, 6, 7, 8, 1)), name="--lines -c over files"),
+    Case("ip_dump: --lines --follow -c", f"timeout 20 examples/ip_dump --lines --follow -c 8 {ECHO}", b"", "".join(ECHO_LINES), "", 0),
     case("--lines", f"1 {START}Ethernet 00-00-00-00-00-00 > 00-00-00-00-00-00 type=0x0000 len=1 (unknown link)\n",
          "of an unknown link type: 1 packet", data=linktype(147, "02"), name="--lines of an unknown link"),
     case("--lines", f"1 {LATER}IPv4 192.0.2.1:4321 > 192.0.2.2:7 UDP len=8 (no checksum)\n",
