@@ -814,8 +814,8 @@ struct lk_host {
  *
  * - Pad1 and PadN are the only known options. Unknown ones with the highest bits 00 are skipped. One with the bits 01,
  *   and a header that does not end within the packet, get no answer.
- * - An option with the highest bits 10 gets an error also if the packet is for the group ff02::1 or for the solicited-node
- *   group of `ipv6`, and the frame for the hardware address of the group or `hardware` (RFC 4443, section 2.4 e.3).
+ * - An option with the highest bits 10 gets an error also in a packet for a group (RFC 4443, section 2.4 e.3). The group
+ *   is ff02::1 or the solicited-node group of `ipv6`. The frame is for `hardware` or the hardware address of the group.
  * - Known next headers are UDP, TCP, ICMPv6 and 59. What follows a fragment header is not looked at: call lk_reassemble
  *   before. Call lk_answer only for packets that the program does not process itself. */
 ptrdiff_t lk_answer(const struct lk_host *host, const uint8_t *ptr, size_t len, uint8_t *out, size_t cap);

@@ -29,7 +29,8 @@ pub enum Fault {
     },
 }
 
-/// The first fault of the extension headers of a packet with this next header and payload.
+/// The first fault of the extension headers of a packet with this next header and payload. No IPv6 packet but a jumbogram
+/// has a payload of more than 65,535 bytes.
 pub fn first_fault(next_header: u8, payload: &[u8]) -> Option<Fault>
     requires { length payload.now ≤ 65535 }
     ensures { result ≡ fault_of next_header payload.now }
