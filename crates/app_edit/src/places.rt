@@ -24,6 +24,9 @@ const UDP: u8 = 17;
 
 const ICMPV6: u8 = 58;
 
+// Where an IPv6 header names the next header.
+const NEXT_HEADER: usize = 6;
+
 /// A transport packet whose checksum field is in the frame. All places count from the first byte of the frame.
 #[derive(Debug, Clone, Copy, PartialEq, Eq)]
 pub struct Segment {
@@ -177,7 +180,7 @@ fn next_number(bytes: &[u8]) -> u8
     requires { 40 ≤ length bytes.now }
     ensures { result ≡ field bytes.now 48 8 }
 {
-    bytes[6]
+    bytes[NEXT_HEADER]
 }
 
 // The places of an IPv6 packet with this next header that ends at `end`. The usual transports are compared first. The

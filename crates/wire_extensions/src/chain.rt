@@ -5,15 +5,13 @@ ghost use Rattle.wire_ipv6.specs.Ipv6Fragment as fragment;
 ghost use Rattle.wire_extensions.specs.Chain.{begun, chain_of, end_of, ends_at_part, entered, extension_fault, is_part, stepped};
 ghost use Rattle.wire_extensions.specs.Extension.{extension_len};
 
-use crate::extension::{EXTENSION_UNIT, FRAGMENT, extension_len, is_extension};
+use crate::extension::{AUTHENTICATION, EXTENSION_UNIT, FRAGMENT, extension_len, is_extension};
 use wire_ipv6::{Ipv6FragmentHeader, Ipv6FragmentRepr};
 
-// The protocols of hop-by-hop options, of a routing header, and of an authentication header.
+// The protocols of hop-by-hop options and of a routing header.
 const HOP_BY_HOP: u8 = 0;
 
 const ROUTING: u8 = 43;
-
-const AUTHENTICATION: u8 = 51;
 
 /// Why an extension header is rejected.
 #[derive(Debug, Clone, Copy, PartialEq, Eq)]

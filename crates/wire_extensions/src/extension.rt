@@ -6,7 +6,8 @@ ghost use Rattle.wire_extensions.specs.Extension.{extension_len, is_extension};
 /// The protocol of a fragment header.
 pub const FRAGMENT: u8 = 44;
 
-const AUTHENTICATION: u8 = 51;
+/// The protocol of an authentication header.
+pub(crate) const AUTHENTICATION: u8 = 51;
 
 /// The length of the shortest extension header, and of a fragment header, in bytes.
 pub const EXTENSION_UNIT: usize = 8;
