@@ -17,7 +17,7 @@ from sources import Sources  # noqa: E402
 
 DOCUMENT = "docs/audit/REQUIREMENTS.md"
 # The crates with test functions, by the first word of their names in the tables.
-TESTS = {"wire": "test_wire", "apps": "test_apps", "frames": "ip_frames"}
+TESTS = {"wire": "test_wire", "apps": "test_apps", "fragments": "test_fragments", "frames": "ip_frames"}
 LIBRARY = re.compile(r"net_base|ip_wire|wire_\w+")
 # The libraries whose types a Rattle program uses, also those of `wire_*` that `ip_wire` does not export. The types of the
 # crates for C are its structs and numbers.

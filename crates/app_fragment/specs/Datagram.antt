@@ -1,5 +1,5 @@
 -- An IP packet that is put together from its fragments (RFC 791, section 3.2; RFC 8200, section 4.5).
--- Pinned by: `apps/datagrams`
+-- Pinned by: `fragments/datagrams`
 use Rattle.std.specs.Prelude.{ℕ, ◌≡◌, ◌≢◌, ◌↔◌, ◌<◌, ◌≤◌, ◌+◌, ◌⊎◌, ◌==◌, ◌||◌, if◌then◌else◌, Bool, IsTrue, false, None, List, [], ◌∷◌, ◌++◌, drop, length, slice_range, take}
 use Rattle.ip_wire.specs.Field.{IsOutside, bit, field, with_field}
 use Rattle.ip_wire.specs.Ipv4.{header_len, ip_version_of, is_fragment, total_len, with_checksum}

@@ -1,5 +1,5 @@
 -- Fragments of a packet (RFC 791, section 3.2; RFC 8200, section 4.5), and the packet that they make.
--- Pinned by: `apps/fragments`, `FragmentsWorked`
+-- Pinned by: `fragments/reassembly`, `FragmentsWorked`
 use Rattle.std.specs.Prelude.{◌≡◌, ◌≢◌, ℕ, zero, suc, ◌+◌, ◌-◌, ◌*◌, ◌/◌, ◌%◌, ◌<◌, ◌≤◌, ◌⊎◌, nat_le, nat_lt, if◌then◌else◌, Bool, true, false, Option, None, Some, List, [], ◌∷◌, length, slice_index, slice_range}
 use Rattle.std.specs.Option.{option_and_then}
 use Rattle.app_fragment.specs.declared.reassembly.Ends.{Ends}

@@ -1,6 +1,6 @@
 -- The fragments of an IPv4 packet (RFC 791, sections 2.3 and 3.2; RFC 1812, section 4.2.2.7). A place is counted in
 -- bytes from the beginning of the packet's payload.
--- Pinned by: `apps/ipv4_fragments`
+-- Pinned by: `fragments/ipv4_fragments`
 use Rattle.std.specs.Prelude.{ℕ, ◌≡◌, ◌≤◌, ◌+◌, ◌-◌, ◌/◌, ◌⊎◌, ◌==◌, ◌||◌, not, if◌then◌else◌, Bool, false, Option, None, Some, List, ◌++◌, slice_range, take}
 use Rattle.ip_wire.specs.Diagram.{flag}
 use Rattle.ip_wire.specs.Field.{IsOutside, field, with_field}

@@ -1,5 +1,5 @@
 -- The options of an IPv4 header in its later fragments (RFC 791, section 3.1).
--- Pinned by: `apps/ipv4_fragments`, `OptionsWorked`
+-- Pinned by: `fragments/ipv4_fragments`, `OptionsWorked`
 use Rattle.std.specs.Prelude.{ℕ, zero, suc, ◌==◌, ◌&&◌, nat_le, if◌then◌else◌, Option, None, Some, List, ◌++◌, drop, length, replicate, slice_index, take}
 use Rattle.std.specs.Option.{option_map_or}
 

@@ -1,6 +1,6 @@
 -- The fragments of an IPv6 packet (RFC 8200, section 4.5). A place is counted in bytes from the beginning of the packet's
 -- payload, which is all of it after the fixed header.
--- Pinned by: `apps/ipv6_fragments`
+-- Pinned by: `fragments/ipv6_fragments`
 use Rattle.std.specs.Prelude.{ℕ, ◌≡◌, ◌<◌, ◌≤◌, ◌+◌, ◌-◌, ◌/◌, ◌⊎◌, ◌==◌, nat_le, not, if◌then◌else◌, Option, List, [], ◌∷◌, ◌++◌, slice_range, take}
 use Rattle.ip_wire.specs.Field.{IsOutside, field, with_field}
 use Rattle.ip_wire.specs.Ipv6.{HasLengths, ip_version_of, payload_len_of, total_len}

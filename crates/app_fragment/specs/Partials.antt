@@ -1,6 +1,6 @@
 -- A table of packets that are put together from their fragments (RFC 791, section 3.2; RFC 1122, section 3.3.2; RFC 8200,
 -- section 4.5).
--- Pinned by: `apps/partials`
+-- Pinned by: `fragments/partials`
 use Rattle.std.specs.Prelude.{ℕ, ◌≡◌, ◌≢◌, ◌+◌, ◌-◌, ◌*◌, ◌/◌, ◌^◌, ◌<◌, ◌≤◌, ◌⊎◌, ◌==◌, ◌&&◌, not, min, nat_le, nat_lt, if◌then◌else◌, false, Option, None, Some, List, [], ◌∷◌, drop, length, replicate, slice_index_or, slice_range, take}
 use Rattle.app_fragment.specs.Datagram.{Collects, EachPacket, IsFirst, IsFirstWritten, IsMixed, IsTooLong, IsWhole, OnePacket, fragments_of}
 use Rattle.app_fragment.specs.Fragments.{Agree, IsShaped, Make, end_of}

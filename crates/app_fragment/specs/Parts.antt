@@ -1,5 +1,5 @@
 -- The fragment that an IPv4 or IPv6 packet is (RFC 791, section 3.2; RFC 8200, section 4.5).
--- Pinned by: `apps/datagrams`
+-- Pinned by: `fragments/datagrams`
 use Rattle.std.specs.Prelude.{ℕ, ◌≡◌, ◌≤◌, ◌++◌, ◌⊎◌, ◌==◌, if◌then◌else◌, List, [], ◌∷◌, replicate, slice_range, take}
 use Rattle.ip_wire.specs.Field.{field}
 use Rattle.ip_wire.specs.Ipv4.{header_len, ident_of, ip_version_of}

@@ -3,15 +3,10 @@
 ghost use Rattle.std.specs.Prelude.{◌≡◌};
 
 mod calls;
-mod datagrams;
 mod flows;
-mod fragments;
 mod hop_guard;
-mod ipv4_fragments;
-mod ipv6_fragments;
 mod links;
 mod nat;
-mod partials;
 mod replies;
 mod router;
 mod routes;

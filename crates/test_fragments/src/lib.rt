@@ -1,0 +1,5 @@
+//! Tests of `app_fragment`.
+#![tactic(auto)]
+
+#[cfg(test)]
+mod tests;
