@@ -7,8 +7,7 @@
  *
  * Packets in fragments are put together. Long answers leave in fragments.
  *
- * Not supported: ICMP errors that come in, but for "packet too big". Keep-alive: 64 silent peers block all new
- * connections. */
+ * Not supported: ICMP errors that come in, but for "packet too big". */
 #define _GNU_SOURCE
 #include "error_limit.h"
 #include "host_tcp.h"

@@ -21,6 +21,7 @@ struct connection {
     int has_fin, fin_received, fin_sent;
     int segments;                   /* received since the last one that was sent */
     unsigned long opened;           /* how many were opened before */
+    int64_t heard;                  /* when the peer's last acceptable segment came */
     int64_t deadline, ack_deadline; /* of the timers, in milliseconds; 0: off */
     int64_t challenged;             /* when the last challenge acknowledgement was sent */
     int64_t srtt, rttvar, rto;      /* RFC 6298 */

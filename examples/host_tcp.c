@@ -13,7 +13,8 @@
 #include <stddef.h>
 #include <sys/random.h>
 
-enum { CONNECTIONS = 64, DUPLICATES = 3, RTO_AFTER_LOST_SYN = 3000 /* in milliseconds */ };
+enum { CONNECTIONS = 64, DUPLICATES = 3 };
+enum { RTO_AFTER_LOST_SYN = 3000, USER_TIMEOUT = 300000 }; /* in milliseconds; RFC 9293, section 3.9.1.1 */
 enum { LEAST_MTU_IPV4 = 576, LEAST_MTU_IPV6 = 1280 };
 
 static struct connection connections[CONNECTIONS];
@@ -63,6 +64,7 @@ static void open_connection(struct connection *c, const struct lk_frame *in, con
         c->sent_from = (uint32_t)milliseconds();
     c->sent_to = c->sent_from;
     c->opened = opened++;
+    c->heard = milliseconds();
     c->rto = FIRST_RTO;
     send_segment(c, LK_SYN, c->sent_from, NULL, 0);
     count_sent(c, 1);
@@ -228,6 +230,7 @@ static void on_segment(struct connection *c, const struct lk_frame *in, const st
     } else if (c->state == SYN_RECEIVED && (flags & LK_ACK) && in->tcp.ack_number != c->sent_to) {
         reset(in, in->payload_len);
     } else if (is_valid_ack) {
+        c->heard = milliseconds();
         if (c->state == SYN_RECEIVED)
             establish(c, in);
         if (options->has_timestamp && before >= 0)
@@ -252,14 +255,24 @@ static struct connection *find(const struct lk_endpoint *own, const struct lk_en
     return NULL;
 }
 
-/* Returns a free place, else that of the oldest connection which is half open, or null. */
+/* Whether the peer of `a` is silent for longer than that of `b`. */
+static int is_older(const struct connection *a, const struct connection *b)
+{
+    return a->heard < b->heard || (a->heard == b->heard && a->opened < b->opened);
+}
+
+/* Returns a free place, else that of the oldest connection which is half open. Else it resets the connection whose peer
+ * is silent for the longest time, if that is as long as the user time-out. Else it returns null. */
 static struct connection *find_place(void)
 {
-    struct connection *place = NULL;
+    struct connection *place = connections;
     for (struct connection *c = connections; c < connections + CONNECTIONS; c++)
-        if (c->state != OPEN && (place == NULL || c->state < place->state
-                                 || (c->state == place->state && c->opened < place->opened)))
+        if (c->state < place->state || (c->state == place->state && is_older(c, place)))
             place = c;
+    if (place->state == OPEN && milliseconds() - place->heard < USER_TIMEOUT)
+        return NULL;
+    if (place->state == OPEN)
+        send_segment(place, LK_RST, place->sent_to, NULL, 0);
     return place;
 }
 
@@ -270,8 +283,9 @@ void on_tcp(const struct lk_frame *in, const struct lk_tcp_options *options, con
         on_segment(c, in, options, frame + in->payload_offset);
         return;
     }
-    c = find_place();
-    if ((in->tcp.flags & (LK_SYN | LK_ACK | LK_RST)) != LK_SYN || in->dst.port != ECHO_PORT || c == NULL)
+    if ((in->tcp.flags & (LK_SYN | LK_ACK | LK_RST)) == LK_SYN && in->dst.port == ECHO_PORT)
+        c = find_place();
+    if (c == NULL)
         reset(in, in->payload_len);
     else
         open_connection(c, in, options);

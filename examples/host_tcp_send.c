@@ -3,9 +3,9 @@
 #include "host_connection.h"
 
 enum { SCALE = 3, SEGMENTS_PER_ACK = 2 };
-/* In milliseconds. A silent peer is dropped after 3 minutes, a half-open one after 1. */
-enum { LEAST_RTO = 1000, MOST_RTO = 60000, ACK_DELAY = 100, CHALLENGE_INTERVAL = 500 };
-enum { TRIES = 7, SYN_TRIES = 5 };
+enum { LEAST_RTO = 1000, MOST_RTO = 60000, ACK_DELAY = 100, CHALLENGE_INTERVAL = 500 }; /* in milliseconds */
+/* With FIRST_RTO the last one is after 3 minutes, as RFC 1122, section 4.2.3.5 wants for a SYN. */
+enum { RETRANSMISSIONS = 8 };
 
 /* The options of a segment that is no SYN. */
 static struct lk_tcp_options options_of(const struct connection *c)
@@ -111,7 +111,7 @@ void retransmit(struct connection *c)
 /* The retransmission timer has expired (RFC 6298, section 5). */
 static void on_timeout(struct connection *c)
 {
-    if (++c->tries > (c->state == SYN_RECEIVED ? SYN_TRIES : TRIES)) {
+    if (++c->tries > RETRANSMISSIONS) {
         c->state = FREE;
         return;
     }

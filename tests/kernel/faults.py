@@ -2,6 +2,7 @@
 """The kernel's side of tests/kernel, for faults around examples/router.c and nat.c, and in them.
 
 tests/kernel/faults.py taps ROUTER             while TAP devices fail, and hostile frames come
+tests/kernel/faults.py flood NAT               while hostile frames come from inside and outside
 tests/kernel/faults.py sockets ROUTER          while interfaces fail, queues are full, and hostile frames come
 tests/kernel/faults.py clock ROUTER NAT CLOCK  with a clock that goes fast: a library to be preloaded
 tests/kernel/faults.py noticed ROUTER NAT      sees that the comparison of frames fails for faulty programs
@@ -22,7 +23,7 @@ import icmp_tests
 import fragments
 import nat as kernel_nat
 import router as kernel_router
-from client import check, report, wrong
+from client import check, echoed, report, wrong
 from dice import ANY as random
 from links import LATEST, SELF, Here, Namespace, WideSide, udp_echo
 from nat import INSIDE, OUTSIDE, bound, nat_frames, seen_by
@@ -162,6 +163,19 @@ def with_faults(start, fail, program):
 def with_taps(program):
     with_faults(start_on_taps, taps_fail, program)
     ended_in_each_state(Namespace(), Namespace(), program)
+
+
+def with_flood(program):
+    room, there = Namespace(), Namespace()
+    nat = kernel_nat.start_on_taps(room, there, program)
+    server = there.serve(*kernel_nat.SERVERS)
+    flood({"left": WideSide(SELF, "left"), "right": WideSide(there.process, "right")})
+    for address in kernel_nat.SERVERS:
+        check("after a flood", udp_echo(socket.AF_INET, (address, 7), b"data") == b"data", address)
+        check("after a flood", echoed(socket.AF_INET, address, bytes(100_000)) == bytes(100_000), address)
+    check("hostile frames", nat.counters()["frames"] > FLOOD * 0.5, nat.counters())
+    nat.ends("after a flood")
+    server.kill()
 
 
 def with_sockets(program):
@@ -313,5 +327,5 @@ def faults_are_noticed(router, nat):
 
 
 if __name__ == "__main__":
-    modes = {"taps": with_taps, "sockets": with_sockets, "clock": with_fast_clock, "noticed": faults_are_noticed}
+    modes = {"taps": with_taps, "flood": with_flood, "sockets": with_sockets, "clock": with_fast_clock, "noticed": faults_are_noticed}
     sys.exit(report(f"faults {sys.argv[1]}", modes[sys.argv[1]], *sys.argv[2:]))

@@ -23,7 +23,7 @@ from client import check, report
 from dice import ANY as random
 from forwarded import Router
 from links import ELSEWHERE, LATEST, SELF, Namespace, WideSide, settle
-from nat import INSIDE, start_on_taps as start_nat
+from nat import INSIDE, OUTSIDE, start_on_taps as start_nat
 from routed_frames import HARDWARE, HOSTS
 from router import ADDRESSES, AT_ONCE, OF_TAPS, send_chunk, start_on_taps as start_router
 
@@ -437,16 +437,32 @@ def limits(program, clock):
             time.sleep(1.7)
 
 
+def comes_in(sides):
+    """Whether a packet from outside comes to the host whose packet has come out."""
+    ends_of = {"src": socket.inet_aton("198.18.0.1"), "dst": socket.inet_aton(OUTSIDE)}
+    frame = packets.packet(packets.udp(b"comes in", 9, 4000, **ends_of), protocol=17, **ends_of)
+    sides["left"].forget()
+    sides["right"].sock.send(HARDWARE["right"] + ELSEWHERE + frame[12:])
+    end = time.monotonic() + LATEST
+    while time.monotonic() < end:
+        sides["left"].take(0.05)
+        if any(frame.endswith(b"comes in") for frame in sides["left"].came_out):
+            return True
+    return False
+
+
 def outside_addresses(program):
-    """A file without an outside address is wrong. With another one all mappings end."""
+    """A file with the same outside address keeps the mappings, one without is wrong, and with another one all mappings end."""
     with on_taps(start_nat, program) as (nat, sides):
         config = nat.text
         check("a packet", comes_out(sides))
+        nat.has_again(config)
+        check("the same file", nat.waits_for("read again") and comes_in(sides), nat.messages())
         nat.has_again(config.replace("address 10.2.0.1/24 dev right\n", "").replace(" via 10.2.0.9", ""))
         check("no outside address", nat.waits_for("right has no IPv4 address"), nat.messages())
         check("the old file", comes_out(sides))
         nat.has_again(config.replace("10.2.0.1/24", "10.2.0.77/24"))
-        check("another outside address", nat.waits_for("read again"), nat.messages())
+        check("another outside address", nat.waits_for("read again", 2), nat.messages())
         check("the new file", comes_out(sides))
         sources = {frame[26:30] for frame in sides["right"].came_out if frame.startswith(ELSEWHERE)}
         check("another outside address", sources == {socket.inet_aton("10.2.0.77")}, sources)

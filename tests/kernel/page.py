@@ -1,5 +1,6 @@
 #!/usr/bin/env python3
-"""Runs the commands of docs/ROUTER.md, and compares what they print with the page.
+"""Runs the commands of docs/ROUTER.md, and compares what they print with the page. Before the last one of the home router
+it runs day.py.
 
 tests/kernel/page.py PROGRAMS
 
@@ -15,7 +16,8 @@ import sys
 import threading
 import time
 
-LATEST = 10  # seconds
+LATEST, LATEST_OF_DAY = 10, 120  # seconds
+DAY = f"ip netns exec client {sys.executable} {os.path.dirname(os.path.abspath(__file__))}/day.py"
 END = "the end of a command"
 TOOLS = ("ping", "curl", "dnsmasq", "udhcpc", "busybox")
 
@@ -52,6 +54,8 @@ def commands(path):
         lacking = [f"{tool} is not on the path" for tool in TOOLS if tool in words and not shutil.which(tool)]
         if "dnsmasq" in words and not may_set_groups():
             lacking.append("dnsmasq cannot set its groups")
+        if heading == "A home router":
+            found.insert(-1, (DAY, ["day: .., 0 wrong, ..", "nat: nat.conf: read again", "router: router.conf: read again"]))
         if lacking:
             print(f'tests/kernel: skipped: docs/ROUTER.md, "{heading}": {lacking[0]}')
         else:
@@ -71,7 +75,7 @@ def main(programs):
     lines, count = [], 0
     threading.Thread(target=lambda: lines.extend(line.rstrip("\n") for line in shell.stdout), daemon=True).start()
     for command, shown in commands(page):
-        begin, end = len(lines), time.monotonic() + LATEST
+        begin, end = len(lines), time.monotonic() + (LATEST_OF_DAY if command == DAY else LATEST)
         shell.stdin.write(f"{command}\necho {END} $?\n")
         while time.monotonic() < end:
             new = lines[begin:]
@@ -86,6 +90,7 @@ def main(programs):
     shell.stdin.close()
     if not any(found for _, found in sections(page)):
         sys.exit("tests/kernel: wrong: docs/ROUTER.md has no command")
+    print(*(line for line in lines if line.startswith("day: ")), sep="\n")
     print(f"docs/ROUTER.md: {count} commands, each prints what the page shows")
 
 

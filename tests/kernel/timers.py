@@ -1,0 +1,114 @@
+#!/usr/bin/env python3
+"""The timers of examples/host.c: when it sends again, when it gives up, and which silent peer loses its place.
+
+tests/kernel/timers.py DEVICE FACTOR    the host on this TAP device has a clock that goes FACTOR times as fast
+
+Times are seconds of this clock. The status is 1 if something was wrong.
+"""
+import select
+import socket
+import struct
+import sys
+import time
+
+from client import ACK, RST, SYN, TCP, TCP_CLIENT, check, report, segment
+from hostile import answer_to, close, opened, tcp_of, wires
+
+SO_TIMESTAMPNS = 35
+PLACES, USER_TIMEOUT = 64, 300
+# RFC 6298, sections 2 and 5: the first interval, which then doubles, up to a minute. RFC 1122, section 4.2.3.5: a SYN is
+# sent again for 3 minutes.
+AFTER_SYN, AFTER_LOST_SYN = (1, 2, 4, 8, 16, 32, 60, 60), (3, 6, 12, 24, 48, 60, 60, 60)
+LAST = 60  # the host gives up so long after the last one
+DATA = b"data"
+
+
+class Clock:
+    """The clock of the host, and when its segments came by it."""
+
+    def __init__(self, wire, factor):
+        self.wire, self.factor = wire, factor
+        wire.sock.setsockopt(socket.SOL_SOCKET, SO_TIMESTAMPNS, 1)
+        self.sleep(30)  # so that the kernel has begun with time stamps
+
+    def now(self):
+        return time.monotonic() * self.factor
+
+    def sleep(self, seconds):
+        time.sleep(max(0, seconds) / self.factor)
+
+    def segments(self, seconds, most=1000):
+        """What comes within this time: the port, SYN and RST, the length of the payload, the sequence number and the time."""
+        found, end = [], self.now() + seconds
+        while len(found) < most and select.select([self.wire.sock], [], [], max(0, end - self.now()) / self.factor)[0]:
+            data, told, _, place = self.wire.sock.recvmsg(70000, 100)
+            body = tcp_of(data)
+            if body and place[2] != socket.PACKET_OUTGOING:
+                port, seq = struct.unpack(">HI", body[2:8])
+                at, rest = struct.unpack("qq", told[0][2][:16])
+                length = len(body) - (body[12] >> 4) * 4
+                found.append((port, body[13] & (SYN | RST), length, seq, (at + rest / 1e9) * self.factor))
+        return found
+
+    def sends(self, port, *fields, data=b""):
+        self.wire.sock.send(self.wire.frame(TCP, segment(port, *fields, data=data)))
+
+
+def check_intervals(what, times, expected, factor):
+    """No interval is too short. They may be longer by a quarter of a real second."""
+    found = [later - earlier for earlier, later in zip(times, times[1:])]
+    is_right = len(found) == len(expected) and all(
+        least - 0.01 <= interval <= least + factor / 4 for least, interval in zip(expected, found))
+    check(f"intervals {what}", is_right, found)
+
+
+def sends_again(clock):
+    """SYN and ACK, and data after a SYN that was lost, to a peer that does not acknowledge them."""
+    syn, lost = TCP_CLIENT, TCP_CLIENT + 1
+    clock.sends(lost, 0, 0, SYN)
+    found = clock.segments(LAST, 2)
+    check("SYN again", [place[:2] for place in found] == 2 * [(lost, SYN)], found)
+    clock.sends(lost, 1, (found[0][3] + 1) % 2**32, ACK, data=DATA)
+    clock.sends(syn, 0, 0, SYN)
+    found = clock.segments(sum(AFTER_LOST_SYN) + LAST + clock.factor / 2)
+    for what, port, flags, length, expected in (("of a SYN", syn, SYN, 0, AFTER_SYN),
+                                                ("after a lost SYN", lost, 0, len(DATA), AFTER_LOST_SYN)):
+        times = [place[4] for place in found if place[:3] == (port, flags, length)]
+        check_intervals(what, times, expected, clock.factor)
+        check("no connection after the last", answer_to(clock.wire, port, 1, 1, ACK)[2] == RST, what)
+
+
+def silent_peers(pair, clock):
+    """While all places are taken, a new connection gets that of the peer which is silent for the user time-out. This peer is
+    told. The others stay."""
+    begin, first, new = clock.now(), TCP_CLIENT, TCP_CLIENT + PLACES
+    peers = [(pair[n % 2], first + n, *opened(pair[n % 2], first + n)) for n in range(PLACES)]
+    is_rejected = answer_to(clock.wire, new, 0, 0, SYN)[2] & RST
+    check("no place", is_rejected or clock.now() - begin > USER_TIMEOUT)
+    clock.sleep(begin + 200 - clock.now())
+    heard = clock.now()
+    for wire, port, seq, ack in peers[1:]:
+        wire.sock.send(wire.frame(TCP, segment(port, seq, ack, ACK)))
+    clock.sleep(begin + USER_TIMEOUT + 20 - clock.now())
+    clock.segments(0)
+    clock.sends(new, 0, 0, SYN)
+    found = clock.segments(30, 2)
+    check("place of a silent peer", [place[:3] for place in found] == [(first, RST, 0), (new, SYN, 0)], found)
+    clock.sends(new, 1, (found[-1][3] + 1) % 2**32, ACK)
+    is_rejected = answer_to(clock.wire, new + 1, 0, 0, SYN)[2] & RST
+    check("places of others", is_rejected or clock.now() - heard > USER_TIMEOUT)
+    for wire, port, seq, ack in peers[1:] if is_rejected else ():
+        check("a peer that was heard", answer_to(wire, port, seq, ack, ACK, b"", DATA)[2] & RST == 0, port)
+        close(wire, port)
+    close(clock.wire, new)
+
+
+def all_timers(device, factor):
+    pair = wires(device)
+    clock = Clock(pair[0], int(factor))
+    sends_again(clock)
+    silent_peers(pair, clock)
+
+
+if __name__ == "__main__":
+    sys.exit(report("timers", all_timers, *sys.argv[1:]))
