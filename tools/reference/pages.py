@@ -24,10 +24,11 @@ LEGEND = "<footer>" + " &middot; ".join(f"<code>{sign}</code> {meaning}" for sig
 def page(title, body, depth=""):
     """A page with its head. `depth` leads to the folder of the reference."""
     links = "".join(f'<a href="{depth}{url}">{name}</a>' for url, name in NAV.items())
+    legend = "" if depth else LEGEND
     return ('<!doctype html>\n<html lang="en"><head><meta charset="utf-8">'
             '<meta name="viewport" content="width=device-width, initial-scale=1">'
             f'<title>{html.escape(title)}</title><link rel="stylesheet" href="{depth}style.css"></head>\n'
-            f"<body><nav>{links}</nav>\n<main>\n<h1>{html.escape(title)}</h1>\n{body}</main>\n{LEGEND}</body></html>\n")
+            f"<body><nav>{links}</nav>\n<main>\n<h1>{html.escape(title)}</h1>\n{body}</main>\n{legend}</body></html>\n")
 
 
 def doc(lines):
