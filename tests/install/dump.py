@@ -202,7 +202,8 @@ LINES = [
     case(f"--lines {ECHO}", "".join(ECHO_LINES)),
     case(f"--lines -n < <(gzip -c {ECHO})", "".join(ECHO_LINES)),
     *[case(f"--lines {words} {ECHO}", "".join(ECHO_LINES[number - 1] for number in numbers)) for words, numbers in [
-        ("-n -r -c 2", (1, 2)), ("--proto icmp", (5, 6)), ("--proto arp", (1, 2)), ("--proto 17 -c 1", (3,)), ("--port 41518", (7, 8)),
+        ("-n -r -c 2", (1, 2)), ("--proto icmp", (5, 6)), ("--proto arp", (1, 2)), ("--proto 17 -c 1", (3,)),
+        ("--port 41518", (7, 8)),
         ("--host 192.0.2.0/24 --port 7", (3, 4)), ("--host ff02::1:ff00:2 --host 192.0.2.2 --proto 0 --proto 58", (5,)),
     ]],
     case("--lines", f"1 {START}IPv4 192.0.2.1:4321 > 192.0.2.2:7 UDP len=8 (no checksum)\n", data=linktype(101, PACKET), name="--lines raw"),
