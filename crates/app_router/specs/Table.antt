@@ -122,11 +122,11 @@ SparesNode count p node = node.version ≡ 4 → IsBeside count p (node.high / 2
 abbrev pub entries_in : ℕ → List ℕ → List ℕ
 entries_in n cells = take (2 * (n + 1)) cells
 
--- its cells with hints
+-- the cells with hints, in a table of n blocks
 abbrev pub hints_in : ℕ → List ℕ → List ℕ
 hints_in n cells = take (n + 1) (drop (2 * (n + 1)) cells)
 
--- its ranges
+-- the cells with ranges, in a table of n blocks
 abbrev pub ranges_in : ℕ → List ℕ → List ℕ
 ranges_in n cells = take (2 * (n + 1)) (drop (n + 1) (drop (2 * (n + 1)) cells))
 
