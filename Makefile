@@ -150,7 +150,7 @@ new:
 reference:
 	@$(CAN_WRITE)
 	@rm -rf out/reference
-	@tools/reference/make.py out/reference
+	@tools/reference/make.py out/reference . ../../
 	@echo out/reference/index.html
 
 statements:
@@ -180,7 +180,7 @@ $(PROGRAM) $(CALLS) $(ARCHIVE): $(SOURCES)
 	@mkdir -p $(@D)
 	@tools/alone $@ tests/gate/build $(notdir $(@D:/out=)) $(COMMAND)
 
-$(PAGES): c/pages c/ip_wire.h man/ip_wire.3
+$(PAGES): c/pages c/ip_wire.h man/ip_wire.3 $(wildcard examples/*.[ch] examples/*/*.c)
 	@$(CAN_WRITE)
 	@tools/alone $@ $(PYTHON) c/pages $(@D)
 

@@ -10,10 +10,10 @@
  * - A pointer may be null only if its length or `cap` is 0.
  * - A call that writes to `out` returns the length of its result, which begins at `out[0]`, or a failure, which is
  *   negative. After a failure `out` is unchanged.
- * - A length above LK_MAX_LEN is never used: a payload of that length is too long, an output has no room, and any other
- *   input counts as empty. The counts of routes, nodes, cells, mappings and partials are such lengths too. Where an empty
- *   input is no failure (lk_answer, lk_emit_icmp_error, lk_index_routes, lk_make_route_table, lk_set_bytes), one of that
- *   length is a failure.
+ * - A length above LK_MAX_LEN is a mistake. A payload of that length is too long, an output has no room, and any other
+ *   input counts as empty. Where an empty input is allowed (lk_answer, lk_emit_icmp_error, lk_index_routes,
+ *   lk_make_route_table, lk_set_bytes), one of that length is a failure. The counts of routes, nodes, cells, mappings and
+ *   partials are such lengths too.
  * - lk_is_.., lk_contains and lk_cpu_supported return 1 for yes and 0 for no.
  * - Fields that an initializer leaves out are 0. A 0 in `version`, in a field `has_..` or in a count means
  *   that there is no such value. A hop limit of 0 is a failure, and so is a port of 0 where receivers reject
@@ -1079,7 +1079,7 @@ size_t lk_expire(struct lk_partial *partials, size_t count, const uint8_t *memor
  *   nothing else does. lk_set_addr, lk_set_port and lk_set_bytes guess which it is (LK_GUESS). Callers that know it tell
  *   lk_set_addr_as, lk_set_port_as and lk_set_bytes_as.
  * - lk_read_frame must read the IP header. Of TCP, UDP or ICMP only the bytes up to the checksum field must be there,
- *   also in the first of several fragments. Append zeros to a packet that was cut, up to its length: only
+ *   also in the first of several fragments. If a packet was captured in part, pad it with zeros to its length: only
  *   lk_fill_checksum needs the bytes themselves.
  * - IPv6 extension headers are stepped through, as lk_read_frame does, up to the header of a fragment. They are not
  *   changed. Not supported: a Home Address option (RFC 6275), whose address the checksum covers instead of the source.
@@ -1177,8 +1177,9 @@ struct lk_route_node {
  *         send_by(routes[i].interface, frame, len); */
 ptrdiff_t lk_index_routes(const struct lk_route *routes, size_t count, struct lk_route_node *nodes, size_t node_count);
 
-/* Returns the place in the list of the route with the longest prefix that contains the address, of several the first,
- * or -1 if none contains it. `count` is the number of routes. An address without a version has no route. */
+/* Returns the place in the list of the route with the longest prefix that contains the address, or -1 if no route contains
+ * it. Of equal blocks the first route counts. `count` is the number of routes. An address without a version has no
+ * route. */
 ptrdiff_t lk_choose_route(const struct lk_route_node *nodes, size_t count, const struct lk_addr *addr);
 
 /* The number of cells of the table of so many routes. */
@@ -1189,10 +1190,9 @@ ptrdiff_t lk_choose_route(const struct lk_route_node *nodes, size_t count, const
  * cells, 2^26 routes or more, or if a count is above LK_MAX_LEN; then all cells are unchanged. Two tables of one index
  * have the same cells.
  *
- * By a table a search for an IPv4 address reads one cell where no route begins or ends nearby, else a few. So searches
- * that do not wait for each other are faster than by the index. Where each waited for the one before, a table of 100,000
- * routes saved no time. A table has 40 bytes for each route, and the index 32. For IPv6 addresses the index is
- * searched. */
+ * Most searches for an IPv4 address read one cell of the table, and the others a few. So they are faster than by the
+ * index, unless each waits for the one before: then a table of 100,000 routes saved no time. A table has 40 bytes for each
+ * route, and the index 32. For IPv6 addresses the index is searched. */
 ptrdiff_t lk_make_route_table(const struct lk_route_node *nodes, size_t count, uint64_t *cells, size_t cell_count);
 
 /* Returns the same as lk_choose_route(nodes, count, addr). The first cells are the table of the index

@@ -7,7 +7,9 @@ before a failure are whole.
 """
 import argparse
 import gzip
+import io
 import os
+import select
 import signal
 import sys
 import zlib
@@ -82,15 +84,24 @@ def counted(count, noun):
     return f"{count} {noun}" if count == 1 else f"{count} {noun}s"
 
 
+class Input(io.FileIO):
+    """A file that calls `before_wait` before it waits for input, as that of a pipe."""
+
+    before_wait = None
+
+    def readinto(self, buffer):
+        if Input.before_wait and not select.select([self], [], [], 0)[0]:
+            Input.before_wait()
+        return super().readinto(buffer)
+
+
 def open_source(path):
     """The file, or standard input if there is no path, decompressed. Its reads block."""
-    if path is not None:
-        source = open(path, "rb")
-    elif sys.stdin is None:
+    if path is None and sys.stdin is None:
         raise Failure("cannot read: standard input is closed")
-    else:
+    if path is None:
         os.set_blocking(0, True)
-        source = sys.stdin.buffer
+    source = io.BufferedReader(Input(path) if path is not None else Input(0, closefd=False), 1 << 16)
     return gzip.open(source) if source.peek(2).startswith(GZIP_START) else source
 
 

@@ -49,6 +49,10 @@ Interface = namedtuple("Interface", "link_type snap_len has_fcs units start")
 Packet = namedtuple("Packet", "link_type has_fcs data original_len time")
 
 
+class NoEthernet(Failure):
+    """No interface of the capture has Ethernet frames."""
+
+
 def read_exactly(source, length, what):
     data = source.read(length)
     if len(data) < length:
@@ -75,7 +79,7 @@ def read_pcap(source, order, units, any_link):
     if (major, minor) != (2, 4):
         raise Failure(f"pcap version {major}.{minor} is not supported")
     if link & LINK_TYPE != ETHERNET and not any_link:
-        raise Failure(f"no Ethernet in this capture: link type {link & LINK_TYPE}")
+        raise NoEthernet(f"no Ethernet in this capture: link type {link & LINK_TYPE}")
     has_fcs = bool(link & FCS_PRESENT and link & FCS_WORDS)
     while first := source.read(1):
         record = first + read_exactly(source, 15, "the last frame")
@@ -104,7 +108,7 @@ def read_pcapng(source, any_link):
         elif kind in PACKET_READERS:
             yield read_packet(PACKET_READERS[kind], order, body, interfaces)
     if ETHERNET not in link_types and not any_link:
-        raise Failure(f"no Ethernet in this capture: {link_type_list(link_types)}")
+        raise (NoEthernet if link_types else Failure)(f"no Ethernet in this capture: {link_type_list(link_types)}")
 
 
 def read_blocks(source):

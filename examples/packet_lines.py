@@ -19,7 +19,10 @@ HERE = os.path.dirname(os.path.realpath(__file__))
 PACKAGES = ("python", "../bindings/python")
 LIBRARIES = ("../../lib/libip_wire.so", "../out/lib/libip_wire.so")
 ETHERNET, FCS_LEN = lines_of_capture.ETHERNET, lines_of_capture.FCS_LEN
-PROTOCOLS = {"icmp": [1, 58], "tcp": [6], "udp": [17]}
+# Those of a name, in IPv4 and IPv6 headers; ARP has none.
+ARP = -1
+PROTOCOLS = {"arp": [ARP], "icmp": [1, 58], "igmp": [2], "tcp": [6], "udp": [17], "gre": [47], "esp": [50], "ah": [51],
+             "icmp6": [58], "ospf": [89], "pim": [103], "vrrp": [112], "sctp": [132]}
 KINDS = {"--host": "address or block", "--port": "number", "--proto": "name or number of a protocol"}
 EPOCH = datetime(1970, 1, 1, tzinfo=timezone.utc)
 POLL = 0.2  # seconds
@@ -77,7 +80,8 @@ class Filter(namedtuple("Filter", "blocks ports protocols")):
         if not any(self):
             return True
         ends = () if frame.src is None else (frame.src, frame.dst)
-        return ((not self.protocols or frame.protocol in self.protocols)
+        protocol = frame.protocol if frame.arp is None else ARP
+        return ((not self.protocols or protocol in self.protocols)
                 and (not self.ports or any(end.port in self.ports for end in ends))
                 and (not self.blocks or any(end.addr in block for end in ends for block in self.blocks)))
 
@@ -97,16 +101,18 @@ class Growing:
 
 
 class Lines:
-    """Prints the lines of captures."""
+    """Prints the lines of captures. `show` is called with the number of packets."""
 
-    def __init__(self, output, options):
-        self.output, self.library = output, package()
+    def __init__(self, output, options, show):
+        self.output, self.show, self.library = output, show, package()
+        # A reader of the lines gets them as soon as no packet is there.
+        frame_lines.Input.before_wait = output.flush
         self.filter = Filter.of(*(options.get(name, []) for name in ("--host", "--port", "--proto")))
         self.left = int(options["-c"][-1]) if "-c" in options else None
         self.reassembler = self.library.Reassembler() if "--whole" in options else None
-        self.has_colors = os.isatty(1)
+        self.has_colors = os.isatty(1) and not os.environ.get("NO_COLOR")
         self.is_followed = "--follow" in options
-        self.clock, self.are_known = 0, {}
+        self.clock, self.count, self.are_known = 0, 0, {}
 
     def print_file(self, source, prefix):
         """Returns after the last packet, or the last one that is wanted."""
@@ -115,6 +121,8 @@ class Lines:
         unknown = 0
         packets = () if self.left == 0 else lines_of_capture.read_packets(source, any_link=True)
         for number, packet in enumerate(packets, 1):
+            self.count += 1
+            self.show(self.count)
             unknown += not self.print_packet(f"{prefix}{number} {when(packet.time)}", packet)
             if self.is_followed:
                 self.output.flush()

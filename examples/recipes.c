@@ -23,6 +23,12 @@ static void print(const char *what, const uint8_t *ptr, ptrdiff_t len)
     printf("%s: %s\n", what, line);
 }
 
+/* Whether the library that runs is of the version of the header, and runs on this processor. */
+static int is_usable(void)
+{
+    return lk_cpu_supported() && lk_version() >> 8 == (LK_VERSION_MAJOR << 8 | LK_VERSION_MINOR);
+}
+
 /* Writes a UDP packet whose payload was put at byte 42 of `out`, as by `read`. */
 static ptrdiff_t write_around(size_t payload_len, uint8_t *out, size_t cap)
 {
@@ -48,6 +54,46 @@ static int redirect(uint8_t *frame, size_t len)
     const struct lk_addr dst = addr_of("198.51.100.7");
     return lk_set_addr(frame, len, LK_DESTINATION, &dst) && lk_set_port(frame, len, LK_DESTINATION, 5353) &&
            lk_set_dscp(frame, len, 46) && lk_set_hop_limit(frame, len, 63);
+}
+
+/* The same for a frame of a virtio device. Its header says whether the checksum is left to the device: the flag
+ * VIRTIO_NET_HDR_F_NEEDS_CSUM, 1. Then nothing is guessed. */
+static int redirect_virtio(uint8_t *frame, size_t len, unsigned flags)
+{
+    const struct lk_addr dst = addr_of("198.51.100.8");
+    const int offload = flags & 1 ? LK_OFFLOADED : LK_COMPLETE;
+    lk_clamp_mss_as(frame, len, 1360, offload);
+    return lk_set_addr_as(frame, len, LK_DESTINATION, &dst, offload) &&
+           lk_set_port_as(frame, len, LK_DESTINATION, 5354, offload) &&
+           lk_set_bytes_as(frame, len, len - 1, (const uint8_t *)"!", 1, offload);
+}
+
+/* Lowers the hop limit of a packet of a TUN device, read to `buffer + 14`. Edits need the EtherType before the packet. */
+static int lower_hop_limit(uint8_t *buffer, size_t len)
+{
+    struct lk_frame f;
+    if (lk_read_packet(buffer + 14, len, &f) != LK_READ || f.ip.hop_limit < 2)
+        return 0;
+    memcpy(buffer + 12, f.network == LK_IPV4 ? "\x08\x00" : "\x86\xdd", 2);
+    return lk_set_hop_limit(buffer, len + 14, (uint8_t)(f.ip.hop_limit - 1));
+}
+
+/* Source NAT of one packet, without a table. */
+static int hide_source(uint8_t *frame, size_t len)
+{
+    const struct lk_endpoint outside = {addr_of("203.0.113.9"), 62000};
+    return lk_translate(frame, len, LK_SOURCE, &outside);
+}
+
+/* Updates checksums for code that writes its own headers: another destination of UDP over IPv4, and hop limit 63. */
+static void update(uint16_t *ipv4_checksum, uint16_t *udp_checksum, const struct lk_endpoint *before,
+                   const struct lk_endpoint *after)
+{
+    *ipv4_checksum = lk_update_checksum_addr(*ipv4_checksum, &before->addr, &after->addr);
+    /* the word of hop limit and protocol */
+    *ipv4_checksum = lk_update_checksum(*ipv4_checksum, 64 << 8 | 17, 63 << 8 | 17);
+    *udp_checksum = lk_update_udp_checksum_addr(*udp_checksum, &before->addr, &after->addr);
+    *udp_checksum = lk_update_udp_checksum(*udp_checksum, before->port, after->port);
 }
 
 /* Changes payload bytes in place. */
@@ -89,6 +135,37 @@ static ptrdiff_t pong(const uint8_t *frame, size_t len, uint8_t *out, size_t cap
     return lk_emit_icmp_frame(&f, frame + f.payload_offset, f.payload_len, out, cap);
 }
 
+/* Writes a SYN and ACK over IPv4 whose payload, if it has one, is after its headers in `out`. */
+static ptrdiff_t write_syn(size_t payload_len, uint8_t *out, size_t cap)
+{
+    const struct lk_tcp_options options = {.has_max_seg_size = 1, .max_seg_size = 1460};
+    struct lk_frame headers = {.ip = {.hop_limit = 64}, .tcp = {1, 2, 64240, 0, LK_SYN | LK_ACK, 0}};
+    headers.src = (struct lk_endpoint){addr_of("192.0.2.1"), 80};
+    headers.dst = (struct lk_endpoint){addr_of("192.0.2.2"), 4000};
+    /* the payload begins at out[34 + lk_tcp_header_len(&options)] */
+    return lk_wrap_tcp_frame(&headers, &options, payload_len, out, cap);
+}
+
+/* Prints the names of the TCP flags. */
+static void print_flags(const uint8_t *frame, size_t len)
+{
+    struct lk_frame f;
+    lk_read_frame(frame, len, &f);
+    printf("flags:");
+    for (int flag = LK_FIN; flag <= LK_CWR; flag *= 2)
+        if (f.tcp.flags & flag)
+            printf(" %s", lk_tcp_flag_name(flag));
+    printf("\n");
+}
+
+/* Writes an echo request for a raw socket (IPPROTO_ICMP), without an IP header. Over IPv4 no address is summed. */
+static ptrdiff_t ping_message(uint16_t ident, uint16_t number, uint8_t *out, size_t cap)
+{
+    const struct lk_icmp echo = {(uint32_t)ident << 16 | number, 8, 0};
+    const struct lk_addr any = addr_of("0.0.0.0");
+    return lk_emit_icmp(&echo, &any, &any, (const uint8_t *)"data", 4, 1, out, cap);
+}
+
 /* Prints why a frame is dropped, or that it may be used. */
 static void judge(const uint8_t *frame, size_t len)
 {
@@ -108,11 +185,19 @@ int main(void)
     const struct lk_frame echo = {.ethernet = {{2, 0, 0, 0, 0, 1}, {2, 0, 0, 0, 0, 2}, 0},
                                   .src = {addr_of("192.0.2.1"), 0}, .dst = {addr_of("192.0.2.2"), 0},
                                   .ip = {.hop_limit = 64}, .icmp = {7u << 16 | 1, 8, 0}};
+    const struct lk_endpoint before = {addr_of("192.0.2.2"), 53}, after = {addr_of("198.51.100.7"), 5353};
+    uint16_t ipv4_checksum, udp = 0;
     ptrdiff_t len;
+    if (!is_usable())
+        return 1;
     memcpy(frame + 42, "hello", 5);
     len = write_around(5, frame, sizeof frame);
     print("written", frame, len);
     printf("UDP checksum: 0x%04x\n", udp_checksum(frame, (size_t)len));
+    udp = (uint16_t)udp_checksum(frame, (size_t)len);
+    ipv4_checksum = (uint16_t)(frame[24] << 8 | frame[25]);
+    update(&ipv4_checksum, &udp, &before, &after);
+    printf("updated by hand: 0x%04x 0x%04x\n", ipv4_checksum, udp);
     redirect(frame, (size_t)len);
     replace(frame, (size_t)len, "HELLO");
     print("edited", frame, len);
@@ -121,6 +206,10 @@ int main(void)
     lk_set_port(frame + 4, (size_t)len - 4, LK_SOURCE, 4001);
     len = (ptrdiff_t)remove_tags(frame, (size_t)len);
     print("without it", frame, len);
+    redirect_virtio(frame, (size_t)len, 0);
+    hide_source(frame, (size_t)len);
+    lower_hop_limit(frame, (size_t)len - 14);
+    print("translated", frame, len);
     judge(frame, (size_t)len);
     frame[44] ^= 1;
     judge(frame, (size_t)len);
@@ -129,5 +218,9 @@ int main(void)
     print("echo", frame, len);
     print("reply", out, pong(frame, (size_t)len, out, sizeof out));
     print("no room", out, pong(frame, (size_t)len, out, 40));
+    len = write_syn(0, frame, sizeof frame);
+    print("SYN", frame, len);
+    print_flags(frame, (size_t)len);
+    printf("a message for a raw socket: %td bytes\n", ping_message(7, 1, out, sizeof out));
     return 0;
 }

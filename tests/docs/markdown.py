@@ -26,7 +26,7 @@ from sources import WORD, Sources  # noqa: E402
 LONGEST = {
     "README.md": 120,
     "docs/GUIDE.md": 250,
-    "docs/CONTRACTS.md": 230,
+    "docs/CONTRACTS.md": 260,
     "docs/C.md": 150,
     "docs/USES.md": 300,
     "docs/ROUTER.md": 200,
@@ -39,7 +39,7 @@ LONGEST = {
     "bindings/python/README.md": 100,
     "bindings/go/README.md": 60,
 }
-MOST = 2500
+MOST = 2550
 # Names of old commits, of smoltcp, of the standard library and of Linux.
 FOREIGN = {"ip_nat", "pretty_print", "AsMut", "is_private", "to_ipv6_mapped", "CAP_NET_ADMIN",
            "CAP_NET_RAW", "frame_raw"}

@@ -84,6 +84,8 @@ FORMS = [
                    "tshark.in", "wireshark_dump.in", "wireshark_escaped.in", "echo.lines")],
     case(f"{RECORDED}/interfaces.pcapng", ECHO_TEXT,
          f"{RECORDED}/interfaces.pcapng: skipped, not Ethernet (link type 101): 1 packet"),
+    case(f"{RECORDED}/raw_ip.pcap", "",
+         f"{RECORDED}/raw_ip.pcap: no Ethernet in this capture: link type 101; --lines prints other link types", 1),
     case(f"<(gzip -c {ECHO}) | cat", ECHO_TEXT),
     case("--stats < <(gzip -c examples/frames.hex)", FRAMES_STATS),
     Case("ip_dump: a dump in two writes", "(printf 0000; sleep 0.2; printf '  02 00\\n') | examples/ip_dump", b"",
@@ -200,7 +202,8 @@ LINES = [
     case(f"--lines {ECHO}", "".join(ECHO_LINES)),
     case(f"--lines -n < <(gzip -c {ECHO})", "".join(ECHO_LINES)),
     *[case(f"--lines {words} {ECHO}", "".join(ECHO_LINES[number - 1] for number in numbers)) for words, numbers in [
-        ("-c 2", (1, 2)), ("--proto icmp", (5, 6)), ("--proto 17 -c 1", (3,)), ("--port 41518", (7, 8)),
+        ("-n -r -c 2", (1, 2)), ("--proto icmp", (5, 6)), ("--proto arp", (1, 2)), ("--proto 17 -c 1", (3,)),
+        ("--port 41518", (7, 8)),
         ("--host 192.0.2.0/24 --port 7", (3, 4)), ("--host ff02::1:ff00:2 --host 192.0.2.2 --proto 0 --proto 58", (5,)),
     ]],
     case("--lines", f"1 {START}IPv4 192.0.2.1:4321 > 192.0.2.2:7 UDP len=8 (no checksum)\n", data=linktype(101, PACKET), name="--lines raw"),
@@ -217,6 +220,9 @@ LINES = [
          data=linktype(101, *FRAGMENTS, PACKET), name="--lines --whole -c"),
     case(f"--lines -c 9 {ECHO} {ECHO} {ECHO} | cut -d ' ' -f 1", "".join(
         f"{ECHO}:{number}\n" for number in (1, 2, 3, 4, 5, 6, 7, 8, 1)), name="--lines -c over files"),
+    # The input goes on when eight lines were read: they must not wait for it.
+    Case("ip_dump: --lines of a live capture", f"d=$(mktemp -d) && mkfifo $d/end && (cat {ECHO}; cat $d/end) | "
+         "timeout 20 examples/ip_dump --lines | (head -n 8; : > $d/end); rm -r $d", b"", "".join(ECHO_LINES), "", 0),
     Case("ip_dump: --lines --follow -c", f"timeout 20 examples/ip_dump --lines --follow -c 8 {ECHO}", b"", "".join(ECHO_LINES), "", 0),
     case("--lines", f"1 {START}Ethernet 00-00-00-00-00-00 > 00-00-00-00-00-00 type=0x0000 len=1 (unknown link)\n",
          "of an unknown link type: 1 packet", data=linktype(147, "02"), name="--lines of an unknown link"),

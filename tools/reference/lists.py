@@ -9,6 +9,8 @@ from words import plain
 from pins import path_of, pins_of
 from contracts import imports, spec_lines
 
+# How many calls are named beside a definition.
+MOST_CALLS = 12
 OPERATORS = {"can_add": "+", "can_sub": "-", "can_add_assign": "+="}
 # The headings of the index, and the crates whose types and calls are below them.
 GROUPS = {
@@ -97,6 +99,14 @@ def laws(pages):
 # ---- definitions
 
 
+def called_by(pages, one):
+    """The public calls whose contracts name a definition."""
+    links = [f'<a href="{url}">{code("::".join(filter(None, (owner, call.item.name))))}</a>'
+             for owner, call, url in pages.calls_of(one)]
+    more = f" and {len(links) - MOST_CALLS} more" if len(links) > MOST_CALLS else ""
+    return f'<p class="pins">Calls: {", ".join(links[:MOST_CALLS])}{more}</p>' if links else ""
+
+
 def definition(pages, one, file):
     """A definition with the laws that name it. `file` is the text of its file."""
     head = re.search(rf"^(?:[a-z]+ (?:\d+ )?)+{re.escape(one.item.name)}(?=[\s:])", file, re.M)
@@ -105,8 +115,8 @@ def definition(pages, one, file):
     laws = ", ".join(f'<a href="{pages.law_urls[law.item.name]}">{code(law.item.name)}</a>' for law in one.laws)
     named = f'<p class="pins">Laws: {laws}</p>' if laws else ""
     return (f'<section id="{html.escape(one.item.name)}"><h3>{code(one.item.name)}</h3>{doc([one.comment])}'
-            f"<pre>{pages.reference.linked(text, one.crate, one.module)}</pre>{named}"
-            f'<p class="src">{one.module.file}:{line}</p></section>\n')
+            f"<pre>{pages.reference.linked(text, one.crate, one.module)}</pre>{named}{called_by(pages, one)}"
+            f"{pages.place(one.module.file, line)}</section>\n")
 
 
 def definition_pages(pages):
@@ -196,7 +206,8 @@ def names(pages, c_index):
     rows += [(f'<a href="{one.url}">{code(one.item.name)}</a>', "definition", first_sentence([one.comment]))
              for one in pages.reference.definitions.values()]
     c_rows = re.findall(r"<tr><td>(.*?)</td><td>(.*?)</td></tr>", c_index)
-    return rows + [(links.replace('href="', 'href="c/'), "C call", says) for links, says in c_rows]
+    return rows + [(links.replace('href="', 'href="c/'), "C constant" if ">LK_" in links else "C call", says)
+                   for links, says in c_rows]
 
 
 def index(pages, c_index):
@@ -211,6 +222,6 @@ def index(pages, c_index):
 sources. <b>needs</b> is a condition that the caller proves, <b>gives</b> is a promise that the caller then knows. Below
 the words is the text of the contract.</p>
 <p><input id="q" placeholder="Search" aria-label="Search" hidden></p>
-<details id="names"><summary>All {len(rows)} calls, types, laws and definitions</summary>{table(rows)}
+<details id="names"><summary>All {len(rows)} calls, types, laws, definitions and C constants</summary>{table(rows)}
 <p id="none" hidden>Nothing found.</p></details>
 <div class="groups">{"".join(groups)}</div>{SEARCH}''')

@@ -1,9 +1,10 @@
 #!/usr/bin/env python3
 """Makes the reference from the sources: static HTML pages of the public types and calls, the laws and the definitions.
 
-    tools/reference/make.py FOLDER [TOP]
+    tools/reference/make.py FOLDER [TOP [SOURCES]]
 
-The pages are written into FOLDER. TOP is the top of the repository.
+The pages are written into FOLDER. TOP is the top of the repository. With SOURCES, which leads from FOLDER to TOP, the
+pages link to the sources.
 """
 import os
 import sys
@@ -17,9 +18,9 @@ from contracts import ReadError
 HERE = os.path.dirname(os.path.abspath(__file__))
 
 
-def made(top):
+def made(top, sources=None):
     """The text of each page by its name, and the counts by what they count."""
-    pages = Pages(Reference(top))
+    pages = Pages(Reference(top), sources)
     files = {subject.page: pages.subject(subject) for subject in pages.reference.subjects.values()}
     files["laws.html"] = lists.laws(pages)
     definitions = list(lists.definition_pages(pages))
@@ -37,14 +38,15 @@ def made(top):
         "calls with a condition": conditions, "laws": len(pages.reference.laws),
         "definitions": len(pages.reference.definitions), "lemmas": lemmas, "C pages": len(c_files),
         "clauses in words": pages.said, "clauses only as text": pages.unsaid,
+        "clauses too long for words": pages.long,
     }
     return files, counts
 
 
-def main(folder, top):
+def main(folder, top, sources=None):
     folder = os.path.abspath(folder)
     os.chdir(top)
-    files, counts = made(".")
+    files, counts = made(".", sources)
     for name, text in files.items():
         path = os.path.join(folder, name)
         os.makedirs(os.path.dirname(path), exist_ok=True)
@@ -56,9 +58,9 @@ def main(folder, top):
 
 
 if __name__ == "__main__":
-    if len(sys.argv) not in (2, 3):
+    if len(sys.argv) not in (2, 3, 4):
         sys.exit(__doc__)
     try:
-        main(sys.argv[1], sys.argv[2] if len(sys.argv) == 3 else os.path.join(HERE, "../.."))
+        main(sys.argv[1], sys.argv[2] if len(sys.argv) > 2 else os.path.join(HERE, "../.."), *sys.argv[3:])
     except (OSError, ReadError) as error:
         sys.exit(f"make.py: {error}")

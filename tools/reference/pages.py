@@ -3,7 +3,7 @@ import html
 import re
 import shutil
 
-from model import Call, fields_of
+from model import NAME, Call, fields_of
 from words import Words, code
 
 NAV = {"index.html": "ip_wire reference", "conditions.html": "conditions", "laws.html": "laws",
@@ -12,6 +12,8 @@ if shutil.which("mandoc"):
     NAV["c/index.html"] = "C calls"
 
 
+# Clauses that take more words than this are easier to read as the contract has them.
+MOST_WORDS = 40
 # At the foot of each page: the signs of the contracts.
 LEGEND = "<footer>" + " &middot; ".join(f"<code>{sign}</code> {meaning}" for sign, meaning in {
     "a ≡ b": "equal", "P × Q": "and", "P ⊎ Q": "or", "P → Q": "if P then Q", "P ↔ Q": "exactly if", "¬ P": "not",
@@ -22,10 +24,11 @@ LEGEND = "<footer>" + " &middot; ".join(f"<code>{sign}</code> {meaning}" for sig
 def page(title, body, depth=""):
     """A page with its head. `depth` leads to the folder of the reference."""
     links = "".join(f'<a href="{depth}{url}">{name}</a>' for url, name in NAV.items())
+    legend = "" if depth else LEGEND
     return ('<!doctype html>\n<html lang="en"><head><meta charset="utf-8">'
             '<meta name="viewport" content="width=device-width, initial-scale=1">'
             f'<title>{html.escape(title)}</title><link rel="stylesheet" href="{depth}style.css"></head>\n'
-            f"<body><nav>{links}</nav>\n<main>\n<h1>{html.escape(title)}</h1>\n{body}</main>\n{LEGEND}</body></html>\n")
+            f"<body><nav>{links}</nav>\n<main>\n<h1>{html.escape(title)}</h1>\n{body}</main>\n{legend}</body></html>\n")
 
 
 def doc(lines):
@@ -63,16 +66,37 @@ def table(rows, head=()):
 
 
 class Pages:
-    """Makes the pages of types and the parts of others. It counts the clauses in words, and collects the calls."""
+    """Makes the pages of types and the parts of others. It counts the clauses in words, and collects the calls. `sources`
+    leads from the folder of the pages to the top of the repository; None: sources are not linked."""
 
-    def __init__(self, reference):
-        self.reference = reference
-        self.said = self.unsaid = 0
+    def __init__(self, reference, sources=None):
+        self.reference, self.sources = reference, sources
+        self.said = self.unsaid = self.long = 0
+        self.named = None  # Filled when all pages of types are made.
         self.calls = []  # of all pages of types: subject, name of the type or module if it has one, call, URL
         self.law_urls = {law.item.name: f"laws.html#{reference.law_anchor(law)}" for law in reversed(reference.laws)}
 
+    def calls_of(self, definition):
+        """The calls whose contracts name a definition: the name of the type or module, the call and its URL."""
+        if self.named is None:
+            self.named = {}
+            for _, owner, call, url in self.calls:
+                words = {word for clause in call.item.clauses for word in NAME.findall(clause.text)}
+                found = (self.reference.of_word(call.crate, call.module, call.uses, word) for word in sorted(words))
+                for one in {id(one): one for one in found}.values():
+                    self.named.setdefault(id(one), []).append((owner, call, url))
+        return self.named.get(id(definition), [])
+
     def linked(self, text, call):
         return self.reference.linked(text, call.crate, call.module, call.uses)
+
+    def place(self, file, line):
+        """The place of an item in the sources, with a link if they are there."""
+        shown = f"{file}:{line}"
+        return f'<p class="src">{shown if self.sources is None else self.source_link(file, shown)}</p>'
+
+    def source_link(self, file, shown):
+        return f'<a href="{self.sources}{file}">{shown}</a>'
 
     def words_of(self, call, text, others=()):
         """The words of a clause that stands beside others, or nothing, and what they name."""
@@ -89,7 +113,9 @@ class Pages:
         for clause in call.item.clauses:
             others = [other.text for other in call.item.clauses if other.kind == clause.kind]
             said, notes = self.words_of(call, clause.text, others)
-            self.said, self.unsaid = self.said + bool(said), self.unsaid + (not said)
+            is_long = len(re.sub("<[^>]+>", "", said).split()) > MOST_WORDS
+            self.said, self.unsaid, self.long = self.said + bool(said), self.unsaid + (not said), self.long + is_long
+            said, notes = ("", "") if is_long else (said, notes)
             kind = "needs" if clause.kind == "requires" else "gives"
             label = f' <span class="n">{html.escape(clause.name)}</span>' if clause.name else ""
             rows.append(f'<div class="{kind}"><b>{kind}</b>{label} <p>{said}</p>{notes}'
@@ -99,7 +125,7 @@ class Pages:
     def section(self, call, anchor, said="", labels=""):
         """A function or constant: its signature, its doc lines and what else is said of it."""
         return (f'<section id="{anchor}"><h3><code>{self.linked(call.item.text, call)}</code>{labels}</h3>\n'
-                f'{doc(call.item.docs)}{said}<p class="src">{call.module.file}:{call.item.line}</p></section>\n')
+                f'{doc(call.item.docs)}{said}{self.place(call.module.file, call.item.line)}</section>\n')
 
     def call(self, call, tag):
         item = call.item
@@ -121,7 +147,7 @@ class Pages:
                    for one in item.members if item.kind == "enum" or one.text.startswith("pub ")]
         derives = [f'<p class="src">{html.escape(one)}</p>' for one in item.attributes if one.startswith("derive")]
         return (f'{doc(item.docs)}<pre>{self.linked("pub " + item.text, call)}</pre>{table(members)}{"".join(derives)}'
-                f'<p class="src">{call.module.file}:{item.line}</p>\n')
+                f"{self.place(call.module.file, item.line)}\n")
 
     def trait(self, call):
         """A trait that a type has, with what its calls promise."""
@@ -129,7 +155,7 @@ class Pages:
         inner = [f"<pre>{self.linked(item.text, call)}</pre>" for item in block.items if item.kind == "ghost"]
         inner += [self.clauses(Call(crate, module, block, item)) for item in block.items if item.kind == "fn"]
         return (f"<details><summary>{code(block.text)}</summary>{''.join(inner) or '<p>no contract of its own</p>'}"
-                f'<p class="src">{module.file}:{block.line}</p></details>\n')
+                f"{self.place(module.file, block.line)}</details>\n")
 
     def parts(self, subject):
         """The types, the calls and the traits of a subject. A call has a tag if only one type of a view has it."""

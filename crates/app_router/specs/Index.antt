@@ -125,7 +125,7 @@ pub record IsFilled (blocks : List IpCidr) (nodes : List Node) : Type 0 where
   pub len : length nodes ≡ length blocks
   pub each : (i : ℕ) → i < length blocks → IsBlock (block_at blocks i) × (node_at nodes i ≡ node_of (block_at blocks i) i)
 
--- the index of these blocks: the node of each block once, in their order and with their links
+-- the nodes are the index of these blocks: the node of each block once, in their order and with their links
 pub record IsIndex (blocks : List IpCidr) (nodes : List Node) : Type 0 where
   pub count : length blocks < 2 ^ 32
   pub made : List Node

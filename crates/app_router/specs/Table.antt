@@ -18,7 +18,7 @@ use Rattle.ip_wire.specs.declared.IpCidr.TheVariants as cidr
 abbrev pub IsAnswer : List IpCidr → IpAddress → ℕ → Type 0
 IsAnswer blocks addr answer = ((answer ≡ 0) × All (λ block. ¬ IsIn block addr) blocks) ⊎ ((i : ℕ) × (answer ≡ i + 1) × IsChosenAt blocks addr i)
 
--- the answer for each IPv4 address whose number has this property
+-- the number is the answer for each IPv4 address whose number has this property
 abbrev pub Answers : List IpCidr → (ℕ → Type 0) → ℕ → Type 0
 Answers blocks has answer = (bytes : List ℕ) → IsByteArray 4 bytes → has (number_of bytes) → IsAnswer blocks (Ipv4 bytes) answer
 
@@ -122,11 +122,11 @@ SparesNode count p node = node.version ≡ 4 → IsBeside count p (node.high / 2
 abbrev pub entries_in : ℕ → List ℕ → List ℕ
 entries_in n cells = take (2 * (n + 1)) cells
 
--- its cells with hints
+-- the cells with hints, in a table of n blocks
 abbrev pub hints_in : ℕ → List ℕ → List ℕ
 hints_in n cells = take (n + 1) (drop (2 * (n + 1)) cells)
 
--- its ranges
+-- the cells with ranges, in a table of n blocks
 abbrev pub ranges_in : ℕ → List ℕ → List ℕ
 ranges_in n cells = take (2 * (n + 1)) (drop (n + 1) (drop (2 * (n + 1)) cells))
 
@@ -134,8 +134,8 @@ ranges_in n cells = take (2 * (n + 1)) (drop (n + 1) (drop (2 * (n + 1)) cells))
 abbrev pub AreEnough : List IpCidr → List ℕ → Type 0
 AreEnough blocks cells = 5 * (length blocks + 1) ≤ length cells
 
--- The table of n blocks. Its first 2n + 2 cells are entries of parts, then come n + 1 cells of hints, and 2n + 2 ranges. Fewer
--- cells, or none, say nothing.
+-- The cells begin with the table of these blocks. That of n blocks has 2n + 2 entries of parts, then n + 1 cells of hints, and
+-- 2n + 2 ranges. Fewer cells, or none, say nothing.
 pub record IsTable (blocks : List IpCidr) (cells : List ℕ) : Type 0 where
   pub parts : AreEnough blocks cells → AreParts blocks (entries_in (length blocks) cells)
   pub filled : AreEnough blocks cells → AreFilled blocks (entries_in (length blocks) cells)

@@ -319,8 +319,8 @@ fn count_up_to(nodes: &[Node], target: &Node) -> usize
     low
 }
 
-/// The place of the route with the longest prefix whose block contains the address, and of several the
-/// first. `None` if no block contains it.
+/// The place of the route with the longest prefix whose block contains the address; of equal blocks the first. `None`
+/// if no block contains it.
 #[inline(always)]
 pub fn find(nodes: &[Node], addr: &IpAddress) -> Option<u32>
     ensures { (blocks : List IpCidr) → IsIndex blocks nodes.now
@@ -330,8 +330,9 @@ pub fn find(nodes: &[Node], addr: &IpAddress) -> Option<u32>
     found(nodes, count_up_to(nodes, &target), &target)
 }
 
-/// The same for addresses in their order: `count` is the number of nodes at or before the address that was searched
-/// last. It only saves time.
+/// The same place as `find`, in less time if addresses are searched in ascending order. `count` is the number of
+/// nodes at or before the address that was searched last, and becomes that of this one; another number only takes
+/// more time. `None` if no block contains the address.
 pub fn find_next(nodes: &[Node], count: &mut usize, addr: &IpAddress) -> Option<u32>
     ensures { (blocks : List IpCidr) → IsIndex blocks nodes.now
         → MatchOption result (All (λ block. ¬ IsIn block addr.now) blocks) (IsChosenAt blocks addr.now) }
@@ -381,7 +382,8 @@ pub fn index(routes: &[Route], nodes: &mut [Node])
     arrange(nodes);
 }
 
-/// The same route as `choose` of `route`, by the index of the routes.
+/// The route with the longest prefix whose block contains the address, by the index of the routes; of equal blocks
+/// the first. `None` if no block contains it.
 pub fn choose(routes: &[Route], nodes: &[Node], addr: &IpAddress) -> Option<Route>
     ensures { IsIndex (map block_of routes.now) nodes.now
         → MatchOption result (All (λ route. ¬ Leads addr.now route) routes.now) (IsChosen routes.now addr.now) }
@@ -389,7 +391,7 @@ pub fn choose(routes: &[Route], nodes: &[Node], addr: &IpAddress) -> Option<Rout
     route_at(routes, find(nodes, addr))
 }
 
-/// The route at the place that was found for an address.
+/// The route at the place that was found for an address, or `None` if no place was found.
 pub fn route_at(routes: &[Route], found: Option<u32>) -> Option<Route>
     ensures { (addr : IpAddress) → MatchOption found (All (λ block. ¬ IsIn block addr) (map block_of routes.now)) (IsChosenAt (map block_of routes.now) addr)
         → MatchOption result (All (λ route. ¬ Leads addr route) routes.now) (IsChosen routes.now addr) }

@@ -15,8 +15,8 @@ pub struct Route {
     pub interface: u16,
 }
 
-/// The route with the longest prefix whose block contains the address, and of several the first. `None`
-/// if no block contains it.
+/// The route with the longest prefix whose block contains the address; of equal blocks the first. `None` if no block
+/// contains it.
 pub fn choose(routes: &[Route], addr: &IpAddress) -> Option<Route>
     ensures { MatchOption result (All (λ route. ¬ Leads addr.now route) routes.now) (IsChosen routes.now addr.now) }
 {

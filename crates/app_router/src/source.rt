@@ -47,7 +47,8 @@ pub fn check_source(src: &IpAddress, interface: u16, back: Option<u16>) -> Optio
     }
 }
 
-/// The same with the route back of an index of routes.
+/// Whether a router accepts a packet from `src` that came in by `interface`, as `check_source` does. The route back
+/// is found by an index. `None`: it does.
 pub fn check_source_by_index(
     routes: &[Route],
     nodes: &[Node],
@@ -64,7 +65,8 @@ pub fn check_source_by_index(
     check_source(src, interface, back)
 }
 
-/// The same with a table of the routes and its index.
+/// Whether a router accepts a packet from `src` that came in by `interface`, as `check_source` does. The route back
+/// is found by a table of the routes and its index. `None`: it does.
 pub fn check_source_by_table(
     routes: &[Route],
     nodes: &[Node],

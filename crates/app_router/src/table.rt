@@ -111,8 +111,9 @@ fn answer_at(nodes: &[Node], count: &mut usize, addr: u32) -> u32
     }
 }
 
-/// The place of the route with the longest prefix whose block contains the address, and of several the first, by a
-/// table and its index. `None` if no block contains it. With fewer cells than the table has, the index is searched.
+/// The place of the route with the longest prefix whose block contains the address, by a table and its index; of
+/// equal blocks the first. `None` if no block contains it. With fewer cells than the table has, the index is
+/// searched.
 #[inline(always)]
 pub fn find(nodes: &[Node], cells: &[u64], addr: &IpAddress) -> Option<u32>
     ensures { (blocks : List IpCidr) → IsIndex blocks nodes.now → IsTable blocks cells.now
@@ -188,7 +189,8 @@ fn range_answer(ranges: &[u64], place: usize, addr: u32) -> Option<u32>
     None
 }
 
-/// The same route as `choose` of `route`, by a table of the routes and its index.
+/// The route with the longest prefix whose block contains the address, by a table of the routes and its index; of
+/// equal blocks the first. `None` if no block contains it.
 #[inline(always)]
 pub fn choose(routes: &[Route], nodes: &[Node], cells: &[u64], addr: &IpAddress) -> Option<Route>
     ensures { IsIndex (map block_of routes.now) nodes.now → IsTable (map block_of routes.now) cells.now

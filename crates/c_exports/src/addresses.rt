@@ -28,7 +28,7 @@ pub extern "C" fn lk_parse_addr(text: &[u8], addr: &mut Addr) -> i32
     }
 }
 
-/// Prints an address.
+/// Prints an address. Returns its length, or a failure; then `out` is unchanged.
 #[unsafe(no_mangle)]
 pub extern "C" fn lk_print_addr(addr: &Addr, out: &mut [u8]) -> isize
     ensures { Prints (option_map address_text (ip_of addr.now)) (addr_failure addr.now) out.old out.new result }
@@ -53,7 +53,7 @@ pub extern "C" fn lk_parse_block(text: &[u8], block: &mut Block) -> i32
     }
 }
 
-/// Prints a block.
+/// Prints a block. Returns its length, or a failure; then `out` is unchanged.
 #[unsafe(no_mangle)]
 pub extern "C" fn lk_print_block(block: &Block, out: &mut [u8]) -> isize
     ensures { Prints (option_map cidr_text (block_of block.now)) (block_failure block.now) out.old out.new result }
@@ -86,7 +86,7 @@ pub extern "C" fn lk_parse_endpoint(text: &[u8], endpoint: &mut Endpoint) -> i32
     }
 }
 
-/// Prints an endpoint.
+/// Prints an endpoint. Returns its length, or a failure; then `out` is unchanged.
 #[unsafe(no_mangle)]
 pub extern "C" fn lk_print_endpoint(endpoint: &Endpoint, out: &mut [u8]) -> isize
     ensures { Prints (option_map endpoint_text (ip_endpoint_of endpoint.now)) (addr_failure endpoint.now.addr) out.old out.new result }
@@ -113,7 +113,7 @@ pub extern "C" fn lk_parse_ethernet(text: &[u8], octets: &mut [u8; 6]) -> i32
     }
 }
 
-/// Prints an Ethernet address.
+/// Prints an Ethernet address. Returns its length, or a failure; then `out` is unchanged.
 #[unsafe(no_mangle)]
 pub extern "C" fn lk_print_ethernet(octets: &[u8; 6], out: &mut [u8]) -> isize
     ensures { Prints (Some (dashed octets.now)) None out.old out.new result }

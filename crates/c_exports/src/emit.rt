@@ -13,7 +13,7 @@ use c_write::{
     tcp_failure, tcp_header_len, udp_failure,
 };
 
-/// Writes an Ethernet header.
+/// Writes an Ethernet header. Returns its length, or a failure; then `out` is unchanged.
 #[unsafe(no_mangle)]
 pub extern "C" fn lk_emit_ethernet(header: &Ethernet, out: &mut [u8]) -> isize
     ensures { Writes (Some (link_bytes header.now header.now.ethertype)) None out.old out.new result }
@@ -27,7 +27,7 @@ pub extern "C" fn lk_emit_ethernet(header: &Ethernet, out: &mut [u8]) -> isize
     }
 }
 
-/// Writes an ARP packet.
+/// Writes an ARP packet. Returns its length, or a failure; then `out` is unchanged.
 #[unsafe(no_mangle)]
 pub extern "C" fn lk_emit_arp(header: &Arp, src: &Addr, dst: &Addr, out: &mut [u8]) -> isize
     ensures { Writes (arp_bytes header.now src.now dst.now) (arp_failure src.now dst.now) out.old out.new result }
@@ -41,7 +41,7 @@ pub extern "C" fn lk_emit_arp(header: &Arp, src: &Addr, dst: &Addr, out: &mut [u
     }
 }
 
-/// Writes an IPv4 or IPv6 header.
+/// Writes an IPv4 or IPv6 header. Returns its length, or a failure; then `out` is unchanged.
 #[unsafe(no_mangle)]
 pub extern "C" fn lk_emit_ip(
     header: &Ip,
@@ -62,7 +62,7 @@ pub extern "C" fn lk_emit_ip(
     }
 }
 
-/// Writes a UDP header and its payload.
+/// Writes a UDP header and its payload. Returns its length, or a failure; then `out` is unchanged.
 #[unsafe(no_mangle)]
 pub extern "C" fn lk_emit_udp(
     src: &Endpoint,
@@ -82,7 +82,7 @@ pub extern "C" fn lk_emit_udp(
     }
 }
 
-/// Writes a TCP header with its options and its payload.
+/// Writes a TCP header with its options and its payload. Returns its length, or a failure; then `out` is unchanged.
 #[unsafe(no_mangle)]
 pub extern "C" fn lk_emit_tcp(
     header: &Tcp,

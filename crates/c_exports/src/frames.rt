@@ -20,7 +20,8 @@ pub extern "C" fn lk_reply(frame: &mut FrameFields)
     turn_around(frame);
 }
 
-/// Writes a whole frame with a UDP packet and this payload.
+/// Writes a whole frame with a UDP packet and this payload. Returns its length, or a failure; then `out` is
+/// unchanged.
 #[unsafe(no_mangle)]
 pub extern "C" fn lk_emit_udp_frame(headers: &FrameFields, payload: &[u8], out: &mut [u8]) -> isize
     ensures { Writes (udp_frame headers.now payload.now) (udp_frame_failure headers.now (length payload.now)) out.old out.new result }
@@ -34,7 +35,8 @@ pub extern "C" fn lk_emit_udp_frame(headers: &FrameFields, payload: &[u8], out: 
     }
 }
 
-/// Writes a whole frame with a TCP segment and this payload.
+/// Writes a whole frame with a TCP segment and this payload. Returns its length, or a failure; then `out` is
+/// unchanged.
 #[unsafe(no_mangle)]
 pub extern "C" fn lk_emit_tcp_frame(
     headers: &FrameFields,
@@ -53,7 +55,8 @@ pub extern "C" fn lk_emit_tcp_frame(
     }
 }
 
-/// Writes a frame with a UDP packet around a payload that is in `out` already.
+/// Writes a frame with a UDP packet around a payload that is in `out` already. Returns its length, or a failure; then
+/// `out` is unchanged.
 #[unsafe(no_mangle)]
 pub extern "C" fn lk_wrap_udp_frame(
     headers: &FrameFields,
@@ -71,7 +74,8 @@ pub extern "C" fn lk_wrap_udp_frame(
     }
 }
 
-/// Writes a frame with a TCP segment around a payload that is in `out` already.
+/// Writes a frame with a TCP segment around a payload that is in `out` already. Returns its length, or a failure;
+/// then `out` is unchanged.
 #[unsafe(no_mangle)]
 pub extern "C" fn lk_wrap_tcp_frame(
     headers: &FrameFields,
@@ -90,7 +94,7 @@ pub extern "C" fn lk_wrap_tcp_frame(
     }
 }
 
-/// Writes a whole frame with an ARP packet.
+/// Writes a whole frame with an ARP packet. Returns its length, or a failure; then `out` is unchanged.
 #[unsafe(no_mangle)]
 pub extern "C" fn lk_emit_arp_frame(headers: &FrameFields, out: &mut [u8]) -> isize
     ensures { Writes (arp_frame headers.now) (arp_failure headers.now.src.addr headers.now.dst.addr) out.old out.new result }

@@ -14,7 +14,7 @@ use c_icmp::{
 };
 use c_structs::{Addr, FrameFields, Icmp, MAX_LEN, failed, is_set, within};
 
-/// Writes the header of an ICMP message and its payload.
+/// Writes the header of an ICMP message and its payload. Returns its length, or a failure; then `out` is unchanged.
 #[unsafe(no_mangle)]
 pub extern "C" fn lk_emit_icmp(
     header: &Icmp,
@@ -35,7 +35,8 @@ pub extern "C" fn lk_emit_icmp(
     }
 }
 
-/// Writes a whole frame with an ICMP message and this payload.
+/// Writes a whole frame with an ICMP message and this payload. Returns its length, or a failure; then `out` is
+/// unchanged.
 #[unsafe(no_mangle)]
 pub extern "C" fn lk_emit_icmp_frame(headers: &FrameFields, payload: &[u8], out: &mut [u8]) -> isize
     ensures { Writes (icmp_frame headers.now payload.now) (icmp_frame_failure headers.now (length payload.now)) out.old out.new result }
@@ -58,7 +59,8 @@ pub extern "C" fn lk_read_ndisc(frame: &[u8], ndisc: &mut Ndisc) -> i32
     ndisc.read(within(frame))
 }
 
-/// Writes a whole frame with a neighbour solicitation or advertisement.
+/// Writes a whole frame with a neighbour solicitation or advertisement. Returns its length, or a failure; then `out`
+/// is unchanged.
 #[unsafe(no_mangle)]
 pub extern "C" fn lk_emit_ndisc_frame(headers: &FrameFields, ndisc: &Ndisc, out: &mut [u8]) -> isize
     ensures { Writes (ndisc_frame headers.now ndisc.now) (ndisc_failure headers.now ndisc.now) out.old out.new result }

@@ -31,7 +31,7 @@ pub extern "C" fn lk_update_checksum(checksum: u16, before: u16, after: u16) -> 
     checksum::update(checksum, before, after)
 }
 
-/// The same after an address changed.
+/// The checksum field after an address that it covers changed.
 #[unsafe(no_mangle)]
 pub extern "C" fn lk_update_checksum_addr(checksum: u16, before: &Addr, after: &Addr) -> u16
     ensures { result ≡ updated checksum (address_sum before.now) (address_sum after.now) }
@@ -47,7 +47,7 @@ pub extern "C" fn lk_update_udp_checksum(checksum: u16, before: u16, after: u16)
     update_udp(checksum, before, after)
 }
 
-/// The same after an address changed.
+/// The checksum field of UDP after an address that it covers changed.
 #[unsafe(no_mangle)]
 pub extern "C" fn lk_update_udp_checksum_addr(checksum: u16, before: &Addr, after: &Addr) -> u16
     ensures { result ≡ updated_udp checksum (address_sum before.now) (address_sum after.now) }

@@ -68,7 +68,8 @@ pub extern "C" fn lk_read_captured(captured: &[u8], len: usize, frame: &mut Fram
     read_captured(within(captured), usable(len), frame)
 }
 
-/// The same for an IP packet without an Ethernet header, as `lk_read_packet`.
+/// Parses the first bytes of an IP packet of `len` bytes without an Ethernet header, as `lk_read_captured` does of a
+/// frame.
 #[unsafe(no_mangle)]
 pub extern "C" fn lk_read_captured_packet(
     captured: &[u8],

@@ -11,7 +11,7 @@ use c_structs::{MAX_LEN, failed, within};
 use c_write::{rebuild_failure, rebuild_frame};
 
 /// Parses a frame, and writes it with its headers emitted again. Returns its length, which is at most that
-/// of the parsed frame.
+/// of the parsed frame. On a failure `out` is unchanged.
 #[unsafe(no_mangle)]
 #[tactic(auto, using(crate::proofs::Rebuilt::fits))]
 pub extern "C" fn lk_rebuild(frame: &[u8], out: &mut [u8]) -> isize

@@ -29,7 +29,8 @@ pub extern "C" fn lk_make_route_table(nodes: &[Node], cells: &mut [u64]) -> isiz
     make_table(nodes, cells)
 }
 
-/// The place of the route with the longest prefix that contains an address, of several the first; -1 if there is none.
+/// The place of the route with the longest prefix that contains an address, or -1 if there is none. Of equal blocks
+/// the first route counts.
 #[unsafe(no_mangle)]
 pub extern "C" fn lk_choose_route(nodes: &[Node], addr: &Addr) -> isize
     ensures { (routes : List Route) → IsIndexOf routes (in_bounds nodes.now) → Chooses routes addr.now result }
@@ -37,7 +38,8 @@ pub extern "C" fn lk_choose_route(nodes: &[Node], addr: &Addr) -> isize
     choose_route(nodes, addr)
 }
 
-/// The same place, by a table and its index.
+/// The place of the route with the longest prefix that contains an address, by a table and its index; -1 if there is
+/// none.
 #[unsafe(no_mangle)]
 pub extern "C" fn lk_choose_route_by_table(nodes: &[Node], cells: &[u64], addr: &Addr) -> isize
     ensures { (routes : List Route) → IsTableOf routes (in_bounds nodes.now) (in_bounds cells.now) → Chooses routes addr.now result }
@@ -58,7 +60,8 @@ pub extern "C" fn lk_check_source(
     check_addr(routes, nodes, src, interface)
 }
 
-/// The same number, by a table of the routes and its index.
+/// Whether a router may accept a packet from an address that came in by an interface, by a table of the routes and
+/// its index. Returns 0, or why it may not.
 #[unsafe(no_mangle)]
 pub extern "C" fn lk_check_source_by_table(
     routes: &[Route],

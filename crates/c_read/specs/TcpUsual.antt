@@ -5,8 +5,8 @@ use Rattle.ip_wire.specs.Field.{field}
 use Rattle.ip_wire.specs.Tcp.{header_len}
 use Rattle.c_structs.specs.TcpKept.{HasPaddedStamp, HasStamp}
 
--- the segment parses, its checksum apart: its ports are not 0, of the flags it has ACK and at most PSH, and its header
--- has no option or a timestamp
+-- The segment parses, if its checksum is not looked at: the ports are not 0, the flags are ACK or ACK and PSH, and there
+-- is no option, or only a timestamp.
 pub record IsUsual (bytes : List ℕ) : Type 0 where
   pub sender : field bytes 0 16 ≢ 0
   pub receiver : field bytes 16 16 ≢ 0

@@ -43,7 +43,8 @@ pub fn read_captured(fields: &mut FrameFields, captured: &[u8], len: usize)
     }
 }
 
-/// The same for a packet without an Ethernet header.
+/// Stores the values of a packet of `len` bytes without an Ethernet header, of which fewer were captured, up to a
+/// header that is rejected or that was not captured as a whole.
 pub fn read_captured_packet(fields: &mut FrameFields, captured: &[u8], len: usize)
     requires part { length captured.now < len }
     ensures value { fields.new ≡ captured_packet_of (take len captured.now) (len - length captured.now) }

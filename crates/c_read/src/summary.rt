@@ -16,7 +16,8 @@ use line::{Line, push_number};
 use notes::push_notes;
 
 /// Prints a frame in one line: its addresses, its innermost header, the length of its payload in bytes, and what
-/// is wrong. The type and code are those of its ICMP message, if it has one.
+/// is wrong. The type and code are those of its ICMP message, if it has one. Returns the length of the line, or a
+/// failure without room; then `out` is unchanged.
 pub fn print_frame(frame: &FrameFields, icmp_type: u8, icmp_code: u8, out: &mut [u8]) -> isize
     ensures { Prints (Some (frame_line frame.now icmp_type icmp_code)) None out.old out.new result }
 {

@@ -8,8 +8,8 @@ ghost use Rattle.c_read.specs.TcpUsual.{IsUsual};
 use c_structs::{has_padded_stamp, has_stamp};
 use ip_wire::TcpPacket;
 
-/// Whether a segment parses, its checksum apart, without a walk over its options: its ports are not 0, of the
-/// flags it has ACK and at most PSH, and its header has no option or a timestamp.
+/// Whether a segment parses without a walk over its options, if its checksum is not looked at: the ports are not 0,
+/// the flags are ACK or ACK and PSH, and there is no option, or only a timestamp.
 #[inline(always)]
 pub fn is_usual(bytes: &[u8]) -> bool
     requires { 20 ≤ length bytes.now }

@@ -168,7 +168,8 @@ pub fn address_sum(addr: &Addr) -> u16
     }
 }
 
-/// Prints an address.
+/// Prints an address, IPv6 by RFC 5952. Returns the length of the text, or a failure without room; then `out` is
+/// unchanged.
 pub fn print_address(address: &IpAddress, out: &mut [u8]) -> isize
     ensures { Prints (Some (address_text address.now)) None out.old out.new result }
 {
@@ -190,7 +191,7 @@ fn print_ipv4(address: &Ipv4Address, out: &mut [u8]) -> isize
     len as isize
 }
 
-/// Prints a block.
+/// Prints a block. Returns the length of the text, or a failure without room; then `out` is unchanged.
 pub fn print_block(block: &IpCidr, out: &mut [u8]) -> isize
     ensures { Prints (Some (cidr_text block.now)) None out.old out.new result }
 {

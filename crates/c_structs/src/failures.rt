@@ -54,7 +54,7 @@ impl Addr {
         self.version == 4 || self.version == 6
     }
 
-    /// Why the address cannot be printed.
+    /// Why the address cannot be printed: `NoVersion`. `None`: it can.
     pub fn failure(&self) -> Option<Failure>
         ensures { result ≡ addr_failure self.now }
     {
@@ -67,7 +67,7 @@ impl Addr {
 }
 
 impl Block {
-    /// Why the block cannot be printed.
+    /// Why the block cannot be printed: `NoVersion` or `BadPrefix`. `None`: it can.
     pub fn failure(&self) -> Option<Failure>
         ensures { result ≡ block_failure self.now }
     {

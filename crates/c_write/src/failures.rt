@@ -11,7 +11,7 @@ use ip_wire::{
     UDP_MAX_PAYLOAD_LEN,
 };
 
-/// Why two addresses are not of one version.
+/// Why two addresses are not of one version: `NoVersion` or `TwoVersions`. `None`: they are.
 #[inline(always)]
 pub fn pair_failure(src: &Addr, dst: &Addr) -> Option<Failure>
     ensures { result ≡ pair_failure src.now dst.now }
@@ -66,7 +66,7 @@ fn has_fields(header: &Ip, version: u16) -> bool
         }
 }
 
-/// Why the header cannot be written before a payload of this length.
+/// Why the header cannot be written before a payload of this length. `None`: it can, if there is room.
 #[inline(always)]
 pub fn ip_failure(header: &Ip, src: &Addr, dst: &Addr, payload_len: usize) -> Option<Failure>
     ensures { result ≡ ip_failure header.now src.now dst.now payload_len }
@@ -102,7 +102,7 @@ pub fn udp_failure(src: &Endpoint, dst: &Endpoint, payload_len: usize) -> Option
     }
 }
 
-/// Why the options do not fit into a header.
+/// Why the options do not fit into a header. `None`: they fit.
 pub fn options_failure(options: &TcpOptions) -> Option<Failure>
     ensures { result ≡ options_failure options.now }
 {
@@ -204,7 +204,7 @@ pub fn tcp_frame_failure(
     segment_failure(&fields.tcp, options, payload_len, most)
 }
 
-/// Why the frame cannot be rebuilt.
+/// Why the frame cannot be rebuilt: `NoHeader` below 14 bytes. `None`: it can.
 pub fn rebuild_failure(frame: &[u8]) -> Option<Failure>
     ensures { result ≡ rebuild_failure frame.now }
 {

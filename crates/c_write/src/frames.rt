@@ -241,7 +241,8 @@ fn wrap_tcp(
     );
 }
 
-/// Writes a frame with a UDP packet and this payload, and returns its length.
+/// Writes a frame with a UDP packet and this payload, and returns its length. `None` if there is a failure or no
+/// room; then `out` is unchanged.
 pub fn emit_udp_frame(fields: &FrameFields, payload: &[u8], out: &mut [u8]) -> Option<usize>
     ensures { Fills (udp_frame fields.now payload.now) out.old out.new result }
 {
@@ -279,7 +280,8 @@ fn emit_udp_from(
     Some(end)
 }
 
-/// Writes a frame with a UDP packet around the payload in `out`, and returns its length.
+/// Writes a frame with a UDP packet around the payload in `out`, and returns its length. `None` if there is a failure
+/// or no room; then `out` is unchanged.
 pub fn wrap_udp_frame(fields: &FrameFields, payload_len: usize, out: &mut [u8]) -> Option<usize>
     ensures { Fills (udp_frame_around fields.now payload_len out.old) out.old out.new result }
 {
@@ -316,7 +318,8 @@ fn wrap_udp_from(
     Some(end)
 }
 
-/// Writes a frame with a TCP segment and this payload, and returns its length.
+/// Writes a frame with a TCP segment and this payload, and returns its length. `None` if there is a failure or no
+/// room; then `out` is unchanged.
 pub fn emit_tcp_frame(
     fields: &FrameFields,
     options: &TcpOptions,
@@ -360,7 +363,8 @@ fn emit_tcp_from(
     Some(end)
 }
 
-/// Writes a frame with a TCP segment around the payload in `out`, and returns its length.
+/// Writes a frame with a TCP segment around the payload in `out`, and returns its length. `None` if there is a
+/// failure or no room; then `out` is unchanged.
 pub fn wrap_tcp_frame(
     fields: &FrameFields,
     options: &TcpOptions,
@@ -402,7 +406,8 @@ fn wrap_tcp_from(
     Some(end)
 }
 
-/// Writes a frame with an ARP packet, and returns its length.
+/// Writes a frame with an ARP packet, and returns its length. `None` if there is a failure or no room; then `out` is
+/// unchanged.
 pub fn emit_arp_frame(fields: &FrameFields, out: &mut [u8]) -> Option<usize>
     ensures { Fills (arp_frame fields.now) out.old out.new result }
 {

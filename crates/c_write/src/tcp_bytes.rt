@@ -98,7 +98,7 @@ fn emit_timestamp(options: &TcpOptions, at: usize, out: &mut [u8]) -> usize
     }
 }
 
-/// A value where the number is not 0.
+/// The value if the number is not 0, else `None`.
 #[inline(always)]
 pub fn where_set<T: Copy>(number: u8, value: T) -> Option<T>
     ensures { result ≡ where_set number value }

@@ -23,8 +23,7 @@ pub fn is_kept(bytes: &[u8]) -> bool
     is_plain(bytes) && (has_no_options(bytes) || has_stamp(bytes))
 }
 
-/// Whether a segment has a header that is emitted as it is but for its options: a timestamp after two
-/// bytes of no operation.
+/// Whether only the options of a header change when it is emitted: it has a timestamp after two no-operations.
 #[inline(always)]
 pub fn is_stamped(bytes: &[u8]) -> bool
     ensures { IsTrue result → IsPlain bytes.now × HasPaddedStamp bytes.now }

@@ -22,12 +22,12 @@ IsIn block address = AgreeFirst block.prefix_len block.address address
 abbrev pub IsWithin : ℕ → Block → Block → Type 0
 IsWithin n inner outer = (address : List ℕ) → IsByteArray n address → IsIn inner address → IsIn outer address
 
--- the lowest of the addresses of n bytes that are in the block
+-- the address is the lowest of those of n bytes that are in the block
 pub record IsLeast (n : ℕ) (block : Block) (address : List ℕ) : Type 0 where
   pub member : IsIn block address
   pub least : (other : List ℕ) → IsByteArray n other → IsIn block other → number_of address ≤ number_of other
 
--- the highest of the addresses of n bytes that are in the block
+-- the address is the highest of those of n bytes that are in the block
 pub record IsGreatest (n : ℕ) (block : Block) (address : List ℕ) : Type 0 where
   pub member : IsIn block address
   pub greatest : (other : List ℕ) → IsByteArray n other → IsIn block other → number_of other ≤ number_of address

@@ -95,7 +95,7 @@ scope_of n =
     if n == 8 then scope.OrganizationLocal else (
     if n == 14 then scope.Global else scope.Unknown)))))
 
--- the scope of an IPv6 address; that of a multicast address is in the low four bits of its second byte (RFC 4291,
+-- the IPv6 address has this scope; that of a multicast address is in the low four bits of its second byte (RFC 4291,
 -- section 2.7; RFC 6724, section 3.1)
 pub record HasScope (address : List ℕ) (found : Ipv6MulticastScope) : Type 0 where
   pub multicast : IsIn ipv6_multicast address → found ≡ scope_of (slice_index address 1 % 16)

@@ -17,12 +17,12 @@ number_of (byte ∷ bytes) = byte * 2 ^ (8 * length bytes) + number_of bytes
 abbrev pub AgreeFirst : ℕ → List ℕ → List ℕ → Type 0
 AgreeFirst n xs ys = (k : ℕ) → k < n → bit_of xs k ≡ bit_of ys k
 
--- the netmask of a prefix length: n ones, then zeros
+-- the bytes are the netmask of a prefix of n bits: n ones, then zeros
 pub record IsNetmask (n : ℕ) (bytes : List ℕ) : Type 0 where
   pub ones : (k : ℕ) → k < n → bit_of bytes k ≡ 1
   pub zeros : (k : ℕ) → n ≤ k → bit_of bytes k ≡ 0
 
--- the address with zeros after its first n bits
+-- the masked bytes are these bytes with zeros after their first n bits
 pub record IsMasked (n : ℕ) (bytes masked : List ℕ) : Type 0 where
   pub kept : AgreeFirst n bytes masked
   pub zeros : (k : ℕ) → n ≤ k → bit_of masked k ≡ 0

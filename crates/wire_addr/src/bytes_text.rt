@@ -30,7 +30,7 @@ fn fill(text: &[u8], mark: u8, radix: u32, places: usize, values: &mut [u8]) -> 
     rest.is_none()
 }
 
-/// The bytes of four decimal numbers joined by dots.
+/// The bytes of four decimal numbers joined by dots. `None` for any other text.
 #[tactic(auto, using(crate::proofs::Readers::reads_dotted, crate::proofs::Steps::four_bytes))]
 #[inline(always)]
 pub fn octets(text: &[u8]) -> Option<[u8; 4]>
@@ -128,7 +128,7 @@ fn is_too_long(text: &[u8]) -> bool
     text.len() > 17
 }
 
-/// The bytes of six hex numbers, joined all by dashes or all by colons.
+/// The bytes of six hex numbers, joined all by dashes or all by colons. `None` for any other text.
 pub fn hex_bytes(text: &[u8]) -> Option<[u8; 6]>
     ensures { Reads IsHexText text.now result }
 {

@@ -17,7 +17,8 @@ fn last_place(text: &[u8], byte: u8) -> Option<usize>
 }
 
 /// Splits at the last mark. Returns the text in front of it and the decimal number of one to `places`
-/// digits after it, if it is at most `most`. It looks only at the last `places` + 1 bytes.
+/// digits after it, if it is at most `most`. It looks only at the last `places` + 1 bytes. `None` if there is no such
+/// number.
 #[inline(always)]
 pub fn number_after(text: &[u8], mark: u8, places: usize, most: u32) -> Option<(&[u8], u32)>
     requires apart { 10 ≤ digit_value mark }

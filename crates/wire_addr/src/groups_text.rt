@@ -118,7 +118,7 @@ fn inner(text: &[u8]) -> Option<&[u8]>
     }
 }
 
-/// The eight groups of an IPv6 text.
+/// The eight groups of an IPv6 text. `None` if the text does not parse.
 #[inline(always)]
 pub fn groups(text: &[u8]) -> Option<[u16; 8]>
     ensures { Reads IsIpv6Text text.now result }

@@ -38,7 +38,7 @@ impl IpAddress {
         IpAddress::Ipv6(Ipv6Address::new(a, b, c, d, e, f, g, h))
     }
 
-    /// Parses an address of either version as `from_str` does, from bytes.
+    /// Parses an address of either version as `from_str` does, from bytes. `Err(())` if the text does not parse.
     #[tactic(auto, using(crate::proofs::Rejections::rejected, crate::proofs::EndTexts::no_address))]
     pub fn parse_ascii(text: &[u8]) -> Result<IpAddress, ()>
         ensures { Parses ReadsAddress text.now result }

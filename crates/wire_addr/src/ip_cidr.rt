@@ -29,7 +29,7 @@ impl IpCidr {
         }
     }
 
-    /// Parses a block of either version as `from_str` does, from bytes.
+    /// Parses a block of either version as `from_str` does, from bytes. `Err(())` if the text does not parse.
     pub fn parse_ascii(text: &[u8]) -> Result<IpCidr, ()>
         ensures { Parses ReadsCidr text.now result }
     {

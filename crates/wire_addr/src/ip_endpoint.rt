@@ -30,7 +30,7 @@ impl IpEndpoint {
         IpEndpoint { addr, port }
     }
 
-    /// Parses an endpoint as `from_str` does, from bytes.
+    /// Parses an endpoint as `from_str` does, from bytes. `Err(())` if the text does not parse.
     pub fn parse_ascii(text: &[u8]) -> Result<IpEndpoint, ()>
         ensures { Parses ReadsEndpoint text.now result }
     {

@@ -62,7 +62,7 @@ impl Ipv4Cidr {
         }
     }
 
-    /// Parses a block as `from_str` does, from bytes.
+    /// Parses a block as `from_str` does, from bytes. `Err(())` if the text does not parse.
     #[inline]
     pub fn parse_ascii(text: &[u8]) -> std::result::Result<Ipv4Cidr, ()>
         ensures { Parses ReadsIpv4Block text.now result }

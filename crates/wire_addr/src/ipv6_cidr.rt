@@ -75,7 +75,7 @@ impl Ipv6Cidr {
         Some(Ipv6Cidr::new(address, link_prefix.prefix_len()))
     }
 
-    /// Parses a block as `from_str` does, from bytes.
+    /// Parses a block as `from_str` does, from bytes. `Err(())` if the text does not parse.
     #[inline]
     pub fn parse_ascii(text: &[u8]) -> Result<Ipv6Cidr, ()>
         ensures { Parses ReadsIpv6Block text.now result }

@@ -82,7 +82,7 @@ pub(crate) fn first_group(text: &[u8]) -> (u32, usize)
     }
 }
 
-/// The value of a text of one to `places` digits, if it is at most `most`.
+/// The value of a text of one to `places` digits. `None` if there are others, or it is above `most`.
 #[inline(always)]
 pub fn number(text: &[u8], radix: u32, places: usize, most: u32) -> Option<u32>
     requires low { 2 ≤ radix }

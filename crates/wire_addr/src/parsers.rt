@@ -18,7 +18,7 @@ impl FromStr for EthernetAddress {
 }
 
 impl EthernetAddress {
-    /// Parses an address as `from_str` does, from bytes.
+    /// Parses an address as `from_str` does, from bytes. `Err(())` if the text does not parse.
     #[inline]
     pub fn parse_ascii(text: &[u8]) -> Result<EthernetAddress, ()>
         ensures { Parses ReadsEthernet text.now result }
@@ -42,7 +42,7 @@ impl FromStr for Ipv4Address {
 }
 
 impl Ipv4Address {
-    /// Parses an address as `from_str` does, from bytes.
+    /// Parses an address as `from_str` does, from bytes. `Err(())` if the text does not parse.
     #[inline]
     pub fn parse_ascii(text: &[u8]) -> Result<Ipv4Address, ()>
         ensures { Parses ReadsIpv4 text.now result }
@@ -67,7 +67,7 @@ impl FromStr for Ipv6Address {
 }
 
 impl Ipv6Address {
-    /// Parses an address as `from_str` does, from bytes.
+    /// Parses an address as `from_str` does, from bytes. `Err(())` if the text does not parse.
     #[inline]
     pub fn parse_ascii(text: &[u8]) -> Result<Ipv6Address, ()>
         ensures { Parses ReadsIpv6 text.now result }

@@ -45,7 +45,7 @@ address_of address.SourceProtocolAddr = 6
 address_of address.TargetHardwareAddr = 7
 address_of address.TargetProtocolAddr = 8
 
--- what the getter of an address returns: as many bytes as its field has, with the value of the field
+-- the getter of an address returns these bytes: as many as its field has, with the value of the field
 pub record IsGot (getting : ArpAddressGetting) (octets bytes : List ℕ) : Type 0 where
   pub width : 8 * length octets ≡ slice_index (widths bytes) (address_of getting)
   pub number : big_number (length octets) octets ≡ nth_field (widths bytes) (address_of getting) bytes

@@ -154,7 +154,7 @@ pub fn address_getters_read_fields_arp<'a>(
     }
 }
 
-/// The same of the getters of a mutable view.
+/// A getter of an address of a mutable view returns its field, of the length that the packet names.
 pub fn mutable_address_getters_read_fields_arp<'a>(
     packet: &'a ArpPacketMut<'_>,
     getting: ArpAddressGetting,
@@ -171,7 +171,7 @@ pub fn mutable_address_getters_read_fields_arp<'a>(
     }
 }
 
-/// A view, a view of that view and the slice taken out of it have the bytes that it was made of.
+/// `new_unchecked`, `as_view` and `into_inner` keep the bytes.
 /// `new_checked` accepts what `check_len` accepts.
 pub fn views_have_the_bytes_arp(bytes: &[u8]) -> bool
     ensures { IsTrue result }

@@ -177,7 +177,7 @@ impl<B: Octets> EthernetView<B> {
 }
 
 impl<'a> EthernetFrame<'a> {
-    /// The view of bytes that hold a header.
+    /// A view of bytes that hold a header, at least 14, else an error.
     pub fn new_checked(buffer: &'a [u8]) -> Result<EthernetFrame<'a>>
         ensures ok { IsOk result ↔ (14 ≤ length buffer.now) }
         ensures bytes { IfOk result (λ frame. frame_bytes frame ≡ buffer.now) }

@@ -93,7 +93,7 @@ pub fn getters_read_fields_ethernet(frame: &EthernetFrame<'_>, getting: Ethernet
     }
 }
 
-/// A view, a view of that view and the slice taken out of it have the bytes that it was made of.
+/// `new_unchecked`, `as_view` and `into_inner` keep the bytes.
 /// `new_checked` accepts what `check_len` accepts.
 pub fn views_have_the_bytes_ethernet(bytes: &[u8]) -> bool
     ensures { IsTrue result }

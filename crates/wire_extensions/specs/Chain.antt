@@ -45,7 +45,7 @@ by_fragment c bytes v =
 abbrev pub entered : Chain → List ℕ → Chain × Bool
 entered c bytes = if c.protocol == 44 then by_fragment c bytes (fragment.header_of (drop 2 bytes)) else (after c bytes, true)
 
--- the same at a header that may be rejected
+-- the chain at a header that may be rejected, and whether it goes on
 abbrev pub by_fault : Chain → List ℕ → Option ExtensionFault → Chain × Bool
 by_fault c bytes (Some why) = (record c { fault = Some why }, false)
 by_fault c bytes None = entered c bytes

@@ -219,7 +219,7 @@ pub fn update_ident_writes_two_fields_icmp(packet: &mut IcmpPacketMut<'_>, ident
     packet.update_echo_ident(ident);
 }
 
-/// A view, a view of that view and the slice taken out of it have the bytes that it was made of.
+/// `new_unchecked`, `as_view` and `into_inner` keep the bytes.
 /// `new_checked` accepts what `check_len` accepts, and the payload is all bytes after the header.
 pub fn views_have_the_bytes_icmp(bytes: &[u8]) -> bool
     ensures { IsTrue result }

@@ -160,7 +160,7 @@ pub fn lengths_agree_ipv6(packet: &Ipv6Packet<'_>, value: Ipv6Repr) -> bool
         && packet.payload().len() == payload_len
 }
 
-/// A view, a view of that view and the slice taken out of it have the bytes that it was made of.
+/// `new_unchecked`, `as_view` and `into_inner` keep the bytes.
 /// `new_checked` accepts what `check_len` accepts.
 pub fn views_have_the_bytes_ipv6(bytes: &[u8]) -> bool
     ensures { IsTrue result }
@@ -227,7 +227,7 @@ pub fn lengths_agree_ipv6_fragment(header: &Ipv6FragmentHeader<'_>, value: Ipv6F
     header.check_len().is_ok() == (value.buffer_len() <= header.as_bytes().len())
 }
 
-/// A view, a view of that view and the slice taken out of it have the bytes that it was made of.
+/// `new_unchecked`, `as_view` and `into_inner` keep the bytes.
 /// `new_checked` accepts what `check_len` accepts.
 pub fn views_have_the_bytes_ipv6_fragment(bytes: &[u8]) -> bool
     ensures { IsTrue result }

@@ -34,7 +34,7 @@ pub struct Link {
 
 impl Link {
     /// Parses the link-layer header that the bytes begin with. Up to two VLAN tags are skipped, of
-    /// EtherType 0x8100, 0x88a8 or 0x9100 (IEEE 802.1Q, section 9).
+    /// EtherType 0x8100, 0x88a8 or 0x9100 (IEEE 802.1Q, section 9). A `LinkFault` says why the header is rejected.
     pub fn parse(link_type: LinkType, bytes: &[u8]) -> Result<Link, LinkFault>
         ensures value { result ≡ link_of link_type bytes.now }
         ensures tags { IfOk result (λ link. link.offset ≡ header_len link_type + 4 * link.tag_count) }

@@ -30,7 +30,7 @@ pub enum LinkType {
 
 impl LinkType {
     /// The link type with this number in the header of a capture file. 12 and 14 are `Raw` too: libpcap
-    /// returns them for live captures.
+    /// returns them for live captures. `None` if it is not known.
     pub fn of(number: u32) -> Option<LinkType>
         ensures { result ≡ link_type_of number }
     {

@@ -372,7 +372,7 @@ pub fn lengths_agree_tcp(packet: &TcpPacket<'_>) -> bool
         && packet.segment_len() == payload_len + flags
 }
 
-/// A view, a view of that view and the slice taken out of it have the bytes that it was made of.
+/// `new_unchecked`, `as_view` and `into_inner` keep the bytes.
 /// `new_checked` accepts what `check_len` accepts.
 pub fn views_have_the_bytes_tcp(bytes: &[u8]) -> bool
     ensures { IsTrue result }

@@ -228,7 +228,7 @@ pub fn lengths_agree_udp(packet: &UdpPacket<'_>, value: UdpRepr) -> bool
         && usize::from(packet.len()) == UDP_HEADER_LEN + packet.payload().len()
 }
 
-/// A view, a view of that view and the slice taken out of it have the bytes that it was made of.
+/// `new_unchecked`, `as_view` and `into_inner` keep the bytes.
 /// `new_checked` accepts what `check_len` accepts.
 pub fn views_have_the_bytes_udp(bytes: &[u8]) -> bool
     ensures { IsTrue result }

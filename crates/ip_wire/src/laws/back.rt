@@ -111,7 +111,8 @@ pub fn frame_composes_udp(
         ReadsFrame received (ethernet.bytes_of header ++ (ip.bytes_of inner (computes sent.ipv4) ++ datagram_bytes) ++ padding.now) (ethernet.normal header) (packet (ip.normal inner) (datagram value payload.now)) }
 {}
 
-/// The same for TCP: the segment parses as the normal form of its values.
+/// A frame with matching Ethernet, IP and TCP headers, with any padding, parses as the normal forms of its headers
+/// and its payload, if each verified checksum was computed.
 pub fn frame_composes_tcp(
     header: EthernetRepr,
     inner: IpRepr,

@@ -41,19 +41,19 @@ pub fn eq_is_equality()
     ensures tcp_timestamp { IsEquality ⟦<TcpTimestampRepr as PartialEq>⟧.eq }
 {}
 
-/// The same of `ChecksumCapabilities`.
+/// `==` of two `ChecksumCapabilities` is `true` exactly if they are the same value.
 pub fn eq_is_equality_capabilities(a: ChecksumCapabilities, b: ChecksumCapabilities)
     ensures { (⟦<ChecksumCapabilities as PartialEq>⟧.eq a b ≡ true) ↔ (a ≡ b) }
 {
     eq_is_equality();
 }
 
-/// The same of `RawHardwareAddress`: its values are equal exactly if they have the same bytes.
+/// `==` of two `RawHardwareAddress` is `true` exactly if they have the same bytes.
 pub fn eq_is_equality_raw(a: RawHardwareAddress, b: RawHardwareAddress)
     ensures { (⟦<RawHardwareAddress as PartialEq>⟧.eq a b ≡ true) ↔ (a ≡ b) }
 {}
 
-/// The same of the headers of both versions, and of the key of a fragment.
+/// `==` of two IP headers of one version, or of two keys of fragments, is `true` exactly if they are the same value.
 pub fn eq_is_equality_headers()
     ensures ipv4 { IsEquality ⟦<Ipv4Repr as PartialEq>⟧.eq }
     ensures ipv6 { IsEquality ⟦<Ipv6Repr as PartialEq>⟧.eq }
@@ -62,7 +62,7 @@ pub fn eq_is_equality_headers()
     eq_is_equality();
 }
 
-/// The same of `IpRepr`.
+/// `==` of two `IpRepr` is `true` exactly if they are the same value.
 pub fn eq_is_equality_ip()
     ensures { IsEquality ⟦<IpRepr as PartialEq>⟧.eq }
 {

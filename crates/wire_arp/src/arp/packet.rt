@@ -112,7 +112,7 @@ impl<B: Octets> ArpView<B> {
 }
 
 impl<'a> ArpPacket<'a> {
-    /// The view of bytes that `check_len` takes.
+    /// A view of bytes that `check_len` accepts, else an error.
     pub fn new_checked(buffer: &'a [u8]) -> Result<ArpPacket<'a>>
         ensures ok { IsOk result ↔ HasLengths buffer.now }
         ensures bytes { IfOk result (λ packet. packet_bytes packet ≡ buffer.now) }

@@ -225,7 +225,8 @@ impl NdiscRepr {
         }
     }
 
-    /// The link-layer address, of the sender of a solicitation or of the target of an advertisement.
+    /// The link-layer address, of the sender of a solicitation or of the target of an advertisement. `None` without
+    /// this option.
     pub fn lladdr(&self) -> Option<EthernetAddress>
         ensures { result ≡ address_in self.now }
     {

@@ -35,7 +35,7 @@ impl<'a> IpPacket<'a> {
         Ok(packet)
     }
 
-    /// Checks that there is at least one byte. After `Ok`, `version` may be called.
+    /// Checks that there is at least one byte, and else returns an error. After `Ok`, `version` may be called.
     pub fn check_len(&self) -> Result<()>
         ensures { IsOk result ↔ (1 ≤ length (packet_bytes self.now)) }
     {

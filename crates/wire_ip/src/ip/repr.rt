@@ -73,8 +73,8 @@ impl IpRepr {
         }
     }
 
-    /// Parses a header by the version in its first four bits. The checksum of an IPv4 header is
-    /// verified if `caps` asks for it.
+    /// Parses a header by the version in its first four bits. Rejects no bytes, other versions, and what the parser
+    /// of this version rejects. The checksum of an IPv4 header is verified if `caps` asks for it.
     pub fn parse(packet: &IpPacket<'_>, caps: &ChecksumCapabilities) -> Result<IpRepr>
         ensures reads { (v : IpRepr) → (result ≡ Ok v) ↔ Reads (packet_bytes packet.now) (verifies caps.now.ipv4) v }
         ensures value { ip_of (verifies caps.now.ipv4) (packet_bytes packet.now) ≡ result_ok result }

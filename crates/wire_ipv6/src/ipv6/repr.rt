@@ -28,7 +28,8 @@ pub struct Ipv6Repr {
 }
 
 impl Ipv6Repr {
-    /// Parses the header of a packet. Traffic class and flow label are ignored.
+    /// Parses the header of a packet. Rejects what `check_len` rejects, and another version than 6. Traffic class and
+    /// flow label are ignored.
     #[inline(always)]
     pub fn parse(packet: &Ipv6Packet<'_>) -> Result<Ipv6Repr>
         ensures reads { (v : Ipv6Repr) → (result ≡ Ok v) ↔ Reads (packet_bytes packet.now) v }

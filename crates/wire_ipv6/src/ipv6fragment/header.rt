@@ -29,7 +29,8 @@ impl<B: Octets> Ipv6FragmentView<B> {
         Ipv6FragmentView { buffer }
     }
 
-    /// Checks the length. After `Ok` every call of this view may be made.
+    /// Checks that there are at least 6 bytes, and else returns an error. After `Ok` every call of this view may be
+    /// made.
     pub fn check_len(&self) -> Result<()>
         ensures { IsOk result ↔ (6 ≤ length (B.octets (header_slice self.now))) }
     {

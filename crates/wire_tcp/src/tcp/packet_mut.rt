@@ -106,7 +106,7 @@ impl<'a> TcpPacketMut<'a> {
         set_bits_u16(&mut self.buffer[12..14], 4, 12, 0);
     }
 
-    /// Writes NS.
+    /// Writes the flag NS.
     pub fn set_ns(&mut self, value: bool)
         requires { 13 ≤ length (packet_bytes_mut self.old) }
         ensures { Becomes self.old self.new (with_flag (packet_bytes_mut self.old) 103 value) }
@@ -114,7 +114,7 @@ impl<'a> TcpPacketMut<'a> {
         set_bits(self.buffer, 103, 1, value.into());
     }
 
-    /// Writes CWR.
+    /// Writes the flag CWR.
     pub fn set_cwr(&mut self, value: bool)
         requires { 14 ≤ length (packet_bytes_mut self.old) }
         ensures { Becomes self.old self.new (with_flag (packet_bytes_mut self.old) 104 value) }
@@ -122,7 +122,7 @@ impl<'a> TcpPacketMut<'a> {
         set_bits(self.buffer, 104, 1, value.into());
     }
 
-    /// Writes ECE.
+    /// Writes the flag ECE.
     pub fn set_ece(&mut self, value: bool)
         requires { 14 ≤ length (packet_bytes_mut self.old) }
         ensures { Becomes self.old self.new (with_flag (packet_bytes_mut self.old) 105 value) }
@@ -130,7 +130,7 @@ impl<'a> TcpPacketMut<'a> {
         set_bits(self.buffer, 105, 1, value.into());
     }
 
-    /// Writes URG.
+    /// Writes the flag URG.
     pub fn set_urg(&mut self, value: bool)
         requires { 14 ≤ length (packet_bytes_mut self.old) }
         ensures { Becomes self.old self.new (with_flag (packet_bytes_mut self.old) 106 value) }
@@ -138,7 +138,7 @@ impl<'a> TcpPacketMut<'a> {
         set_bits(self.buffer, 106, 1, value.into());
     }
 
-    /// Writes ACK.
+    /// Writes the flag ACK.
     pub fn set_ack(&mut self, value: bool)
         requires { 14 ≤ length (packet_bytes_mut self.old) }
         ensures { Becomes self.old self.new (with_flag (packet_bytes_mut self.old) 107 value) }
@@ -146,7 +146,7 @@ impl<'a> TcpPacketMut<'a> {
         set_bits(self.buffer, 107, 1, value.into());
     }
 
-    /// Writes PSH.
+    /// Writes the flag PSH.
     pub fn set_psh(&mut self, value: bool)
         requires { 14 ≤ length (packet_bytes_mut self.old) }
         ensures { Becomes self.old self.new (with_flag (packet_bytes_mut self.old) 108 value) }
@@ -154,7 +154,7 @@ impl<'a> TcpPacketMut<'a> {
         set_bits(self.buffer, 108, 1, value.into());
     }
 
-    /// Writes RST.
+    /// Writes the flag RST.
     pub fn set_rst(&mut self, value: bool)
         requires { 14 ≤ length (packet_bytes_mut self.old) }
         ensures { Becomes self.old self.new (with_flag (packet_bytes_mut self.old) 109 value) }
@@ -162,7 +162,7 @@ impl<'a> TcpPacketMut<'a> {
         set_bits(self.buffer, 109, 1, value.into());
     }
 
-    /// Writes SYN.
+    /// Writes the flag SYN.
     pub fn set_syn(&mut self, value: bool)
         requires { 14 ≤ length (packet_bytes_mut self.old) }
         ensures { Becomes self.old self.new (with_flag (packet_bytes_mut self.old) 110 value) }
@@ -170,7 +170,7 @@ impl<'a> TcpPacketMut<'a> {
         set_bits(self.buffer, 110, 1, value.into());
     }
 
-    /// Writes FIN.
+    /// Writes the flag FIN.
     pub fn set_fin(&mut self, value: bool)
         requires { 14 ≤ length (packet_bytes_mut self.old) }
         ensures { Becomes self.old self.new (with_flag (packet_bytes_mut self.old) 111 value) }
