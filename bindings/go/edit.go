@@ -29,13 +29,8 @@ const (
 	Complete  Offload = C.LK_COMPLETE  // not left to the device
 )
 
-// The functions Set.. write one field of the packet in an Ethernet frame, in place, and update the checksums that cover
-// it (RFC 1624): that of the IPv4 header, and that of TCP, UDP, ICMP or ICMPv6. A valid checksum stays valid, a wrong
-// one wrong, and one that is left to the device stays so. A UDP checksum of 0 over IPv4 stays 0. For a frame with VLAN
-// tags give frame[link.Offset-14:]. They guess which checksum is left to the device; to those with As the caller says it.
-// They return false if the packet has no such field; then the frame is unchanged.
-
-// SetHopLimit writes the TTL of IPv4, or the hop limit of IPv6.
+// SetHopLimit writes the TTL of IPv4, or the hop limit of IPv6. The part "Edits" of the package's documentation holds for
+// this function and the next ones.
 func SetHopLimit(frame []byte, hopLimit uint8) bool {
 	ptr, length := memory(frame)
 	return C.lk_set_hop_limit(ptr, length, C.uint8_t(hopLimit)) != 0
@@ -47,8 +42,16 @@ func SetDSCP(frame []byte, dscp uint8) bool {
 	return C.lk_set_dscp(ptr, length, C.uint8_t(dscp)) != 0
 }
 
-// SetAddr writes an address. It returns false for one of another version than the packet's, and if another checksum
-// covers it, as that of UDP-Lite.
+// SetAddr writes an address. It returns false if the packet has another version, and if a checksum covers the addresses
+// and is not found:
+//
+//   - TCP, UDP or ICMP is cut, or the length of UDP is below 8.
+//   - There is an authentication header: an edit would make it invalid.
+//   - An IPv6 extension header is rejected: it is cut, hop-by-hop options are not the first, or a routing header has
+//     segments left. Or another one follows the header of a fragment.
+//   - It is DCCP (33), OSPF (89), VRRP (112), UDP-Lite (136) or HIP (139), or over IPv6 PIM (103) or Mobility (135).
+//
+// Of a fragment that is not the first, only the IP header is updated.
 func SetAddr(frame []byte, side Side, addr netip.Addr) bool {
 	return SetAddrAs(frame, side, addr, Guess)
 }
@@ -71,8 +74,16 @@ func SetPortAs(frame []byte, side Side, port uint16, offload Offload) bool {
 	return C.lk_set_port_as(ptr, length, C.int(side), C.uint16_t(port), C.int(offload)) != 0
 }
 
-// SetBytes writes bytes from an offset of the frame on, as an option, an address or payload. It returns false if the
-// frame does not have all of them, or if one would replace a byte that says where the layers are, or a checksum.
+// SetBytes writes bytes from an offset of the frame on, as an option, an address, payload or padding. It returns false if
+// the frame does not have all of them, if they would replace one of these bytes, or if there are none and the offset is
+// between two of these bytes:
+//
+//   - the Ethernet header,
+//   - the version, lengths, identification, flags, fragment offset, protocol and checksum of the IPv4 header,
+//   - the version, payload length and next header of the IPv6 header, and its extension headers,
+//   - the transport checksum, the data offset of TCP, and the length of UDP,
+//   - the payload of a fragment that is not the first, whose checksum is in the first one,
+//   - all from the addresses to the end of the packet, if a checksum covers the addresses and is not found (SetAddr).
 func SetBytes(frame []byte, offset int, data []byte) bool {
 	return SetBytesAs(frame, offset, data, Guess)
 }
@@ -84,7 +95,10 @@ func SetBytesAs(frame []byte, offset int, data []byte, offload Offload) bool {
 	return C.lk_set_bytes_as(ptr, length, C.size_t(offset), from, count, C.int(offload)) != 0
 }
 
-// FillChecksum computes the TCP, UDP, ICMP or ICMPv6 checksum anew, in place, as a device does for LeftToDevice.
+// FillChecksum computes the TCP, UDP, ICMP or ICMPv6 checksum anew, in place, as a device does for LeftToDevice, also
+// where UDP has none. It returns false for fragments other than atomic ones, and for UDP whose length does not fit.
+//
+// If an IPv4 source route has hops left, the result covers the next hop, and the last receiver rejects it.
 func FillChecksum(frame []byte) bool {
 	ptr, length := memory(frame)
 	return C.lk_fill_checksum(ptr, length) != 0

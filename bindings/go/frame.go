@@ -34,7 +34,10 @@ static struct lk_frame read_captured_packet(const uint8_t *ptr, size_t count, si
 */
 import "C"
 
-import "errors"
+import (
+	"errors"
+	"math"
+)
 
 // ErrChecksum is returned by Check for a frame with a wrong checksum.
 var ErrChecksum = errors.New("ipwire: a checksum is wrong")
@@ -163,6 +166,35 @@ func ReadCaptured(captured []byte, length int) Frame {
 func ReadCapturedPacket(captured []byte, length int) Frame {
 	ptr, count := memory(captured)
 	return frameOf(captured, C.read_captured_packet(ptr, count, sizeOf(length)))
+}
+
+// ReadQuoted parses the packet that an ICMP error quotes, as far as it is quoted. Call Check of the error first.
+//
+// It returns false if the frame is no ICMP error. Errors are of type 3, 4, 5, 11 and 12 over IPv4 (RFC 1122, section
+// 3.2.2), and below 128 over IPv6 (RFC 4443, section 2.1). Offsets count from the first byte of the quoted packet.
+//
+// A header that is not quoted as a whole is rejected with HeaderCut. RFC 792 asks only for 8 bytes after the IP header:
+// then a TCP header is cut, and its ports are the first 4 bytes of the payload. Extensions of RFC 4884 may count as bytes
+// of the quoted packet.
+func (f *Frame) ReadQuoted() (Frame, bool) {
+	if !f.isICMPError() {
+		return Frame{}, false
+	}
+	return ReadCapturedPacket(f.Payload, math.MaxInt), true
+}
+
+func (f *Frame) isICMPError() bool {
+	if f.Transport != TransportICMP {
+		return false
+	}
+	if f.Network == NetworkIPv6 {
+		return f.ICMP.Type < 128
+	}
+	switch f.ICMP.Type {
+	case 3, 4, 5, 11, 12:
+		return true
+	}
+	return false
 }
 
 func frameOf(data []byte, value C.struct_lk_frame) (frame Frame) {

@@ -7,6 +7,26 @@
 //
 // The library needs an x86-64-v2 processor (SSE4.2 and POPCNT). On an older one the program ends with a panic when
 // it starts.
+//
+// # Edits
+//
+// SetHopLimit, SetDSCP, SetAddr, SetPort and SetBytes write one field of the packet in an Ethernet frame, in place, and
+// update the checksums that cover it (RFC 1624): that of the IPv4 header, and that of TCP, UDP, ICMP or ICMPv6. No other
+// byte changes. They return false if the packet has no such field; then the frame is unchanged.
+//
+//   - A valid checksum stays valid, and a wrong one stays wrong. A UDP checksum of 0 over IPv4 stays 0. The exception is
+//     an ICMP message whose other bytes are all 0.
+//   - A TCP or UDP checksum that is LeftToDevice stays so: an address changes it, as part of the pseudo-header, and
+//     nothing else does. The functions guess which it is (Guess). To those with As the caller says it.
+//   - ReadFrame must read the IP header. Of TCP, UDP or ICMP only the bytes up to the checksum field must be there, also
+//     in the first of several fragments. Append zeros to a packet that was cut, up to its length: only FillChecksum needs
+//     the bytes themselves.
+//   - IPv6 extension headers are stepped through, up to the header of a fragment. They are not changed. Not supported: a
+//     Home Address option (RFC 6275).
+//   - Of the Ethernet header only the EtherType is used. For a frame with VLAN tags give frame[link.Offset-14:] of its
+//     Link.
+//   - If an IPv4 source route has hops left, the checksum covers the last address of the route: a new destination makes a
+//     valid one wrong.
 package ipwire
 
 /*

@@ -419,3 +419,55 @@ func ExampleReadFrame() {
 	// ping from 192.0.2.1:46563
 	// 46 <nil>
 }
+
+// Linux sent both errors about UDP packets to a closed port on its loopback device. By hand: other types, and quotes of 8
+// bytes of UDP and of TCP.
+func TestQuoted(t *testing.T) {
+	const (
+		loopback = "000000000000" + "000000000000"
+		ends6    = "0000000000000000000000000000000100000000000000000000000000000001"
+		ipv4     = loopback + "0800" + "45c0003cb9fb00004001c2037f0000017f000001" + "0303354b00000000" +
+			"4500002026b64000401116157f0000017f000001" + "d5cb14e9000cfe1f" + "70696e67"
+		ipv6 = loopback + "86dd" + "6006125f003c3a40" + ends6 + "0104964600000000" +
+			"60092d35000c1140" + ends6 + "d5cb14e9000c001f" + "70696e67"
+	)
+	for _, it := range []struct {
+		data         string
+		place, quote int // of the type, and of the packet that is quoted
+		isError      func(icmpType int) bool
+	}{
+		{ipv4, 34, 42, func(it int) bool { return it == 3 || it == 4 || it == 5 || it == 11 || it == 12 }},
+		{ipv6, 54, 62, func(it int) bool { return it < 128 }},
+	} {
+		data := unhex(t, it.data)
+		frame := ReadFrame(data)
+		quoted, ok := frame.ReadQuoted()
+		if err := frame.Check(); err != nil || !ok || quoted.Src.Port() != 54731 || quoted.Dst.Port() != 5353 ||
+			quoted.Check() != nil || string(quoted.Payload) != "ping" || quoted.Ethernet != (Ethernet{}) {
+			t.Errorf("%v, %+v", err, quoted)
+		}
+		frame = ReadCaptured(data[:len(data)-4], math.MaxInt)
+		quoted, ok = frame.ReadQuoted()
+		if !ok || quoted.Dst.Port() != 5353 || quoted.PayloadLen != 4 || len(quoted.Payload) != 0 ||
+			quoted.TransportChecksum != ChecksumCut {
+			t.Errorf("%+v", quoted)
+		}
+		for icmpType := 0; icmpType < 256; icmpType++ {
+			data[it.place] = byte(icmpType)
+			frame := ReadFrame(data)
+			if _, ok := frame.ReadQuoted(); ok != it.isError(icmpType) {
+				t.Errorf("type %d: %v", icmpType, ok)
+			}
+		}
+	}
+	data := unhex(t, ipv4)
+	data[42+3], data[42+9] = 64, 6 // 44 bytes of TCP
+	frame := ReadCaptured(data[:70], math.MaxInt)
+	if quoted, ok := frame.ReadQuoted(); !ok || quoted.Reason != HeaderCut || !bytes.Equal(quoted.Payload, data[62:70]) {
+		t.Errorf("%+v", quoted)
+	}
+	frame = ReadFrame(unhex(t, ethernet+header+ports+"0000"+"70696e67"))
+	if _, ok := frame.ReadQuoted(); ok {
+		t.Error("a UDP packet is no error")
+	}
+}

@@ -34,15 +34,22 @@ func rejection(number C.int) error {
 }
 
 // Forward forwards the packet of an Ethernet frame by one hop, in place (RFC 1812, section 5.3.1): src and dst are the
-// new Ethernet addresses, and the hop limit becomes one less. The error is NotIP, BadHeader, WrongChecksum or Expired;
-// the frame is unchanged then.
+// new Ethernet addresses, the hop limit becomes one less, and the checksum of an IPv4 header is updated. The error is
+// NotIP, BadHeader, WrongChecksum or Expired; the frame is unchanged then.
 func Forward(frame []byte, src, dst HardwareAddr) error {
 	ptr, length := memory(frame)
 	return rejection(C.lk_forward(ptr, length, src.ptr(), dst.ptr()))
 }
 
-// ClampMSS lowers the maximum segment size of a TCP SYN in an Ethernet frame, in place, and updates the TCP checksum. One
-// that is LeftToDevice is unchanged. It tells whether the size was larger.
+// ClampMSS lowers the maximum segment size of a TCP SYN in an Ethernet frame, in place, and updates the TCP checksum. A
+// router does so with each frame that comes in or leaves by a link with a smaller MTU: to the MTU less 40 over IPv4, and
+// less 60 over IPv6. It tells whether the size was larger; if not, the frame is unchanged.
+//
+//   - Of several such options the last counts. A SYN without one stays as it is.
+//   - A valid checksum stays valid, and a wrong one wrong. One that is LeftToDevice is unchanged, because it does not
+//     cover the option.
+//   - A frame stays as it is if ReadFrame rejects a header, and if it is a fragment, has a wrong IPv4 header checksum, or
+//     has IPv6 extension headers before TCP.
 func ClampMSS(frame []byte, maxSegSize uint16) bool {
 	return ClampMSSAs(frame, maxSegSize, Guess)
 }

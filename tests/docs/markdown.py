@@ -49,7 +49,7 @@ EXCERPTS = {
     "rust": ["crates/**/*.rt", "crates/**/*.antt", "bindings/rust/**/*.rs", "examples/rust/*.rs", "crates.txt"],
     "c": ["c/*.[ch]", "examples/**/*.[ch]", "bench/*.[ch]"],
     "python": ["bindings/python/**/*.py", "examples/**/*.py"],
-    "go": ["bindings/go/*.go", "examples/go/*"],
+    "go": ["bindings/go/*.go", "examples/go/**/*.go", "examples/go/go.mod"],
 }
 LANGUAGES = {*EXCERPTS, "console", "sh", "text"}
 BUILT = {".git", "out", "target", "__pycache__"}

@@ -1,11 +1,41 @@
 # The checks of the bindings for Python and Go. tests/install/run has the folders `room`, `top` and `prefix`.
 
+# swap IN OUT: writes a pcap file in the other byte order
+swap() {
+    python3 - "$@" << 'END'
+import struct
+import sys
+
+data = open(sys.argv[1], "rb").read()
+out, at = struct.pack(">IHHiIII", *struct.unpack_from("<IHHiIII", data)), 24
+while at < len(data):
+    record = struct.unpack_from("<IIII", data, at)
+    out += struct.pack(">IIII", *record) + data[at + 16 : at + 16 + record[2]]
+    at += 16 + record[2]
+open(sys.argv[2], "wb").write(out)
+END
+}
+
+# reads_captures COMMAND..: this pcap reader of examples prints the recorded lines in either byte order and with times in
+# nanoseconds, uses the link type, and rejects what is no pcap file, or is cut.
+reads_captures() {
+    local capture data=$top/tests/data/tools
+    swap examples/echo.pcap "$room/swapped.pcap" && head -c 100 examples/echo.pcap > "$room/cut.pcap" || return 1
+    for capture in "$top/examples/echo.pcap" "$data/nanoseconds.pcap" "$room/swapped.pcap"; do
+        "$@" "$capture" | diff - examples/pcap.txt || return 1
+    done
+    "$@" "$data/raw_ip.pcap" | diff - <(echo 'IPv4 192.0.2.1 > 192.0.2.2 proto=253 len=0 (header checksum incorrect)') &&
+        "$@" "$data/snap.pcap" | finds -F '(checksum cut)' && fails_with 'this is no pcap file' "$@" "$top/README.md" &&
+        ! "$@" "$room/cut.pcap"
+}
+
 # The installed package is that of the source. Its tests and its example find the library by either variable.
 loads_by_python() {
     local package="$prefix/share/ip_wire/python"
     diff -r -x __pycache__ bindings/python/ip_wire "$package/ip_wire" || return 1
     PYTHONPATH=$package IP_WIRE_LIBRARY=$prefix/lib/libip_wire.so python3 -m unittest discover -s bindings/python/tests &&
-        runs "PYTHONPATH='$package' python3 '$top/examples/python/quick.py'" | diff - examples/quick.txt
+        runs "PYTHONPATH='$package' python3 '$top/examples/python/quick.py'" | diff - examples/quick.txt &&
+        reads_captures env PYTHONPATH="$package" LD_LIBRARY_PATH="$prefix/lib" python3 examples/python/read_pcap.py
 }
 
 # The first Python that can build a wheel and has pip without network.
@@ -29,10 +59,17 @@ in_venv() {
     )
 }
 
-# The wheel runs by itself, and its name has the glibc that the library needs. The sources stay as they are.
+# The wheel runs by itself, and its name has the glibc that the library needs. It has the license, and its page links only
+# to what is packed. It is the same at another time and with another umask. The sources stay as they are.
 packs_a_wheel() {
     local wheel glibc
-    wheel=$(PYTHON=$(packer) bindings/python/make-wheel "$room/wheel") || return 1
+    local -x PYTHON SOURCE_DATE_EPOCH=1795737600
+    PYTHON=$(packer)
+    wheel=$(bindings/python/make-wheel "$room/wheel") && (umask 077 && bindings/python/make-wheel "$room/again") &&
+        diff -r "$room/wheel" "$room/again" && "$PYTHON" -m zipfile -e "$wheel" "$room/unpacked" &&
+        [ "$(find "$room/unpacked" -name LICENSE -exec cat {} +)" = "$(< LICENSE)" ] && mkdir "$room/page" &&
+        sed '1,/^$/d' "$room/unpacked"/*.dist-info/METADATA > "$room/page/README.md" && [ -s "$room/page/README.md" ] &&
+        tests/docs/markdown.py --links "$room/page" || return 1
     glibc=$(objdump -T out/lib/libip_wire.so | grep -o 'GLIBC_[0-9.]*' | sort -Vu | tail -n 1)
     [[ $wheel == "$room/wheel/ip_wire-$(c/version)-py3-none-manylinux_2_"*"_x86_64.whl" ]] &&
         printf '%s\n' "${glibc#GLIBC_}" "$(sed 's/.*manylinux_\([0-9]*\)_\([0-9]*\)_.*/\1.\2/' <<< "$wheel")" | sort -CV &&
@@ -64,5 +101,6 @@ go_in() {
 # The package has its form, no remark and no failing test, and the example uses it.
 builds_by_go() {
     [ -z "$(gofmt -l bindings/go examples/go bench/bindings)" ] && go_in bindings/go vet && go_in bindings/go test &&
-        go_in examples/go vet && go_in examples/go run . | diff - examples/quick.txt
+        go_in examples/go vet ./... && go_in examples/go run . | diff - examples/quick.txt &&
+        reads_captures go_in examples/go run ./pcap
 }

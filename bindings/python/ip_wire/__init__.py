@@ -5,6 +5,28 @@
     print(frame.src, frame.payload)
     data = ip_wire.emit_udp(frame.reply(), b"pong")
 
+Calls by task; `help(ip_wire.parse_frame)` describes one call:
+
+    read                parse_frame, parse_frames, parse_frame_options, parse_packet; Frame.check, Frame.payload
+    read a capture      parse_linktype, parse_captured, parse_link
+    one line, names     str(frame), protocol_name, ethertype_name
+    reply               Frame.reply, Frame.headers
+    ICMP errors         Frame.parse_quoted, Interface.emit_error
+    write a frame       emit_udp, emit_tcp, emit_icmp, emit_arp, emit_ndisc, rebuild
+    around a payload    wrap_udp, wrap_tcp (into a buffer that has the payload)
+    write one header    emit_ethernet_header, emit_arp_packet, emit_ip_header, emit_udp_packet, emit_tcp_segment,
+                        emit_icmp_message
+    other headers       parse_tcp_options, raw_tcp_options, tcp_header_len, ipv6_headers, parse_ndisc
+    edit a frame        set_hop_limit, set_dscp, set_addr, set_port, set_bytes, fill_checksum
+    host                Host.answer
+    router              Routes.choose, Routes.check_source, forward, clamp_mss
+    NAT                 Nat.translate_out, Nat.translate_in, translate
+    fragments           fragments, Reassembler.reassemble, Reassembler.expire
+    texts               parse_addr, print_addr, parse_endpoint, str(endpoint), parse_block, print_block,
+                        parse_ethernet, print_ethernet
+    addresses           contains, is_unicast, is_multicast
+    numbers             checksum, update_checksum, update_checksum_bytes, add_seq, subtract_seq, compare_seq
+
 It needs Python 3.8 or later, and no other package. The shared library is the file that the environment variable
 IP_WIRE_LIBRARY names, else the one in this package, else the installed one. The import fails if there is none, or if
 the processor is older than x86-64-v2.

@@ -50,6 +50,7 @@ class Link:
 
 
 _LINE = 276  # LK_FRAME_TEXT
+_ERRORS = (3, 4, 5, 11, 12)  # the types of ICMP errors over IPv4
 
 
 @dataclass(frozen=True)
@@ -58,29 +59,46 @@ class Frame:
 
     The headers before a rejected one are there, and the payload begins at the rejected header. So call `check`
     first, if the payload is to be trusted.
+
+        data                what was parsed
+        reason              why a header was rejected; None: none was
+        ethernet            None also if a packet was parsed, or a link type other than 1
+        network, transport  the headers that were read
+        arp, ip, tcp, icmp  their values; `tcp` also of a header that was rejected
+        src, dst            of ARP or IP; the port is 0 unless a UDP or TCP header is there, or begins in a fragment
+        protocol            the number of the transport or the payload of an IP packet, after IPv6 extension headers
+        is_fragment         a part of an IP packet, so only ports of its payload are there
+        rejected            the header that was rejected, but has its ports in `src` and `dst`
+        tcp_header          the bytes of the header that was read, with its options; else empty
+        ipv4_checksum       what the checksum of the IPv4 header says
+        transport_checksum  what that of UDP, TCP or ICMP says
+        network_offset      of the ARP or IP header in `data`
+        transport_offset    of the UDP, TCP or ICMP header
+        payload_offset      of the payload
+        payload_len         of the whole frame: the payload may end past the captured bytes
     """
 
     data: bytes = field(repr=False)
-    reason: Optional[Reason]  # None: no header was rejected
-    ethernet: Optional[Ethernet]  # None also if a packet was parsed, or a link type other than 1
+    reason: Optional[Reason]
+    ethernet: Optional[Ethernet]
     network: Optional[Network]
     arp: Optional[Arp]
     ip: Optional[Ip]
-    src: Optional[Endpoint]  # of ARP or IP; the port is 0 unless a UDP or TCP header is there, or begins in a fragment
+    src: Optional[Endpoint]
     dst: Optional[Endpoint]
-    protocol: Optional[int]  # the number of the transport or the payload of an IP packet, after IPv6 extension headers
+    protocol: Optional[int]
     is_fragment: bool
     transport: Optional[Transport]
-    rejected: Optional[Transport]  # the header that was rejected, but has its ports in `src` and `dst`
-    tcp: Optional[Tcp]  # the header that was read or rejected
-    tcp_header: bytes  # of the header that was read, with its options; else empty
+    rejected: Optional[Transport]
+    tcp: Optional[Tcp]
+    tcp_header: bytes
     icmp: Optional[Icmp]
     ipv4_checksum: Verdict
     transport_checksum: Verdict
     network_offset: Optional[int]
     transport_offset: Optional[int]
     payload_offset: int
-    payload_len: int  # of the whole frame: the payload may end past the captured bytes
+    payload_len: int
     _struct: bytes = field(repr=False, compare=False)
 
     def __str__(self) -> str:
@@ -107,11 +125,27 @@ class Frame:
         return Headers(ethernet, self.src, self.dst, self.ip)
 
     def reply(self) -> Headers:
-        """Addresses and ports are exchanged. The IP header is that of a new packet, with the same DSCP."""
+        """The headers of a reply: addresses and ports are exchanged. The IP header is that of a new packet, with the same
+        DSCP. Raises ValueError unless it is an IP packet."""
         frame = to_c(c.Frame, self.headers(), "headers")
         call("lk_reply", frame)
         ends = from_c(Endpoint, frame.src), from_c(Endpoint, frame.dst)
         return Headers(from_c(Ethernet, frame.ethernet), *ends, from_c(Ip, frame.ip))
+
+    def parse_quoted(self) -> Optional[Frame]:
+        """Parses the packet that an ICMP error quotes, as far as it is quoted. Call `check` of the error first.
+
+        Returns None if this is no ICMP error. Errors are of type 3, 4, 5, 11 and 12 over IPv4 (RFC 1122, section 3.2.2),
+        and below 128 over IPv6 (RFC 4443, section 2.1). Offsets count from the first byte of the quoted packet.
+
+        A header that is not quoted as a whole is rejected with HEADER_CUT. RFC 792 asks only for 8 bytes after the IP
+        header: then a TCP header is cut, and its ports are the first 4 bytes of the payload. Extensions of RFC 4884 may
+        count as bytes of the quoted packet.
+        """
+        if self.icmp is None:
+            return None
+        is_error = self.icmp.type in _ERRORS if self.network == Network.IPV4 else self.icmp.type < 128
+        return parse_captured(self.payload, c.MAX_LEN, is_packet=True) if is_error else None
 
 
 # ---- how the values of a parsed frame are made
@@ -222,7 +256,7 @@ def _parse(read: Callable[..., int], data: bytes, *length: int, is_ethernet: boo
 
 
 def parse_frame(data: Data) -> Frame:
-    """Parses an Ethernet frame."""
+    """Parses an Ethernet frame. A wrong frame raises nothing: `Frame.check` does."""
     return _parse(_read_frame, data_of(data))
 
 

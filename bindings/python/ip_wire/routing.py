@@ -24,7 +24,8 @@ def _accept(rejection: int) -> None:
 
 
 def forward(frame: Data, src: bytes, dst: bytes) -> bytes:
-    """The Ethernet frame one hop later: with these Ethernet addresses, and a hop limit that is one less."""
+    """The Ethernet frame one hop later (RFC 1812, section 5.3.1): with these Ethernet addresses, and a hop limit that is one
+    less. Raises Rejected with NOT_IP, BAD_HEADER, WRONG_CHECKSUM or EXPIRED."""
     out = copied(frame)
     _accept(call("lk_forward", out, src, dst))
     return bytes(out)
@@ -44,9 +45,13 @@ class Offload(IntEnum):
 
 
 def clamp_mss(frame: Data, max_seg_size: int, *, offload: Offload = Offload.GUESS) -> bytes:
-    """The Ethernet frame, where the maximum segment size of a TCP SYN is `max_seg_size` at most.
+    """The Ethernet frame, where the maximum segment size of a TCP SYN is `max_seg_size` at most. A router does so with each
+    frame that comes in or leaves by a link with a smaller MTU: to the MTU less 40 over IPv4, and less 60 over IPv6.
 
-    The TCP checksum is updated. One that is left to the device is unchanged.
+    - Of several such options the last counts. A SYN without one stays as it is.
+    - A valid TCP checksum stays valid, and a wrong one wrong. One that is left to the device is unchanged.
+    - A frame stays as it is if `parse_frame` rejects a header, and if it is a fragment, has a wrong IPv4 header checksum,
+      or has IPv6 extension headers before TCP.
     """
     out = copied(frame)
     call("lk_clamp_mss_as", out, max_seg_size, member_of(Offload, offload, "offload"))

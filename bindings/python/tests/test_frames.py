@@ -25,6 +25,15 @@ OPTIONS = TcpOptions(1460, 7, True, (), (3, 4))
 OPTION_BYTES = bytes.fromhex("020405b4 030307 0402 080a 00000003 00000004 00")
 
 
+# Linux sent both errors about UDP packets to a closed port on its loopback device: the place of the type, and the error.
+QUOTES = [
+    (34, bytes.fromhex("000000000000 000000000000 0800 45c0003cb9fb00004001c2037f0000017f000001 0303354b00000000"
+                       "4500002026b64000401116157f0000017f000001 d5cb14e9000cfe1f 70696e67")),
+    (54, bytes.fromhex("000000000000 000000000000 86dd"
+                       "6006125f003c3a400000000000000000000000000000000100000000000000000000000000000001 0104964600000000"
+                       "60092d35000c11400000000000000000000000000000000100000000000000000000000000000001 d5cb14e9000c001f 70696e67")),
+]  # fmt: skip
+
 # Scapy packed it: hop-by-hop options, and UDP with the payload f1f2f3.
 EXTENDED = bytes.fromhex(
     "02a1a2a3a4a502b1b2b3b4b586dd6becdef10013003e20010db800000000000000000000000120010db8000000000000000000000002"
@@ -94,6 +103,26 @@ class Reading(unittest.TestCase):
             self.assertEqual((frame.src.port, frame.payload_offset), (0, frame.transport_offset + 8))
             with self.assertRaises(Rejected):
                 ip_wire.parse_frame(data[:-1] + b"b").check()
+
+    def test_quoted(self):
+        for place, data in QUOTES:
+            frame = ip_wire.parse_frame(data)
+            frame.check()
+            quoted = frame.parse_quoted()
+            quoted.check()
+            self.assertEqual((quoted.src.port, quoted.dst.port, quoted.payload), (54731, 5353, b"ping"))
+            self.assertEqual((quoted.ethernet, quoted.network, quoted.parse_quoted()), (None, frame.network, None))
+            quoted = ip_wire.parse_captured(data[:-4], sys.maxsize).parse_quoted()
+            self.assertEqual((quoted.dst.port, quoted.payload, quoted.payload_len), (5353, b"", 4))
+            self.assertEqual(quoted.transport_checksum, Verdict.CHECKSUM_CUT)
+            others = (bytes([*data[:place], kind, *data[place + 1 :]]) for kind in range(256))
+            errors = [kind for kind, other in enumerate(others) if ip_wire.parse_frame(other).parse_quoted()]
+            self.assertEqual(errors, [3, 4, 5, 11, 12] if place == 34 else list(range(128)))
+        data = bytearray(QUOTES[0][1])
+        data[42 + 3], data[42 + 9] = 64, 6  # 44 bytes of TCP
+        quoted = ip_wire.parse_captured(data[:70], sys.maxsize).parse_quoted()
+        self.assertEqual((quoted.reason, quoted.payload), (Reason.HEADER_CUT, data[62:70]))
+        self.assertIsNone(ip_wire.parse_frame(ip_wire.emit_udp(IPV4, b"ping")).parse_quoted())
 
     def test_rejected(self):
         data = bytearray(ip_wire.emit_tcp(IPV4, Tcp(flags=TcpFlag.SYN)))

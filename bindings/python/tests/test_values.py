@@ -30,6 +30,16 @@ class Declarations(unittest.TestCase):
         with open(HEADER, encoding="ascii") as file:
             cls.header = re.sub(r"/\*.*?\*/", " ", file.read(), flags=re.S)
 
+    def test_docstrings(self):
+        """The table of the package has each call, and names only what is there. Each call and method has a docstring."""
+        table = set(re.findall(r"\w+(?:\.\w+)*", ip_wire.__doc__.split("one call:")[1].split("\n\nIt needs")[0]))
+        calls = {name for name in ip_wire.__all__ if name.islower() and name != "__version__"}
+        methods = {word for word in table if word.split(".")[0] in ip_wire.__all__ and "." in word}
+        self.assertEqual(calls - table, set())
+        for word in {*calls, *methods}:
+            owner, _, name = word.rpartition(".")
+            self.assertTrue(getattr(getattr(ip_wire, owner, ip_wire), name).__doc__, word)
+
     def test_numbers(self):
         enums = {"lk_reason": (Reason, 1), "lk_network": (Network, 1), "lk_transport": (Transport, 1),
                  "lk_verdict": (Verdict, 0), "lk_problem": (Problem, 1), "lk_rejection": (Rejection, 1),

@@ -144,6 +144,44 @@ impl<'a> Frame<'a> {
         })
     }
 
+    /// Parses the packet that an ICMP error quotes, as far as it is quoted. Call [`Frame::check`] of the error first.
+    ///
+    /// - `None`: this is no ICMP error. Errors are of type 3, 4, 5, 11 and 12 over IPv4 (RFC 1122, section 3.2.2), and
+    ///   below 128 over IPv6 (RFC 4443, section 2.1).
+    /// - Offsets count from the first byte of the quoted packet.
+    /// - A header that is not quoted as a whole is rejected with [`Reason::HeaderCut`]. RFC 792 asks only for 8 bytes after
+    ///   the IP header: then a TCP header is cut, and its ports are the first 4 bytes of the payload.
+    /// - Extensions of RFC 4884 may count as bytes of the quoted packet.
+    ///
+    /// ```
+    /// # use ip_wire::{Ethernet, EthernetAddr, Frame, Headers, Interface, Ip, Problem};
+    /// # let (src, dst) = ("192.0.2.1:4000".parse().unwrap(), "198.51.100.7:53".parse().unwrap());
+    /// # let (mut out, mut error) = ([0; 64], [0; 590]);
+    /// # let hardware = EthernetAddr([2, 0, 0, 0, 0, 1]);
+    /// # let ethernet = Ethernet::new(EthernetAddr([2, 0, 0, 0, 0, 9]), hardware);
+    /// # let sent = Headers { ethernet, src, dst, ip: Ip::default() }.emit_udp(b"ping", &mut out).unwrap();
+    /// # let own = Interface { hardware, ipv4: [192, 0, 2, 254].into(), ipv6: 0.into() };
+    /// # let bytes = own.emit_error(Problem::RouteMissing, sent, &mut error).unwrap().unwrap();
+    /// let frame = Frame::parse(bytes);
+    /// frame.check()?;
+    /// if let Some(quoted) = frame.parse_quoted() {
+    ///     // The packet that did not arrive.
+    ///     assert_eq!(quoted.src(), "192.0.2.1:4000".parse().ok());
+    ///     assert_eq!(quoted.dst(), "198.51.100.7:53".parse().ok());
+    /// }
+    /// # assert!(frame.parse_quoted().is_some() && Frame::parse(sent).parse_quoted().is_none());
+    /// # Ok::<(), ip_wire::Defect>(())
+    /// ```
+    #[must_use]
+    pub fn parse_quoted(&self) -> Option<Self> {
+        let icmp = self.icmp()?;
+        let is_error = match self.network()? {
+            Network::Ipv4 => matches!(icmp.icmp_type, 3 | 4 | 5 | 11 | 12),
+            _ => icmp.icmp_type < 128,
+        };
+        is_error.then(|| Self::parse_captured_packet(self.payload(), MAX_LEN))
+    }
+
     #[inline]
     fn read(bytes: &'a [u8], is_packet: bool, call: impl FnOnce(Library, &mut sys::Frame) -> c_int) -> Self {
         let mut fields = sys::Frame::default();

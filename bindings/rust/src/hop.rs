@@ -57,6 +57,16 @@ impl Side {
 ///
 /// Any [`Rejection`] from [`NotIp`](Rejection::NotIp) to [`ZeroPort`](Rejection::ZeroPort) but
 /// [`Expired`](Rejection::Expired). The frame is unchanged then. The source port of UDP may be 0.
+///
+/// ```
+/// # use ip_wire::{translate, Ethernet, Frame, Headers, Ip, Rejection, Side};
+/// # let (src, dst) = ("192.0.2.1:4000".parse().unwrap(), "198.51.100.7:53".parse().unwrap());
+/// # let mut out = [0; 64];
+/// # let frame = Headers { ethernet: Ethernet::default(), src, dst, ip: Ip::default() }.emit_udp(b"ping", &mut out).unwrap();
+/// translate(frame, Side::Destination, "192.0.2.80:8080".parse().unwrap())?;
+/// assert_eq!(Frame::parse(frame).dst(), "192.0.2.80:8080".parse().ok());
+/// # Ok::<(), Rejection>(())
+/// ```
 pub fn translate(frame: &mut [u8], side: Side, end: SocketAddrV4) -> Result<(), Rejection> {
     let (ptr, len) = (frame.as_mut_ptr(), frame.len());
     // SAFETY: there are `len` bytes at `ptr`, and the call reads only the endpoint.
@@ -87,9 +97,28 @@ impl Offload {
     }
 }
 
-/// Lowers the maximum segment size of a TCP SYN in an Ethernet frame to `max_seg_size`, and updates the TCP checksum.
-/// One that is left to the device ([`Offload::Guess`]) is unchanged. Returns `false` if there is no larger size. Then the
-/// frame is unchanged.
+/// Lowers the maximum segment size of a TCP SYN in an Ethernet frame to `max_seg_size`, and updates the TCP checksum
+/// (RFC 1624). A router does so with each frame that comes in or leaves by a link with a smaller MTU: to the MTU less 40
+/// over IPv4, and less 60 over IPv6. Returns `false` if there is no larger size. Then the frame is unchanged.
+///
+/// - Of several such options the last counts. A SYN without one stays as it is.
+/// - A valid checksum stays valid, and a wrong one wrong. One that is left to the device ([`Offload::Guess`]) is unchanged,
+///   because it does not cover the option.
+/// - A frame stays as it is if [`Frame::parse`](crate::Frame::parse) rejects a header, and if it is a fragment, has a wrong
+///   IPv4 header checksum, or has IPv6 extension headers before TCP.
+///
+/// ```
+/// # use ip_wire::{clamp_mss, Ethernet, Frame, Headers, Ip, Tcp, TcpFlags, TcpOptions};
+/// # let (src, dst) = ("192.0.2.1:4000".parse().unwrap(), "198.51.100.7:80".parse().unwrap());
+/// # let headers = Headers { ethernet: Ethernet::default(), src, dst, ip: Ip::default() };
+/// # let tcp = Tcp { flags: TcpFlags::SYN, ..Tcp::default() };
+/// # let options = TcpOptions { max_seg_size: Some(1460), ..TcpOptions::default() };
+/// # let mut out = [0; 64];
+/// # let syn = headers.emit_tcp(&tcp, &options, b"", &mut out).unwrap();
+/// assert!(clamp_mss(syn, 1412)); // PPPoE: an MTU of 1452
+/// assert_eq!(Frame::parse(syn).tcp_options().unwrap().max_seg_size, Some(1412));
+/// assert!(!clamp_mss(syn, 1412));
+/// ```
 pub fn clamp_mss(frame: &mut [u8], max_seg_size: u16) -> bool {
     // SAFETY: there are `len` bytes at `frame`.
     unsafe { library().lk_clamp_mss(frame.as_mut_ptr(), frame.len(), max_seg_size) != 0 }

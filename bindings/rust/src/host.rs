@@ -43,6 +43,38 @@ impl Host<'_> {
     /// # Errors
     ///
     /// [`Error::NoRoom`]
+    ///
+    /// ```
+    /// use ip_wire::{EthernetAddr, Frame, Host, SeqNumber};
+    /// # use ip_wire::{Ethernet, Headers, Icmp, Ip};
+    /// # let random = || 4;
+    ///
+    /// let host = Host {
+    ///     open_ports: &[80],
+    ///     open_udp_ports: &[],
+    ///     ipv4: [192, 0, 2, 2].into(),
+    ///     ipv6: "2001:db8::2".parse().unwrap(),
+    ///     hardware: EthernetAddr([2, 0, 0, 0, 0, 2]),
+    ///     echo_port: None,
+    ///     seq_number: SeqNumber(random()),
+    ///     tsval: 0,
+    ///     window_len: 65535,
+    ///     max_seg_size: 1460,
+    ///     window_scale: 0,
+    ///     is_router: false,
+    /// };
+    /// # let ethernet = Ethernet::new(EthernetAddr([2, 0, 0, 0, 0, 1]), host.hardware);
+    /// # let (src, dst) = ("192.0.2.1:0".parse().unwrap(), "192.0.2.2:0".parse().unwrap());
+    /// # let echo = Icmp { icmp_type: 8, ..Icmp::default() };
+    /// # let (mut out, mut room) = ([0; 1514], [0; 64]);
+    /// # let headers = Headers { ethernet, src, dst, ip: Ip::default() };
+    /// # let ping = headers.emit_icmp(&echo, b"data", &mut room).unwrap();
+    /// if let Some(answer) = host.answer(ping, &mut out)? {
+    ///     assert_eq!(Frame::parse(answer).icmp().unwrap().icmp_type, 0); // an echo reply
+    /// }
+    /// # assert!(host.answer(ping, &mut out)?.is_some());
+    /// # Ok::<(), ip_wire::Error>(())
+    /// ```
     pub fn answer<'o>(&self, frame: &[u8], out: &'o mut [u8]) -> Result<Option<&'o mut [u8]>, Error> {
         let host = sys::Host {
             open_ports: self.open_ports.as_ptr(),

@@ -154,6 +154,28 @@ impl Interface {
     /// # Errors
     ///
     /// [`Error::NoRoom`]. A buffer of 1294 bytes always suffices.
+    ///
+    /// ```
+    /// use ip_wire::{EthernetAddr, Frame, Interface, Problem};
+    /// # use ip_wire::{Ethernet, Headers, Ip};
+    /// # let (src, dst) = ("192.0.2.1:4000".parse().unwrap(), "198.51.100.7:53".parse().unwrap());
+    /// # let mut room = [0; 64];
+    /// # let ethernet = Ethernet::new(EthernetAddr([2, 0, 0, 0, 0, 9]), EthernetAddr([2, 0, 0, 0, 0, 1]));
+    /// # let frame = Headers { ethernet, src, dst, ip: Ip::default() }.emit_udp(b"ping", &mut room).unwrap();
+    ///
+    /// let own = Interface {
+    ///     ipv4: [192, 0, 2, 254].into(),
+    ///     ipv6: "2001:db8::fe".parse().unwrap(),
+    ///     hardware: EthernetAddr([2, 0, 0, 0, 0, 1]),
+    /// };
+    /// let mut out = [0; 1294];
+    /// if let Some(error) = own.emit_error(Problem::RouteMissing, frame, &mut out)? {
+    ///     let error = Frame::parse(error);
+    ///     assert_eq!(error.icmp().unwrap().icmp_type, 3); // destination unreachable
+    /// }
+    /// # assert!(own.emit_error(Problem::RouteMissing, frame, &mut out)?.is_some());
+    /// # Ok::<(), ip_wire::Error>(())
+    /// ```
     pub fn emit_error<'o>(
         &self,
         problem: Problem,

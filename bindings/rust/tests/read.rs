@@ -1,9 +1,12 @@
 //! Frames and packets are parsed.
 
 mod common;
+#[allow(dead_code, reason = "other tests use the rest")]
+mod worked;
 
 use common::{ipv4, ipv6, CLIENT, SERVER};
 use ip_wire::*;
+use worked::bytes;
 
 fn udp(headers: &Headers, payload: &[u8]) -> Vec<u8> {
     headers.emit_udp(payload, &mut [0; 200]).unwrap().to_vec()
@@ -279,4 +282,48 @@ fn a_frame_is_a_line() {
     );
     let nothing = "Ethernet 00-00-00-00-00-00 > 00-00-00-00-00-00 type=0x0000 len=0 (too short)";
     assert_eq!(Frame::parse(&[]).to_string(), nothing);
+}
+
+/// Linux sent both errors about UDP packets to a closed port on its loopback device. By hand: other types, and quotes of 8
+/// bytes of UDP and of TCP.
+#[test]
+fn a_quoted_packet_is_parsed() {
+    const IPV4: &str = "000000000000 000000000000 0800 45c0003cb9fb00004001c2037f0000017f000001 0303354b00000000 \
+        4500002026b64000401116157f0000017f000001 d5cb14e9000cfe1f 70696e67";
+    const IPV6: &str = "000000000000 000000000000 86dd \
+        6006125f003c3a400000000000000000000000000000000100000000000000000000000000000001 0104964600000000 \
+        60092d35000c11400000000000000000000000000000000100000000000000000000000000000001 d5cb14e9000c001f 70696e67";
+    for (text, icmp_type, quote) in [(IPV4, 34, 42), (IPV6, 54, 62)] {
+        let mut data = bytes(text);
+        let frame = Frame::parse(&data);
+        assert_eq!(frame.check(), Ok(()));
+        let quoted = frame.parse_quoted().unwrap();
+        assert_eq!((quoted.bytes(), quoted.rejected()), (&data[quote..], None));
+        assert_eq!((quoted.src().unwrap().port(), quoted.dst().unwrap().port()), (54731, 5353));
+        assert_eq!((quoted.payload(), quoted.payload_len()), (&b"ping"[..], 4));
+        assert_eq!((quoted.ethernet(), quoted.parse_quoted()), (None, None));
+
+        let cut = data.len() - 4;
+        let cut = Frame::parse_captured(&data[..cut], usize::MAX);
+        let quoted = cut.parse_quoted().unwrap();
+        assert_eq!(
+            (quoted.dst().unwrap().port(), quoted.payload(), quoted.payload_len()),
+            (5353, &b""[..], 4)
+        );
+        assert_eq!(quoted.transport_checksum(), Some(Verdict::ChecksumCut));
+
+        let errors: Vec<u8> = (0..=255)
+            .filter(|&it| {
+                data[icmp_type] = it;
+                Frame::parse(&data).parse_quoted().is_some()
+            })
+            .collect();
+        let wanted: Vec<u8> = if quote == 42 { vec![3, 4, 5, 11, 12] } else { (0..128).collect() };
+        assert_eq!(errors, wanted);
+    }
+    let mut data = bytes(IPV4);
+    (data[42 + 3], data[42 + 9]) = (64, 6); // 44 bytes of TCP
+    assert_eq!(Frame::parse(&data[..70]).parse_quoted(), None); // the IP header that is not quoted is rejected
+    let quoted = Frame::parse_captured(&data[..70], usize::MAX).parse_quoted().unwrap();
+    assert_eq!((quoted.rejected(), quoted.payload()), (Some(Reason::HeaderCut), &data[62..70]));
 }
