@@ -25,10 +25,15 @@ GROUPS = {
 }
 # What types come first below a heading, by the end of their names.
 ORDER = "Frame", "Packet", "Header", "Repr", "Address", "Cidr"
-# A row is shown if it has all words that were typed.
-SEARCH = """<script>q.hidden=0;q.oninput=()=>{const w=q.value.toLowerCase().split(/\\s+/);let n=0;names.open=q.value.length>1;
-for(const r of names.querySelectorAll("tr")){const t=r.textContent.toLowerCase();r.hidden=!w.every(one=>t.includes(one));
-n+=!r.hidden}none.hidden=n>0}</script>"""
+# A row is shown if words of it begin with all that was typed, or else, if there is none, if it has all of that in it.
+SEARCH = """<script>q.hidden=0;{const plain=t=>t.toLowerCase().replace(/[^a-z0-9]+/g," ");
+const rows=[...names.querySelectorAll("tr")].map(r=>[r,r.textContent.toLowerCase(),
+" "+plain([...r.cells].map(c=>c.textContent).join(" ").replace(/([a-z0-9])([A-Z])/g,"$1 $2"))]);
+q.oninput=()=>{const w=q.value.toLowerCase().trim().split(/\\s+/);names.open=q.value.length>1;
+let found=rows.filter(r=>w.every(one=>r[2].includes(" "+plain(one))));
+if(!found.length)found=rows.filter(r=>w.every(one=>r[1].includes(one)));
+const shown=new Set(found.map(r=>r[0]));none.hidden=found.length>0;
+for(const r of rows)r[0].hidden=!shown.has(r[0])}}</script>"""
 CONDITIONS = """<p>A condition is a fact that the caller must prove before the call. If its conditions are met, every
 call of these libraries returns, and is safe on any bytes. <b>A call without a row has no condition.</b></p>
 <ul><li>A getter of a view requires only the bytes that it reads. After <code>check_len</code> returns <code>Ok</code>,

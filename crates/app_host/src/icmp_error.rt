@@ -23,7 +23,7 @@ use wire_icmp::{IcmpPacket, IcmpRepr, protocol_of};
 /// section 4.3.2.3).
 const IPV4_QUOTE_LEN: usize = 548;
 
-/// The same of IPv6, for at most 1,280 bytes (RFC 4443, section 2.4 c).
+/// The most bytes that an error of IPv6 quotes, so that its packet has at most 1,280 bytes (RFC 4443, section 2.4 c).
 const IPV6_QUOTE_LEN: usize = 1232;
 
 /// A frame with an ICMP error about the packet of a frame, to its sender. It quotes as much of the packet

@@ -37,11 +37,11 @@ pub struct Nat {
     /// How long a UDP mapping lives after the last packet of its inside host. RFC 4787, REQ-5: at
     /// least 2 minutes, 5 by default.
     pub udp_timeout: u64,
-    /// The same of a TCP mapping with an established connection. RFC 5382, REQ-5: at least 2 hours
-    /// and 4 minutes.
+    /// How long a TCP mapping with an established connection lives after its last packet from inside. RFC 5382,
+    /// REQ-5: at least 2 hours and 4 minutes.
     pub tcp_timeout: u64,
-    /// The same of a TCP mapping whose connection opens or closes. RFC 5382, REQ-5: at least 4
-    /// minutes.
+    /// How long a TCP mapping whose connection opens or closes lives after that packet. RFC 5382, REQ-5:
+    /// at least 4 minutes.
     pub tcp_transitory_timeout: u64,
     /// How long an ICMP mapping lives after the last echo request of its inside host. RFC 5508, REQ-2:
     /// at least 60 seconds.

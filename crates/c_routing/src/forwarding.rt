@@ -7,8 +7,8 @@ use app_router::forward;
 use c_structs::MAX_LEN;
 use ip_wire::EthernetAddress;
 
-/// Forwards the packet of a frame between two stations, in place: one hop less, and new link addresses. Returns 0, or
-/// the number of the reason.
+/// Forwards the packet of a frame between two hosts, in place: one hop less, and new link addresses. Returns 0, or
+/// the number of the reason; then the frame is unchanged.
 pub fn forward_frame(frame: &mut [u8], src: &[u8; 6], dst: &[u8; 6]) -> i32
     ensures { Forwards frame.old frame.new (ethernet_addr src.now) (ethernet_addr dst.now) result }
 {

@@ -110,7 +110,8 @@ fn table_failure(nodes: &[Node], room: usize) -> Option<Failure>
     }
 }
 
-/// The place of the route with the longest prefix that contains an address, of several the first; -1 if there is none.
+/// The place of the route with the longest prefix that contains an address, or -1 if there is none. Of equal blocks the
+/// first route counts.
 #[inline(never)]
 pub fn choose_route(nodes: &[Node], addr: &Addr) -> isize
     ensures { (routes : List Route) → IsIndexOf routes (in_bounds nodes.now) → Chooses routes addr.now result }
