@@ -22,18 +22,18 @@
  * A call that does something begins with its verb: `parse` and `print` are for texts, `read` and `emit` for
  * headers. A call that only tells something is named after it, as lk_tcp_header_len.
  *
- * A program for version 0.2 must be compiled anew, and these are the changes that it may need:
+ * A program for version 0.3 must be compiled anew, and these are the changes that it may need:
  *
- * - A NAT needs LK_MAPPINGS(ports) mappings, which are three for each outside port. With the two of version 0.2
- *   it has fewer ports, and no call fails. The mappings have another order (lk_translate_out).
- * - `struct lk_nat` has a new field before `outside`: `icmp_timeout`. If it is 0, no echo reply comes in.
- * - `struct lk_host` has two new fields before `ipv4`, the UDP ports that the program itself serves, and `is_router`
- *   at its end.
- * - A frame with an ICMP message has the transport LK_ICMP. Its payload begins after the ICMP header, which is
- *   in the new field `icmp` of `struct lk_frame`.
- * - A host answers more frames: echo requests, neighbour solicitations, and UDP packets to closed ports.
- * - A host echoes UDP only to ports above `echo_port`, from 1024 on.
- * - NAT translates ICMP messages, which got LK_OTHER_PROTOCOL. */
+ * - `struct lk_frame` has a new field, `protocol`, in the place of the first unused byte: the number of what follows the
+ *   IPv6 extension headers. `ip.protocol` is that in the IP header, as before.
+ * - A frame with IPv6 extension headers has the transport and the payload after them. Before, it had no transport, and its
+ *   payload began at the first of them. LK_HOPS_LEFT and LK_BAD_ORDER are new reasons to reject one.
+ * - A first fragment of UDP or TCP has its ports in `src` and `dst`. A program that takes a port for a header has to look
+ *   at `transport`, which is LK_NO_TRANSPORT as before.
+ * - Edits step through IPv6 extension headers. An address is not written if a checksum covers it that is not updated, as
+ *   that of UDP-Lite (lk_set_addr).
+ * - A host sends parameter problems, and answers nothing to an own address that no single host may have (lk_answer).
+ * - The failures LK_DONT_FRAGMENT and LK_DROPPED are new, and so is the problem LK_FRAGMENT_MISSING. */
 #ifndef IP_WIRE_H
 #define IP_WIRE_H
 
@@ -45,7 +45,7 @@ extern "C" {
 #endif
 
 #define LK_VERSION_MAJOR 0
-#define LK_VERSION_MINOR 3
+#define LK_VERSION_MINOR 4
 #define LK_VERSION_PATCH 0
 
 /* Returns the version of the library that is linked: major * 65536 + minor * 256 + patch. */

@@ -36,14 +36,18 @@ WIDTH = 120
 VERSIONS = [
     ("README.md", "Release {version},"),
     ("SECURITY.md", "the newest version, {series}."),
+    ("bindings/go/README.md", "require lerkvist.example/ipwire v{version}"),
     ("bindings/rust/Cargo.toml", '\nversion = "{version}"'),
     ("bindings/rust/Cargo.lock", '\nname = "ip_wire"\nversion = "{version}"'),
     ("bindings/rust/build.rs", "ip_wire >= {version} ip_wire < {next}"),
     ("bindings/rust/build.rs", "the C library ip_wire {series} ("),
     ("bindings/rust/src/lib.rs", "another version than {series} of"),
+    ("bindings/rust/tests/texts.rs", "assert_eq!((major, minor), ({major}, {minor}));"),
     ("crates/c_exports/src/read_calls.rt", "VERSION_MAJOR: u32 = {major};"),
     ("crates/c_exports/src/read_calls.rt", "VERSION_MINOR: u32 = {minor};"),
     ("crates/c_exports/src/read_calls.rt", "VERSION_PATCH: u32 = {patch};"),
+    ("crates/c_exports/src/read_calls.rt", "result ≡ {number} "),
+    ("docs/C.md", "`libip_wire.so.{series}`"),
     ("examples/cmake/CMakeLists.txt", "find_package(ip_wire {series} REQUIRED)"),
     ("examples/go/go.mod", "require lerkvist.example/ipwire v{version}"),
     ("examples/ip_dump", 'VERSION = "{version}"'),
@@ -210,7 +214,7 @@ def with_version(text, said, header):
     """A text that says the version in this way, with the version of the header. None if it does not say it."""
     major, minor, patch = version_of(header)
     words = {"major": major, "minor": minor, "patch": patch, "series": f"{major}.{minor}", "version": f"{major}.{minor}.{patch}",
-             "next": f"{major}.{int(minor) + 1}.0"}
+             "next": f"{major}.{int(minor) + 1}.0", "number": (int(major) << 16) + (int(minor) << 8) + int(patch)}
     pattern = re.sub(r"\\{\w+\\}", r"[0-9]+(?:[.][0-9]+)*", re.escape(said))
     return re.sub(pattern, lambda _: said.format(**words), text) if re.search(pattern, text) else None
 

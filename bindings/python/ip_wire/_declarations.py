@@ -72,7 +72,7 @@ Mapping = _declare(
     state=c_uint8, shared=c_uint8, unused=c_uint8 * 2
 )
 
-VERSION = "0.3.0"
+VERSION = "0.4.0"
 DATA = (c_char_p, c_size_t)  # bytes that are read
 OUT = (c_void_p, c_size_t)  # a buffer that is written
 # Of each call the result and the parameters. A pair is a pointer with a length. A struct or array is a pointer to one.

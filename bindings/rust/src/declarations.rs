@@ -2,7 +2,7 @@
 
 /// The version of these declarations. Another minor version may have other structs.
 #[allow(dead_code)]
-pub const VERSION: (u32, u32) = (0, 3);
+pub const VERSION: (u32, u32) = (0, 4);
 
 structs! {
     #[derive(Default)]

@@ -44,7 +44,7 @@
 //! # Panics
 //!
 //! The library needs an x86-64-v2 processor (SSE4.2 and POPCNT). On an older one each call panics, but
-//! for [`cpu_supported`]. So it does if another version than 0.3 of the shared library was loaded.
+//! for [`cpu_supported`]. So it does if another version than 0.4 of the shared library was loaded.
 //! Nothing else panics.
 
 #![no_std]
