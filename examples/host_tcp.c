@@ -262,7 +262,8 @@ static int is_older(const struct connection *a, const struct connection *b)
 }
 
 /* Returns a free place, else that of the oldest connection which is half open. Else it resets the connection whose peer
- * is silent for the longest time, if that is as long as the user time-out. Else it returns null. */
+ * is silent for the longest time, if that is as long as the user time-out. Else it returns null. Keep-alive would find
+ * such peers after two hours at the earliest (RFC 9293, section 3.8.4). */
 static struct connection *find_place(void)
 {
     struct connection *place = connections;

@@ -90,7 +90,8 @@ def main(programs):
     shell.stdin.close()
     if not any(found for _, found in sections(page)):
         sys.exit("tests/kernel: wrong: docs/ROUTER.md has no command")
-    print(*(line for line in lines if line.startswith("day: ")), sep="\n")
+    for line in [line for line in lines if line.startswith("day: ")]:
+        print(line)
     print(f"docs/ROUTER.md: {count} commands, each prints what the page shows")
 
 

@@ -92,7 +92,7 @@ def silent_peers(pair, clock):
     clock.sleep(begin + USER_TIMEOUT + 20 - clock.now())
     clock.segments(0)
     clock.sends(new, 0, 0, SYN)
-    found = clock.segments(30, 2)
+    found = clock.segments(200, 2)
     check("place of a silent peer", [place[:3] for place in found] == [(first, RST, 0), (new, SYN, 0)], found)
     clock.sends(new, 1, (found[-1][3] + 1) % 2**32, ACK)
     is_rejected = answer_to(clock.wire, new + 1, 0, 0, SYN)[2] & RST
