@@ -1,7 +1,7 @@
 //! One mapping, and how packets change it.
 
 ghost use Rattle.std.specs.Prelude.{◌≡◌, ◌<◌, ◌↔◌, IsTrue};
-ghost use Rattle.app_nat.specs.Mapping.{IsOf, after_inbound, after_outbound, expiry, inside_of, is_remote, is_shared, new_mapping};
+ghost use Rattle.app_nat.specs.Mapping.{IsOf, after_end, after_inbound, after_outbound, expiry, inside_of, is_remote, is_shared, new_mapping};
 
 use crate::nat::Nat;
 use crate::state::{Event, Protocol, TcpState};
@@ -131,6 +131,14 @@ impl Mapping {
         if !event.ends_connection() || self.is_shared(remote) {
             return *self;
         }
+        self.after_end(nat, now, event)
+    }
+
+    // The mapping after the end of the connection with its only remote endpoint.
+    #[inline(never)]
+    fn after_end(&self, nat: &Nat, now: u64, event: Event) -> Mapping
+        ensures { result ≡ after_end nat.now now event self.now }
+    {
         Mapping {
             expires: self
                 .expires
@@ -139,7 +147,7 @@ impl Mapping {
             remote: self.remote,
             inside_port: self.inside_port,
             remote_port: self.remote_port,
-            state: TcpState::Closing.byte(),
+            state: TcpState::of(self.state).next(false, event).byte(),
             shared: self.shared,
             unused: self.unused,
         }
