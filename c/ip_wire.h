@@ -1273,15 +1273,17 @@ struct lk_mapping {
  * - A mapping belongs to one inside endpoint, whatever the remote endpoints are (RFC 4787, REQ-1). What any remote
  *   endpoint sends to its outside port comes in (REQ-8).
  * - An endpoint without a live mapping gets a new one. Its port is its own port if free, else the first free one of 63
- *   candidates in a row, chosen by a keyed hash of the endpoint. With fewer outside ports all are candidates.
- *   LK_NO_FREE_PORT: none of these is free.
+ *   candidates. They are spread evenly over all outside ports, from a port on and with a step that a keyed hash of the
+ *   endpoint chooses. With fewer outside ports all are candidates. LK_NO_FREE_PORT: none of these is free.
  * - One inside host can take every port. A program limits the mappings of each host, as `nat -m` of examples/ does.
  * - A mapping is live until its time-out has passed since the last packet of its inside endpoint. Packets that come in
  *   do not keep it alive (REQ-6).
  * - A TCP mapping has `tcp_transitory_timeout` after its inside endpoint sent SYN, FIN or RST, and `tcp_timeout` after
- *   it sent another segment. After FIN or RST, also of the remote endpoint, such a segment restarts only
+ *   it sent another segment. After FIN, also of the remote endpoint, such a segment restarts only
  *   `tcp_transitory_timeout`, until the inside endpoint sends SYN. FIN or RST that comes in restarts no time-out, but
  *   leaves at most `tcp_transitory_timeout`. From an endpoint to which nothing was sent, it changes nothing.
+ * - Sequence numbers are not checked, so a RST may be forged. It ends a mapping only if the inside endpoint sends
+ *   nothing for `tcp_transitory_timeout` after it (RFC 6146, section 3.5.2.2; RFC 7857, section 2.2).
  * - When the inside endpoint of a TCP mapping sends to a second remote endpoint, the mapping serves several. From this
  *   packet on FIN and RST that come in change nothing. SYN, FIN and RST that the inside endpoint sends restart the
  *   time-out that the mapping has, and another segment gives it `tcp_timeout`.

@@ -1,25 +1,28 @@
 /* A NAT on TAP devices and on interfaces of the kernel (Linux). docs/ROUTER.md shows how to start it.
- *     nat [-k] [-m COUNT] FILE OUTSIDE INSIDE..
+ *     nat [-k] [-m COUNT] [-f PROTOCOL:ADDRESS:PORT].. FILE OUTSIDE INSIDE..
  * The interfaces and FILE are those of router.c. Packets to OUTSIDE get its first IPv4 address, and ports of this
  * address lead back to the hosts inside. Between inside interfaces packets are routed as they are. Only UDP, TCP, ping
  * and ICMP errors over IPv4 pass OUTSIDE: other ICMP messages and IPv6 are dropped. Fragments are put together, in any
  * order, and the packet leaves in fragments again. -k: the kernel has the addresses of the inside interfaces too, and
  * answers for them. It must not have the outside one: it would reset connections that it does not know. -m: the most
- * ports and echo identifiers that one inside address has at a time (RFC 6888, REQ-4). */
+ * ports and echo identifiers that one inside address has at a time (RFC 6888, REQ-4). -f: this port outside leads to
+ * the same port of a host inside, also before the host has sent anything. */
 #define _GNU_SOURCE
 #include "routing/router.h"
 
 #include <stdlib.h>
 #include <sys/random.h>
 
-enum { OUTSIDE = 0, FIRST_PORT = 1024, PORTS = 65536 - FIRST_PORT, MAPPINGS = LK_MAPPINGS(PORTS), MOST_OF_ONE = 4096 };
+enum { OUTSIDE = 0, FIRST_PORT = 1024, PORTS = 65536 - FIRST_PORT, MAPPINGS = LK_MAPPINGS(PORTS), MOST_OF_ONE = PORTS / 4 };
 enum { UDP = 17, TCP = 6, ECHO_REQUEST = 8 };
+enum { MOST_FORWARDS = 64, BETWEEN_USES = 60000 }; /* in milliseconds */
 
 static const char help[] =
-    "usage: nat [-k] [-m COUNT] FILE OUTSIDE INSIDE..\n"
+    "usage: nat [-k] [-m COUNT] [-f PROTOCOL:ADDRESS:PORT].. FILE OUTSIDE INSIDE..\n"
     "Gives packets to the interface OUTSIDE its IPv4 address, and forwards them.\n"
     "  -k        leaves packets to the inside addresses to the kernel, which has them\n"
-    "  -m COUNT  the most ports that one inside address has at a time, 4096 by default\n"
+    "  -m COUNT  the most ports that one inside address has at a time, 16128 by default\n"
+    "  -f WORD   udp:ADDRESS:PORT or tcp:ADDRESS:PORT: the port outside that leads there\n"
     "  FILE      has addresses, routes and neighbours: docs/ROUTER.md\n"
     "  OUTSIDE, INSIDE  packet:NAME, an interface of the kernel, or tap:NAME, a TAP device\n"
     "  --help    prints this\n"
@@ -30,6 +33,13 @@ static struct lk_nat nat = {
     .first_port = FIRST_PORT};
 static struct lk_mapping *mappings;
 static struct limit *limit;
+
+static struct forward {
+    int is_tcp;
+    struct lk_endpoint inside;
+} forwards[MOST_FORWARDS];
+static size_t forward_count;
+static int64_t next_use; /* of the mappings of forwarded ports, in milliseconds */
 
 typedef int translate(const struct lk_nat *nat, struct lk_mapping *mappings, size_t count, uint64_t now, uint8_t *frame,
                       size_t len);
@@ -63,6 +73,25 @@ static int translated_out(const struct router *router, struct packet *packet)
     return is_within ? rejection : ABOVE_LIMIT;
 }
 
+/* The mapping of a forwarded port stays, because it is used again in time. At first the port is free. */
+static void use_forwards(struct router *router)
+{
+    static struct packet packet;
+    if (router->now < next_use)
+        return;
+    next_use = router->now + BETWEEN_USES;
+    for (const struct forward *one = forwards; one < forwards + forward_count; one++) {
+        const struct lk_tcp_options none = {0};
+        struct lk_frame headers = {.src = one->inside, .dst = one->inside, .ip.hop_limit = 1, .tcp.flags = LK_ACK};
+        ptrdiff_t len = one->is_tcp ? lk_emit_tcp_frame(&headers, &none, NULL, 0, packet.frame, LONGEST_FRAME)
+                                    : lk_emit_udp_frame(&headers, NULL, 0, packet.frame, LONGEST_FRAME);
+        packet.len = (size_t)len;
+        if (translated_out(router, &packet) != LK_NOT_REJECTED ||
+            place_of(packet.frame) % PORTS != (size_t)one->inside.port - FIRST_PORT)
+            print(&router->errors, "nat: port %d is not forwarded: it is in use\n", one->inside.port);
+    }
+}
+
 static void store_dst(const struct packet *packet, struct lk_addr *dst)
 {
     *dst = (struct lk_addr){.version = 4};
@@ -80,6 +109,7 @@ static int before_route(struct router *router, uint16_t from, const struct lk_fr
                         struct lk_addr *dst)
 {
     int is_to_outside = is_outside_address(dst), rejection = LK_NOT_REJECTED;
+    use_forwards(router);
     if (is_to_outside ? in->transport == LK_ICMP && in->icmp.type == ECHO_REQUEST : from != OUTSIDE)
         return LK_NOT_REJECTED;
     if (from != OUTSIDE)
@@ -127,8 +157,10 @@ static const char *find_outside_address(const struct router *router, const struc
         const struct address *one = &config->addresses[i];
         if (one->interface != OUTSIDE || one->block.addr.version != 4)
             continue;
-        if (memcmp(nat.outside, one->block.addr.octets, 4) != 0)
+        if (memcmp(nat.outside, one->block.addr.octets, 4) != 0) {
             memset(mappings, 0, MAPPINGS * sizeof *mappings);
+            next_use = 0;
+        }
         memcpy(nat.outside, one->block.addr.octets, 4);
         return NULL;
     }
@@ -147,6 +179,20 @@ static size_t read_count(const char *word)
     return 0;
 }
 
+/* Reads what -f says. Returns 0 if it is wrong, with a message. */
+static int read_forward(const char *word)
+{
+    struct forward one = {.is_tcp = strncmp(word, "tcp:", 4) == 0};
+    if (forward_count < MOST_FORWARDS && (one.is_tcp || strncmp(word, "udp:", 4) == 0) &&
+        lk_parse_endpoint(word + 4, strlen(word + 4), &one.inside) && one.inside.addr.version == 4 &&
+        one.inside.port >= FIRST_PORT) {
+        forwards[forward_count++] = one;
+        return 1;
+    }
+    fprintf(stderr, "nat: %s: not udp:ADDRESS:PORT or tcp:ADDRESS:PORT, with a port from %d on\n", word, FIRST_PORT);
+    return 0;
+}
+
 int main(int argc, char **argv)
 {
     static struct router router = {.name = "nat", .before_route = before_route, .before_send = before_send,
@@ -156,9 +202,11 @@ int main(int argc, char **argv)
     prepare();
     opterr = 0;
     int is_help = asks_for_help(argc, argv);
-    for (int letter; !is_help && (letter = getopt(argc, argv, "+km:")) != -1;) {
-        if (letter != 'k' && letter != 'm')
+    for (int letter; !is_help && (letter = getopt(argc, argv, "+km:f:")) != -1;) {
+        if (letter != 'k' && letter != 'm' && letter != 'f')
             return print_help(help, 0);
+        if (letter == 'f' && !read_forward(optarg))
+            return 2;
         router.kernel_answers |= letter == 'k';
         if (letter == 'm' && (most = read_count(optarg)) == 0)
             return 2;

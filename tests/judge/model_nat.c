@@ -9,15 +9,17 @@ struct packet {
     struct lk_endpoint remote;
     int has_syn;
     int has_end; /* FIN or RST */
+    int has_rst;
 };
 
 static struct packet packet_of(const struct lk_frame *frame, const struct lk_endpoint *inside,
                                const struct lk_endpoint *remote)
 {
-    struct packet packet = {frame->transport, *inside, *remote, 0, 0};
+    struct packet packet = {frame->transport, *inside, *remote, 0, 0, 0};
     if (packet.transport == LK_TCP) {
         packet.has_syn = (frame->tcp.flags & LK_SYN) != 0;
         packet.has_end = (frame->tcp.flags & (LK_FIN | LK_RST)) != 0;
+        packet.has_rst = (frame->tcp.flags & LK_RST) != 0;
     }
     return packet;
 }
@@ -69,8 +71,8 @@ static struct model_mapping *mapping_of_inside(struct model_table *table, int tr
 
 /* ---- ports ---- */
 
-/* The port of a new mapping; 0: none. `chosen` is what the library took, since the 63 ports in a row follow from a
- * hash that the header does not name. If there are no more, it must be the first free one. */
+/* The port of a new mapping; 0: none. `chosen` is what the library took, since its 63 candidates follow from a
+ * hash that the header does not name. With fewer ports all are candidates. */
 static unsigned port_for(const struct lk_nat *nat, struct model_table *table, size_t count, const struct packet *packet,
                          uint64_t now, unsigned chosen)
 {
@@ -84,9 +86,7 @@ static unsigned port_for(const struct lk_nat *nat, struct model_table *table, si
             taken++;
         else
             first = nat->first_port + (unsigned)i;
-    if (ports <= 63)
-        return first;
-    if (taken >= 63 && chosen == 0)
+    if ((taken >= 63 || taken == ports) && chosen == 0)
         return 0;
     if (is_outside_port(nat, count, chosen) && !mapping_of_port(table, packet->transport, chosen, now))
         return chosen;
@@ -100,11 +100,17 @@ static uint64_t later(uint64_t now, uint64_t timeout)
     return timeout > UINT64_MAX - now ? UINT64_MAX : now + timeout;
 }
 
+/* After a RST the connection may go on (RFC 6146, section 3.5.2.2), but not after a FIN. */
+static enum model_phase phase_after_end(const struct model_mapping *mapping, const struct packet *packet)
+{
+    return packet->has_rst && mapping->phase != MODEL_CLOSING ? MODEL_OPENING : MODEL_CLOSING;
+}
+
 static void note_flags(struct model_mapping *mapping, const struct packet *packet)
 {
     int is_shared = mapping->has_many_remotes;
     if (packet->has_end)
-        mapping->phase = is_shared ? mapping->phase : MODEL_CLOSING;
+        mapping->phase = is_shared ? mapping->phase : phase_after_end(mapping, packet);
     else if (packet->has_syn)
         mapping->phase = is_shared && mapping->phase == MODEL_ESTABLISHED ? MODEL_ESTABLISHED : MODEL_OPENING;
     else if (is_shared || mapping->phase != MODEL_CLOSING)
@@ -137,7 +143,7 @@ static void note_inbound(const struct lk_nat *nat, struct model_mapping *mapping
     uint64_t end = later(now, nat->tcp_transitory_timeout);
     if (!packet->has_end || mapping->has_many_remotes || !is_same(&mapping->remote, &packet->remote))
         return;
-    mapping->phase = MODEL_CLOSING;
+    mapping->phase = phase_after_end(mapping, packet);
     if (end < mapping->expires)
         mapping->expires = end;
 }

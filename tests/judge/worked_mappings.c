@@ -33,17 +33,17 @@ static int pass(enum way way, uint64_t now, struct octets *frame)
 #define TO_REQUEST {{34, 0x08}, {36, 0x7c}}
 #define ID_0 {{37, 0x2e}, {39, 0}}
 
-/* A packet of 192.0.2.3 port 7000 to the outside port 40000. Then its source is port 40001 outside, and then its
+/* A packet of 192.0.2.3 port 7000 to the outside port 40000. Then its source is port 39999 outside, and then its
  * destination is that of the mapping. */
 #define SENT                                                                                                     \
     {{24, 0xa6}, {25, 0xca}, {29, 0x03}, {30, 0xcb}, {32, 0x71}, {33, 0x09},                                     \
      {34, 0x1b}, {35, 0x58}, {36, 0x9c}, {37, 0x40}, {40, 0x6b}, {41, 0x5f}}
 #define BETWEEN                                                                                                  \
     {{24, 0x2c}, {25, 0xc4}, {26, 0xcb}, {28, 0x71}, {29, 0x09}, {30, 0xcb}, {32, 0x71},                         \
-     {33, 0x09}, {34, 0x9c}, {35, 0x41}, {36, 0x9c}, {37, 0x40}, {40, 0x70}, {41, 0x6f}}
+     {33, 0x09}, {34, 0x9c}, {35, 0x3f}, {36, 0x9c}, {37, 0x40}, {40, 0x70}, {41, 0x71}}
 #define DELIVERED                                                                                                \
     {{24, 0xa6}, {25, 0xcc}, {26, 0xcb}, {28, 0x71}, {29, 0x09}, {33, 0x01},                                     \
-     {34, 0x9c}, {35, 0x41}, {36, 0xb5}, {37, 0xe3}, {40, 0xd0}, {41, 0xd4}}
+     {34, 0x9c}, {35, 0x3f}, {36, 0xb5}, {37, 0xe3}, {40, 0xd0}, {41, 0xd6}}
 
 /* A frame goes through a NAT: through that of the row above if `first_port` is 0. If it is not rejected, it becomes
  * `wanted`. Then the mappings of the first port expire: of UDP, TCP and ICMP. */
@@ -75,7 +75,7 @@ static const struct {
     /* the own port of the source is an outside port */
     {46500, 100, 0, OUT, 0, &query, AS_IT_IS, &query_out, {{34, 0xb5}, {35, 0xe3}, {40, 0x58}, {41, 0x2c}}, {0}},
     /* two inside hosts */
-    {40000, 2, 0, OUT, 0, &query, AS_IT_IS, &query_out, AS_IT_IS, {300000}},
+    {39999, 2, 0, OUT, 0, &query, AS_IT_IS, &query_out, AS_IT_IS, {0}},
     {0, 0, 0, OUT, 0, &query, SENT, &query, BETWEEN, {300000}},
     {0, 0, 0, IN, 0, &query, BETWEEN, &query, DELIVERED, {300000}},
     /* Frames that do not go out make no mapping. The last one finds the only port in use. */
@@ -240,9 +240,9 @@ static const struct flow {
     GOES(0, UDP, 2, 1100, 1, 80, 1100, 300000),
     GOES(0, UDP, 2, 1024, 1, 80, 1024, 300000),
     GOES(0, UDP, 2, 1151, 1, 80, 1151, 300000),
-    GOES(0, UDP, 3, 1100, 1, 80, 1086, 300000),
-    GOES(0, UDP, 3, 1152, 1, 80, 1041, 300000),
-    GOES(0, UDP, 3, 53, 1, 80, 1071, 300000),
+    GOES(0, UDP, 3, 1100, 1, 80, 1136, 300000),
+    GOES(0, UDP, 3, 1152, 1, 80, 1143, 300000),
+    GOES(0, UDP, 3, 53, 1, 80, 1031, 300000),
     GOES(0, SYN, 3, 1100, 1, 80, 1100, 240000),
     COMES(0, ACK, 1024, 1, 80, 0, 0, 0),
     /* one port for all remote endpoints */
@@ -276,7 +276,7 @@ static const struct flow {
     GOES(0, UDP, 4, 65535, 1, 80, 0, 0),
     BEGINS(0, 8),
     GOES(0, UDP, 2, 1, 1, 80, 0, 0),
-    /* a connection that the remote host closes */
+    /* a connection that the remote host closes; the inside host accepts no RST that comes in */
     BEGINS(1024, 3),
     GOES(0, SYN, 2, 1024, 1, 80, 1024, 240000),
     COMES(10, SYN, 1024, 1, 80, 2, 1024, 240000),
@@ -289,6 +289,12 @@ static const struct flow {
     GOES(80, SYN, 2, 1024, 1, 80, 1024, 240080),
     GOES(90, ACK, 2, 1024, 1, 80, 1024, 7440090),
     GOES(100, RST, 2, 1024, 1, 80, 1024, 240100),
+    GOES(110, ACK, 2, 1024, 1, 80, 1024, 7440110),
+    COMES(120, RST, 1024, 1, 80, 2, 1024, 240120),
+    GOES(130, PSH, 2, 1024, 1, 80, 1024, 7440130),
+    GOES(140, FIN, 2, 1024, 1, 80, 1024, 240140),
+    COMES(150, RST, 1024, 1, 80, 2, 1024, 240140),
+    GOES(160, ACK, 2, 1024, 1, 80, 1024, 240160),
     /* PSH is data */
     BEGINS(1024, 3),
     GOES(0, SYN, 2, 1024, 1, 80, 1024, 240000),
@@ -329,15 +335,15 @@ static const struct flow {
     BEGINS(1024, 6),
     GOES(0, UDP, 2, 1024, 1, 80, 1024, 300000),
     GOES(0, SYN, 3, 1024, 1, 80, 1024, 240000),
-    GOES(0, ECHO, 4, 0, 1, 80, 1024, 60000),
-    GOES(9, ECHO, 4, 1025, 1, 80, 1025, 60009),
+    GOES(0, ECHO, 4, 0, 1, 80, 1025, 60000),
+    GOES(9, ECHO, 4, 1024, 1, 80, 1024, 60009),
     GOES(9, ECHO, 5, 1024, 1, 80, 0, 0),
     COMES(9, UDP, 1025, 1, 80, 0, 0, 0),
     COMES(9, ACK, 1025, 1, 80, 0, 0, 0),
     COMES(9, UDP, 1024, 1, 80, 2, 1024, 300000),
     COMES(9, ACK, 1024, 1, 80, 3, 1024, 240000),
-    COMES(59999, ECHO, 1024, 2, 80, 4, 0, 60000),
-    COMES(60000, ECHO, 1024, 2, 80, 0, 0, 0),
+    COMES(59999, ECHO, 1025, 2, 80, 4, 0, 60000),
+    COMES(60000, ECHO, 1025, 2, 80, 0, 0, 0),
 };
 
 static uint64_t expires(enum kind kind, uint16_t port)
@@ -381,6 +387,48 @@ static void follow_flows(void)
         }
         CHECK_ROW(i, flow->way == OUT ? goes_out(flow) : comes_in(flow, flow->kind));
         CHECK_ROW(i, flow->expires == 0 || expires(flow->kind, flow->port) == flow->expires);
+    }
+}
+
+/* ---- many ports ---- */
+
+enum { PORTS = 65536 - 1024 };
+
+static struct lk_mapping many[LK_MAPPINGS(PORTS)];
+
+/* The outside port of a packet from 192.168.0.LAST. 0: no candidate is free. The model has no room for these. */
+static unsigned port_of(uint8_t last, unsigned port)
+{
+    const struct lk_endpoint inside = inside_of((struct end){last, (uint16_t)port});
+    struct octets frame = packet(UDP, OUT, &inside, &inside);
+    int result = lk_translate_out(&nat, many, LK_MAPPINGS(PORTS), 0, frame.at, frame.len);
+    return result == LK_NO_FREE_PORT ? 0 : port_in(&frame, UDP, OUT);
+}
+
+/* An endpoint has 63 candidates, 1,022 ports apart. Each of them becomes that of another host. */
+static void try_each_candidate(void)
+{
+    begin_nat(1024, 0);
+    memset(many, 0, sizeof many);
+    for (unsigned i = 0, port = 47367; i < 63; i++, port = 1024 + (port - 1024 + 1022) % PORTS) {
+        CHECK_ROW(i, port_of(3, 53) == port);
+        many[port - 1024].inside[3] = 2;
+    }
+    CHECK(port_of(3, 53) == 0);
+}
+
+/* Ports in a row belong to one host: the first one, and how many. Another one uses so many of these: it gets others. */
+static void share_ports(void)
+{
+    static const unsigned rows[][3] = {{20000, 10000, 10000}, {1024, 60000, 1000}};
+    for (size_t i = 0; i < sizeof rows / sizeof *rows; i++) {
+        const unsigned first = rows[i][0], end = first + rows[i][1];
+        begin_nat(1024, 0);
+        memset(many, 0, sizeof many);
+        for (unsigned port = first; port < end; port++)
+            CHECK_ROW(i, port_of(2, port) == port);
+        for (unsigned port = first; port < first + rows[i][2]; port++)
+            CHECK_ROW(i, port_of(3, port) % 65536 - first >= rows[i][1] && port_of(3, port) != 0);
     }
 }
 
@@ -434,7 +482,7 @@ static void take_any_bytes(void)
     outside.port = 1024;
     CHECK(passes_by(&to_0, IN, UDP, &outside) == LK_ZERO_PORT);
     CHECK(passes_by(&strange, OUT, SYN, &inside) == LK_NO_FREE_PORT);
-    CHECK(passes_by(&strange, OUT, ECHO, &stranger) == 0 && passed_to == 1024);
+    CHECK(passes_by(&strange, OUT, ECHO, &stranger) == 0 && passed_to == 1026); /* its first candidate */
     begin_nat(0, 14);
     outside.port = 0;
     CHECK(passes_by(&strange, IN, ECHO, &outside) == LK_NO_MAPPING);
@@ -444,6 +492,8 @@ void worked_mappings(void)
 {
     translate_step_by_step();
     follow_flows();
+    try_each_candidate();
+    share_ports();
     know_any_state();
     take_any_bytes();
 }

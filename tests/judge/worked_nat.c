@@ -215,8 +215,9 @@ static void translate_rejects(void)
 
 /* ---- NAT with a table ---- */
 
-/* Two outside ports, 39999 and 40000, which the inside ports of the frames are not. */
-static const struct lk_nat nat = {{1, 2}, 300000, 7440000, 240000, 60000, {203, 0, 113, 9}, 39999, 0};
+/* Two outside ports, 39999 and 40000, which the inside ports of the frames are not. By this key 39999 is the first
+ * candidate of each. */
+static const struct lk_nat nat = {{2, 1}, 300000, 7440000, 240000, 60000, {203, 0, 113, 9}, 39999, 0};
 enum { MAPPINGS = LK_MAPPINGS(2) };
 
 static struct lk_mapping mappings[MAPPINGS];
@@ -320,7 +321,7 @@ static void translate_tcp(void)
     CHECK(segment(0, LK_ACK, &client, &server) == 0 && segment(10, LK_FIN | LK_ACK, &server, &outside) == 0);
     lives(__LINE__, 10, 240000);
     begin_nat();
-    CHECK(segment(0, LK_ACK, &client, &server) == 0 && segment(10, LK_RST, &client, &server) == 0);
+    CHECK(segment(0, LK_ACK, &client, &server) == 0 && segment(10, LK_FIN, &client, &server) == 0);
     CHECK(segment(20, LK_ACK, &client, &server) == 0);
     lives(__LINE__, 20, 240000);
     CHECK(segment(300000, LK_SYN, &client, &server) == 0 && segment(300001, LK_ACK, &client, &server) == 0);

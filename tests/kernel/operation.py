@@ -420,7 +420,10 @@ def added(before, after):
 
 def limits(program, clock):
     """RFC 6888, REQ-4: one inside address has at most so many mappings, and takes nothing from the others."""
-    for options, most in (((), 4096), (("-m", "100"), 100), (("-m", "1"), 1)):
+    with on_taps(start_nat, program) as (nat, sides):
+        found = send_from(nat, sides, (frame_from_left(port=2000 + n) for n in range(16128 + 50)))
+        check("mappings up to the limit by default", found == (16128, 50), found)
+    for options, most in ((("-m", "100"), 100), (("-m", "1"), 1)):
         with on_taps(start_nat, program, options=options) as (nat, sides):
             def sends(count, first=2000, **fields):
                 return send_from(nat, sides, (frame_from_left(port=first + n, **fields) for n in range(count)))

@@ -4,6 +4,7 @@ use Rattle.std.proofs.Math.ListN.{set}
 use Rattle.std.proofs.lemmas.Bool.{cond_both}
 use Rattle.std.proofs.lemmas.List.{get_or_default}
 use Rattle.app_nat.proofs.Places.{place-lt}
+use Rattle.app_nat.proofs.Searches.{first-candidate}
 use Rattle.app_nat.proofs.Tables.{again-table, made-table}
 use Rattle.app_nat.specs.Mapping.{IsOf, after_inbound, after_outbound, inside_of, new_mapping}
 use Rattle.app_nat.specs.State.{protocol_of}
@@ -60,7 +61,7 @@ pub new-table : (nat : Nat) (old : List Mapping) (now : ℕ) (event : Event) (in
     → m ≡ after_outbound nat now event remote (new_mapping inside remote)
     → IsTable nat old now → IsTable nat (set old (place_of nat (length old) (protocol_of event) port) m) now
 new-table nat old now event inside remote port m unmapped first is table =
-    made-table nat old now (protocol_of event) port m inside first.holds.exists first.candidate unmapped (subst (IsOf inside) (sym is) (refl, refl)) table
+    made-table nat old now (protocol_of event) port m inside first.holds.exists (first-candidate first) unmapped (subst (IsOf inside) (sym is) (refl, refl)) table
 
 -- ---- an inbound packet
 

@@ -13,6 +13,7 @@ pub mod NatOnce
 pub mod Places
 pub mod Quotes
 pub mod Residues
+pub mod Searches
 pub mod Tables
 pub mod TcpEnds
 pub mod Translates

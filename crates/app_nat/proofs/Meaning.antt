@@ -1,11 +1,13 @@
 -- What the calls mean: proofs of the laws.
 use Rattle.std.proofs.Common.{ℕ, ◌≡◌, ◌∙◌, ◌<◌, ◌≤◌, inl, inr, Option, Some, None, IfNone, IfSome, List, length, refl, sym, ap, subst, arith}
 use Rattle.std.proofs.Math.ListN.{set, length-set}
+use Rattle.std.proofs.lemmas.Bool.{cases_lt}
+use Rattle.app_nat.proofs.Searches.{first-candidate}
 use Rattle.app_nat.proofs.Places.{other-at, place-apart, same-at}
 use Rattle.app_nat.proofs.Tables.{same-end}
 use Rattle.app_nat.specs.Mapping.{IsOf, after_outbound, expiry, is_shared, new_mapping}
 use Rattle.app_nat.specs.State.{byte_of, next_state, protocol_of, shortest_timeout, state_of, timeout_of}
-use Rattle.app_nat.specs.Table.{Chooses, Finds, HasPort, IsFirst, IsFree, IsFull, IsTable, IsUnmapped, MapsTo, Opens, kept, made, mapping_at, place_of}
+use Rattle.app_nat.specs.Table.{Chooses, Finds, HasPort, IsFirst, IsFirstAt, IsFree, IsFull, IsTable, IsUnmapped, MapsTo, Opens, candidate_at, candidates, kept, made, mapping_at, place_of, ports}
 use Rattle.app_nat.specs.declared.mapping.Ipv4Endpoint.{Ipv4Endpoint}
 use Rattle.app_nat.specs.declared.mapping.Mapping.{Mapping}
 use Rattle.app_nat.specs.declared.nat.Nat.{Nat}
@@ -111,10 +113,10 @@ preserved nat old new now event inside remote (Some port) opens full unmapped fr
   where
     preserved-port : (nat : Nat) (old : List Mapping) (now : ℕ) (event : Event) (inside remote : Ipv4Endpoint) (port : ℕ) (m : Mapping) → Chooses nat old now event inside remote port m
         → IsUnmapped nat old now (protocol_of event) inside → IsFree nat old now (protocol_of event) inside.port → port ≡ inside.port
-    preserved-port nat old now event inside remote port m (kept first) unmapped free = absurd (unmapped port first.candidate first.holds)
-    preserved-port nat old now event inside remote port m (made none first) unmapped free = elim (first.first inside.port (inl refl) free) [
+    preserved-port nat old now event inside remote port m (kept first) unmapped free = absurd (unmapped port (first-candidate first) first.holds)
+    preserved-port nat old now event inside remote port m (made none first) unmapped free = elim first.first [
       | inl same ↦ same
-      | inr following ↦ absurd (following.0 refl)
+      | inr following ↦ absurd (following.0 free)
     ]
 
 independent-port : (nat : Nat) (old : List Mapping) (now : ℕ) (event : Event) (inside remote : Ipv4Endpoint) (port was : ℕ) (m : Mapping) → Chooses nat old now event inside remote port m
@@ -157,30 +159,39 @@ others nat old new now event inside remote (Some port) opens same b q other mapp
 
 -- ---- one outcome
 
-first-once : (P : ℕ → Type 0) (nat : Nat) (len : ℕ) (inside : Ipv4Endpoint) (p q : ℕ) → IsFirst P nat len inside p → IsFirst P nat len inside q → p ≡ q
-first-once P nat len inside p q a b = elim (a.first q b.candidate b.holds) [
-  | inl own ↦ elim (b.first p a.candidate a.holds) [
-    | inl too ↦ own ∙ sym too
-    | inr following ↦ absurd (following.0 own)
+ranked-once : (P : ℕ → Type 0) (number : ℕ → ℕ) (count p q : ℕ) → P p → P q → IsFirstAt P number count p → IsFirstAt P number count q → p ≡ q
+ranked-once P number count p q holds too a b = elim (cases_lt a.rank b.rank) [
+  | inl lower ↦ absurd (b.before a.rank lower (subst P a.is holds))
+  | inr rest ↦ elim (cases_lt b.rank a.rank) [
+    | inl lower ↦ absurd (a.before b.rank lower (subst P b.is too))
+    | inr least ↦ let same : a.rank ≡ b.rank = omega (arith, rest, least) in a.is ∙ ap number same ∙ sym b.is
   ]
-  | inr before ↦ elim (b.first p a.candidate a.holds) [
-    | inl own ↦ absurd (before.0 own)
-    | inr following ↦ omega (arith, before.1, following.1)
+]
+
+first-once : (P : ℕ → Type 0) (nat : Nat) (len : ℕ) (inside : Ipv4Endpoint) (p q : ℕ) → IsFirst P nat len inside p → IsFirst P nat len inside q → p ≡ q
+first-once P nat len inside p q a b = elim a.first [
+  | inl own ↦ elim b.first [
+    | inl too ↦ own ∙ sym too
+    | inr ranked ↦ absurd (ranked.0 (subst P own a.holds))
+  ]
+  | inr ranked ↦ elim b.first [
+    | inl own ↦ absurd (ranked.0 (subst P own b.holds))
+    | inr too ↦ ranked-once P (candidate_at nat len inside) (candidates (ports nat len)) p q a.holds b.holds ranked.1 too.1
   ]
 ]
 
 chosen-port : (nat : Nat) (old : List Mapping) (now : ℕ) (event : Event) (inside remote : Ipv4Endpoint) (p q : ℕ) (m n : Mapping) → Chooses nat old now event inside remote p m
     → Chooses nat old now event inside remote q n → p ≡ q
 chosen-port nat old now event inside remote p q m n (kept a) (kept b) = first-once (λ x. MapsTo nat old now (protocol_of event) x inside) nat (length old) inside p q a b
-chosen-port nat old now event inside remote p q m n (kept a) (made none b) = absurd (none p a.candidate a.holds)
-chosen-port nat old now event inside remote p q m n (made none a) (kept b) = absurd (none q b.candidate b.holds)
+chosen-port nat old now event inside remote p q m n (kept a) (made none b) = absurd (none p (first-candidate a) a.holds)
+chosen-port nat old now event inside remote p q m n (made none a) (kept b) = absurd (none q (first-candidate b) b.holds)
 chosen-port nat old now event inside remote p q m n (made none a) (made too b) = first-once (IsFree nat old now (protocol_of event)) nat (length old) inside p q a b
 
 chosen-mapping : (nat : Nat) (old : List Mapping) (now : ℕ) (event : Event) (inside remote : Ipv4Endpoint) (p q : ℕ) (m n : Mapping) → p ≡ q → Chooses nat old now event inside remote p m
     → Chooses nat old now event inside remote q n → m ≡ n
 chosen-mapping nat old now event inside remote p q m n same (kept a) (kept b) = ap (λ x. after_outbound nat now event remote (mapping_at nat old (protocol_of event) x)) same
-chosen-mapping nat old now event inside remote p q m n same (kept a) (made none b) = absurd (none p a.candidate a.holds)
-chosen-mapping nat old now event inside remote p q m n same (made none a) (kept b) = absurd (none q b.candidate b.holds)
+chosen-mapping nat old now event inside remote p q m n same (kept a) (made none b) = absurd (none p (first-candidate a) a.holds)
+chosen-mapping nat old now event inside remote p q m n same (made none a) (kept b) = absurd (none q (first-candidate b) b.holds)
 chosen-mapping nat old now event inside remote p q m n same (made none a) (made too b) = refl
 
 pub port_once : (nat : Nat) (old new other : List Mapping) (now : ℕ) (event : Event) (inside remote : Ipv4Endpoint) (p q : ℕ) → Opens nat old new now event inside remote p
@@ -196,9 +207,9 @@ table_once nat old new other now event inside remote p q a b =
 
 chosen-room : (nat : Nat) (old : List Mapping) (now : ℕ) (event : Event) (inside remote : Ipv4Endpoint) (p : ℕ) (m : Mapping) → Chooses nat old now event inside remote p m
     → ¬ IsFull nat old now (protocol_of event) inside
-chosen-room nat old now event inside remote p m (kept a) full = (full p a.candidate a.holds.exists).1 a.holds.leads
+chosen-room nat old now event inside remote p m (kept a) full = (full p (first-candidate a) a.holds.exists).1 a.holds.leads
 chosen-room nat old now event inside remote p m (made none a) full =
-    let live = full p a.candidate a.holds.exists in omega (arith, live.0, a.holds.expired)
+    let live = full p (first-candidate a) a.holds.exists in omega (arith, live.0, a.holds.expired)
 
 pub room : (nat : Nat) (old new : List Mapping) (now : ℕ) (event : Event) (inside remote : Ipv4Endpoint) (p : ℕ) → Opens nat old new now event inside remote p
     → ¬ IsFull nat old now (protocol_of event) inside

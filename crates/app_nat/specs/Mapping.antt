@@ -1,6 +1,6 @@
 -- One mapping, and how packets change it.
 -- Pinned by: `worked/mappings`
-use Rattle.std.specs.Prelude.{ℕ, ◌≡◌, ◌+◌, ◌-◌, ◌^◌, ◌==◌, min, Bool, not, ◌&&◌, ◌||◌, if◌then◌else◌, [], ◌∷◌}
+use Rattle.std.specs.Prelude.{ℕ, ◌≡◌, ◌+◌, ◌-◌, ◌^◌, ◌==◌, min, Bool, false, not, ◌&&◌, ◌||◌, if◌then◌else◌, [], ◌∷◌}
 use Rattle.std.specs.Str.{bytes_eq}
 use Rattle.app_nat.specs.State.{byte_of, ends_connection, next_state, protocol_of, state_of, timeout_of}
 use Rattle.app_nat.specs.declared.mapping.Ipv4Endpoint.{Ipv4Endpoint}
@@ -58,10 +58,17 @@ after_outbound nat now event remote m =
       shared = if shared then 1 else 0;
     }
 
--- The mapping after a remote endpoint sent a packet. A FIN or RST of its only remote endpoint ends the connection;
--- nothing else changes the mapping.
+-- the mapping after a FIN or RST of its only remote endpoint: at most the transitory time-out is left
+abbrev pub after_end : Nat → ℕ → Event → Mapping → Mapping
+after_end nat now event m = record m {
+  expires = min m.expires (expiry now (timeout_of nat protocol.Tcp Closing));
+  state = byte_of (next_state false (state_of m.state) event);
+}
+
+-- The mapping after a remote endpoint sent a packet. Only the end of the connection with its only remote endpoint
+-- changes it.
 abbrev pub after_inbound : Nat → ℕ → Event → Ipv4Endpoint → Mapping → Mapping
 after_inbound nat now event remote m =
     if ends_connection event && not (is_shared m remote)
-    then record m { expires = min m.expires (expiry now (timeout_of nat protocol.Tcp Closing)); state = byte_of Closing }
+    then after_end nat now event m
     else m

@@ -37,8 +37,9 @@ byte_of Opening = 0
 byte_of Established = 1
 byte_of Closing = 2
 
--- The state after a packet of the inside host. If the mapping serves more than one remote endpoint (`shared`), the
--- end of one connection does not change it.
+-- The state after a packet of the inside host, or the end of the connection by its only remote endpoint. If the mapping
+-- serves more than one remote endpoint (`shared`), the end of one connection does not change it. After RST the next
+-- segment of the inside host shows that it did not accept it (RFC 6146, section 3.5.2.2).
 abbrev pub next_state : Bool → TcpState → Event → TcpState
 next_state shared state event.Udp = state
 next_state shared state event.Icmp = state
@@ -48,7 +49,8 @@ next_state false Closing (event.Tcp Psh) = Closing
 next_state false state (event.Tcp None) = Established
 next_state false state (event.Tcp Psh) = Established
 next_state false state (event.Tcp Fin) = Closing
-next_state false state (event.Tcp Rst) = Closing
+next_state false Closing (event.Tcp Rst) = Closing
+next_state false state (event.Tcp Rst) = Opening
 next_state true Established (event.Tcp Syn) = Established
 next_state true state (event.Tcp Syn) = Opening
 next_state true state (event.Tcp None) = Established

@@ -1,7 +1,7 @@
 -- The table of mappings: where a mapping may be, which inside endpoint an outside port leads to, and what `open` and
 -- `find` do.
 -- Pinned by: `worked/mappings`
-use Rattle.std.specs.Prelude.{ℕ, ◌≡◌, ◌≢◌, ◌+◌, ◌-◌, ◌*◌, ◌/◌, ◌%◌, ◌<◌, ◌≤◌, ◌==◌, ◌⊎◌, min, if◌then◌else◌, Option, Some, None, List, [], ◌∷◌, length, slice_index, slice_index_or, slice_set}
+use Rattle.std.specs.Prelude.{ℕ, ◌≡◌, ◌+◌, ◌-◌, ◌*◌, ◌/◌, ◌%◌, ◌^◌, ◌<◌, ◌≤◌, ◌==◌, ◌⊎◌, max, min, if◌then◌else◌, Option, Some, None, List, [], ◌∷◌, length, slice_index, slice_index_or, slice_set}
 use Rattle.std.specs.Hash.DefaultHasher as sip
 use Rattle.std.specs.Int.{w16, w64, to_le_bytes}
 use Rattle.app_nat.specs.Mapping.{IsOf, after_inbound, after_outbound, new_mapping}
@@ -74,32 +74,52 @@ hash_of key inside =
     let t = sip.write s (to_le_bytes w64 (slice_index key 1)) in
     sip.finish (sip.write (sip.write t inside.addr) (to_le_bytes w16 inside.port))
 
--- the number of ports in a run: 63, or all if there are fewer
-abbrev pub run_len : ℕ → ℕ
-run_len count = min 63 count
+-- how many candidates an endpoint has beside its own port: 63, or all ports if there are fewer
+abbrev pub candidates : ℕ → ℕ
+candidates count = min 63 count
 
--- the first port of the run of an endpoint, counted from the first outside port
-abbrev pub run_start : List ℕ → ℕ → Ipv4Endpoint → ℕ
-run_start key count inside = hash_of key inside % (count - run_len count + 1)
+-- the widest step with which 63 candidates go round all ports at most once
+abbrev pub widest_step : ℕ → ℕ
+widest_step count = max 1 (count / 63)
 
--- the port is in the run of this endpoint
-pub record IsInRun (nat : Nat) (len : ℕ) (inside : Ipv4Endpoint) (port : ℕ) : Type 0 where
-  pub least : nat.first_port + run_start nat.key (ports nat len) inside ≤ port
-  pub most : port < nat.first_port + run_start nat.key (ports nat len) inside + run_len (ports nat len)
+-- the step from one candidate of an endpoint to the next: up to a 32nd less than the widest, by the hash
+abbrev pub step_of : List ℕ → ℕ → Ipv4Endpoint → ℕ
+step_of key count inside = widest_step count - hash_of key inside / 2 ^ 32 % (widest_step count / 32 + 1)
 
--- the candidates of an inside endpoint: its own port, and then the ports of its run
+-- the first candidate of an endpoint, counted from the first outside port
+abbrev pub start_of : List ℕ → ℕ → Ipv4Endpoint → ℕ
+start_of key count inside = hash_of key inside % max 1 count
+
+-- the outside port that is so many steps after a start; after the last port the first one follows
+abbrev pub port_after : Nat → ℕ → ℕ → ℕ → ℕ → ℕ
+port_after nat count start step rank = nat.first_port + (start + rank * step) % max 1 count
+
+-- the candidate of this rank, from 0 on
+abbrev pub candidate_at : Nat → ℕ → Ipv4Endpoint → ℕ → ℕ
+candidate_at nat len inside rank =
+    let count = ports nat len in port_after nat count (start_of nat.key count inside) (step_of nat.key count inside) rank
+
+-- the port is a candidate of this rank
+pub record HasRank (nat : Nat) (len : ℕ) (inside : Ipv4Endpoint) (port : ℕ) : Type 0 where
+  pub rank : ℕ
+  pub within : rank < candidates (ports nat len)
+  pub is : port ≡ candidate_at nat len inside rank
+
+-- the candidates of an inside endpoint: its own port, and then those with a rank
 abbrev pub IsCandidate : Nat → ℕ → Ipv4Endpoint → ℕ → Type 0
-IsCandidate nat len inside port = (port ≡ inside.port) ⊎ IsInRun nat len inside port
+IsCandidate nat len inside port = (port ≡ inside.port) ⊎ HasRank nat len inside port
 
--- one candidate comes before another, or is the same
-abbrev pub IsNotAfter : Ipv4Endpoint → ℕ → ℕ → Type 0
-IsNotAfter inside port other = (port ≡ inside.port) ⊎ ((other ≢ inside.port) × (port ≤ other))
+-- `number rank` is the first number with a property, of those with a rank below `count`
+pub record IsFirstAt (P : ℕ → Type 0) (number : ℕ → ℕ) (count first : ℕ) : Type 0 where
+  pub rank : ℕ
+  pub within : rank < count
+  pub is : first ≡ number rank
+  pub before : (other : ℕ) → other < rank → ¬ P (number other)
 
--- the first candidate with a property
+-- the first candidate with a property: the own port, or else the one of the lowest rank
 pub record IsFirst (P : ℕ → Type 0) (nat : Nat) (len : ℕ) (inside : Ipv4Endpoint) (port : ℕ) : Type 0 where
-  pub candidate : IsCandidate nat len inside port
   pub holds : P port
-  pub first : (other : ℕ) → IsCandidate nat len inside other → P other → IsNotAfter inside port other
+  pub first : (port ≡ inside.port) ⊎ ((¬ P inside.port) × IsFirstAt P (candidate_at nat len inside) (candidates (ports nat len)) port)
 
 -- no candidate has a live mapping of the endpoint
 abbrev pub IsUnmapped : Nat → List Mapping → ℕ → Protocol → Ipv4Endpoint → Type 0
@@ -147,10 +167,10 @@ pub record Finds (nat : Nat) (old new : List Mapping) (now : ℕ) (event : Event
 
 -- ---- what a search gives
 
--- the first number from low on, and below high, with a property, if there is one
-abbrev pub IsFirstBetween : (ℕ → Type 0) → ℕ → ℕ → Option ℕ → Type 0
-IsFirstBetween P low high None = (port : ℕ) → low ≤ port → port < high → ¬ P port
-IsFirstBetween P low high (Some first) = (low ≤ first) × (first < high) × P first × ((port : ℕ) → low ≤ port → port < first → ¬ P port)
+-- the first of such numbers with a property, if there is one
+abbrev pub Searches : (ℕ → Type 0) → (ℕ → ℕ) → ℕ → Option ℕ → Type 0
+Searches P number count None = (rank : ℕ) → rank < count → ¬ P (number rank)
+Searches P number count (Some first) = P first × IsFirstAt P number count first
 
 -- the port whose mapping is kept, or else the port where a new one is made, or none is free
 abbrev pub Chosen : Nat → List Mapping → ℕ → Protocol → Ipv4Endpoint → Choice → Type 0

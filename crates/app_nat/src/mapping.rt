@@ -1,11 +1,12 @@
 //! One mapping, and how packets change it.
 
-ghost use Rattle.std.specs.Prelude.{◌≡◌, ◌<◌, ◌↔◌, IsTrue};
+ghost use Rattle.std.specs.Prelude.{◌≡◌, ◌<◌, ◌↔◌, IsTrue, false, true};
+ghost use Rattle.app_nat.specs.State.{ends_connection, next_state, state_of};
 ghost use Rattle.app_nat.specs.Mapping.{IsOf, after_inbound, after_outbound, expiry, inside_of, is_remote, is_shared, new_mapping};
 
 use crate::nat::Nat;
 use crate::state::{Event, Protocol, TcpState};
-use ip_wire::Ipv4Address;
+use ip_wire::{Ipv4Address, TcpControl};
 
 /// An IPv4 address, and a port of UDP or TCP or the identifier of an ICMP echo message.
 #[derive(Debug, Clone, Copy, PartialEq, Eq)]
@@ -139,9 +140,21 @@ impl Mapping {
             remote: self.remote,
             inside_port: self.inside_port,
             remote_port: self.remote_port,
-            state: TcpState::Closing.byte(),
+            state: self.state_after_end(event).byte(),
             shared: self.shared,
             unused: self.unused,
+        }
+    }
+
+    // The state after a FIN or RST of its only remote endpoint.
+    #[inline(always)]
+    fn state_after_end(&self, event: Event) -> TcpState
+        requires { ends_connection event ≡ true }
+        ensures { result ≡ next_state false (state_of self.now.state) event }
+    {
+        match event {
+            Event::Tcp(TcpControl::Rst) if self.state != 2 => TcpState::Opening,
+            _ => TcpState::Closing,
         }
     }
 }

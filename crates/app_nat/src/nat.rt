@@ -2,7 +2,7 @@
 
 ghost use Rattle.std.specs.Prelude.{◌≡◌, ◌≢◌, ◌+◌, ◌*◌, ◌≤◌, length};
 ghost use Rattle.app_nat.specs.State.{timeout_of};
-ghost use Rattle.app_nat.specs.Table.{hash_of, place_of, ports, protocols, run_len, run_start};
+ghost use Rattle.app_nat.specs.Table.{candidates, hash_of, place_of, ports, protocols, start_of, step_of};
 ghost use Rattle.app_nat.specs.declared.nat.Nat.{Nat};
 
 use crate::mapping::{Ipv4Endpoint, Mapping};
@@ -25,8 +25,11 @@ pub const ICMP_TIMEOUT: u64 = 60_000;
 // The mappings of an outside port: one for each protocol.
 const PROTOCOLS: usize = 3;
 
-// The candidates of an endpoint, without its own port.
-const RUN_LEN: usize = 63;
+// The most candidates of an endpoint, without its own port.
+const CANDIDATES: usize = 63;
+
+// The part of the widest step by which steps differ.
+const STEPS: usize = 32;
 
 /// The parameters of a NAT. Times are in milliseconds.
 #[repr(C)]
@@ -118,13 +121,18 @@ impl Nat {
         part * (mappings.len() / PROTOCOLS) + (port - usize::from(self.first_port))
     }
 
-    // The first port of the run of an endpoint, counted from the first of so many outside ports.
+    // The first candidate of an endpoint, counted from the first of so many outside ports, and the step to the next.
     #[inline(always)]
-    pub(crate) fn run_start(&self, count: usize, inside: &Ipv4Endpoint) -> usize
+    pub(crate) fn spread(&self, count: usize, inside: &Ipv4Endpoint) -> (usize, usize)
         requires { count ≤ 65536 }
-        ensures { result ≡ run_start self.now.key count inside.now }
+        ensures start { result.0 ≡ start_of self.now.key count inside.now }
+        ensures step { result.1 ≡ step_of self.now.key count inside.now }
     {
-        (self.hash(inside) % (count - run_len(count) + 1) as u64) as usize
+        let hash = self.hash(inside);
+        let widest = (count / CANDIDATES).max(1);
+        let start = (hash % count.max(1) as u64) as usize;
+        let less = (hash >> 32) % (widest / STEPS + 1) as u64;
+        (start, widest - less as usize)
     }
 
     #[tactic(auto, unfolding(crate::specs::Table::hash_of))]
@@ -149,9 +157,9 @@ pub fn mappings_for(port_count: u16) -> usize
     PROTOCOLS * usize::from(port_count)
 }
 
-// The ports of a run.
-pub(crate) fn run_len(count: usize) -> usize
-    ensures { result ≡ run_len count }
+// The candidates of an endpoint, without its own port.
+pub(crate) fn candidates(count: usize) -> usize
+    ensures { result ≡ candidates count }
 {
-    RUN_LEN.min(count)
+    CANDIDATES.min(count)
 }

@@ -45,11 +45,11 @@ impl Event {
 /// The state of a TCP mapping. It decides the time-out.
 #[derive(Debug, Clone, Copy, PartialEq, Eq)]
 pub enum TcpState {
-    /// The connection is being opened: the transitory time-out applies.
+    /// The connection is being opened, or an RST was seen: the transitory time-out applies.
     Opening,
     /// The inside host sent a segment without SYN, FIN and RST.
     Established,
-    /// A FIN or RST was seen: the transitory time-out applies.
+    /// A FIN was seen: the transitory time-out applies, until the inside host sends SYN.
     Closing,
 }
 
@@ -90,6 +90,7 @@ impl TcpState {
             TcpControl::Syn if shared && self == TcpState::Established => TcpState::Established,
             TcpControl::Syn => TcpState::Opening,
             TcpControl::Fin | TcpControl::Rst if shared => self,
+            TcpControl::Rst if self != TcpState::Closing => TcpState::Opening,
             TcpControl::Fin | TcpControl::Rst => TcpState::Closing,
             _ if !shared && self == TcpState::Closing => TcpState::Closing,
             _ => TcpState::Established,

@@ -4,7 +4,7 @@
 ghost use Rattle.std.specs.Prelude.{All, IfSome, List, None, Some, false, length, true, ℕ, ◌<◌, ◌≡◌, ◌≢◌, ◌≤◌};
 ghost use Rattle.app_nat.specs.Mapping.{expiry};
 ghost use Rattle.app_nat.specs.State.{ends_connection, protocol_of, shortest_timeout, state_of, timeout_of};
-ghost use Rattle.app_nat.specs.Table.{IsFree, IsFull, IsTable, IsUnmapped, MapsTo, Opens, free_mapping, mapping_at};
+ghost use Rattle.app_nat.specs.Table.{IsFree, IsFull, IsTable, IsUnmapped, MapsTo, Opens, candidate_at, candidates, free_mapping, mapping_at, ports};
 ghost use Rattle.app_nat.specs.declared.mapping.Ipv4Endpoint.{Ipv4Endpoint};
 ghost use Rattle.app_nat.specs.declared.mapping.Mapping.{Mapping};
 ghost use Rattle.app_nat.specs.declared.state.Protocol.{Protocol};
@@ -157,6 +157,13 @@ pub fn endpoints_have_ports_of_their_own(
     let second = open(nat, mappings, now, other_event, other, other_remote)?;
     Some((port, second))
 }
+
+/// An inside endpoint has as many candidates as its ranks say: no two of them are one port.
+#[tactic(auto, using(crate::proofs::Searches::candidates_apart))]
+pub fn candidates_differ(nat: &Nat, inside: &Ipv4Endpoint)
+    ensures { (len first second : ℕ) → first < second → second < candidates (ports nat.now len)
+        → candidate_at nat.now len inside.now first ≢ candidate_at nat.now len inside.now second }
+{}
 
 /// `open` has one possible outcome.
 #[tactic(auto, using(crate::proofs::Meaning::port_once, crate::proofs::Meaning::room, crate::proofs::Meaning::table_once))]
