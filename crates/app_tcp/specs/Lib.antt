@@ -1,0 +1,4 @@
+pub mod Ring
+pub mod Items
+pub mod Waits
+pub mod Stands

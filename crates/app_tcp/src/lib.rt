@@ -1,0 +1,10 @@
+//! Both halves of a TCP connection over rings in the caller's memory (RFC 9293): what the receiver reads is what the sender
+//! wrote.
+#![tactic(auto)]
+
+mod receiving;
+mod ring;
+mod sending;
+
+pub use receiving::Receiving;
+pub use sending::{Segment, Sending};
