@@ -1,14 +1,15 @@
 -- What is not acknowledged, after each step of the sender.
-use Rattle.std.proofs.Common.{◌≡◌, refl, ℕ, zero, suc, ◌+◌, ◌-◌, ◌%◌, ◌≤◌, ◌<◌, min, max, List, [], ◌∷◌, ◌++◌, Bool, true, false, length, map, take, drop, sym, ◌∙◌, ap, subst, arith, nat_lt, append_assoc}
-use Rattle.std.specs.Prelude.{◌==◌, ◌⊎◌, Option, Some, slice_get}
-use Rattle.std.proofs.lemmas.List.{drop-drop, drop_all, drop-append-le, drop-map, length-append, length-map, length-drop, length-take-le, take-append-le, take-map, take-take, take_all, append-nil, map-append}
-use Rattle.std.proofs.lemmas.Bool.{cond-true, cond-false, cases_lt}
+use Rattle.std.proofs.Common.{◌≡◌, refl, ℕ, suc, ◌+◌, ◌-◌, ◌%◌, ◌≤◌, ◌<◌, max, List, [], ◌∷◌, ◌++◌, Bool, true, false, length, map, take, drop, sym, ◌∙◌, ap, subst, arith, nat_lt, append_assoc}
+use Rattle.std.specs.Prelude.{◌==◌, ◌⊎◌, Option}
+use Rattle.std.proofs.lemmas.List.{drop-drop, drop-append-le, drop-map, length-append, length-map, length-drop, length-take-le, take-append-le, take-map, take-take, take_all, append-nil, map-append}
+use Rattle.std.proofs.lemmas.Bool.{cond-true, cond-false}
 use Rattle.std.proofs.lemmas.Bool.Decides.{nat_tests}
 use mathlib.Core.Logic.{inl, inr}
 use Rattle.tcp_model.specs.Endpoint.{Item, Syn, Byte, Fin, distance, newly}
-use Rattle.tcp_model.specs.Network.{World, Segment, Ack, Event, Write, Close, Send, Ack_comes, happens, stream, number_at, end_of, is_alive, ack_comes, sends}
+use Rattle.tcp_model.specs.Network.{World, Ack, Event, Write, Send, Ack_comes, happens, run, start, stream, number_at, end_of, is_alive, ack_comes, sends}
+use Rattle.tcp_model.proofs.Kept.{good_start, happens_good, run_good}
 use Rattle.app_tcp.specs.Ring.{ring, placed}
-use Rattle.app_tcp.specs.Items.{items_of, syn_of}
+use Rattle.app_tcp.specs.Items.{syn_of}
 use Rattle.app_tcp.specs.Waits.{Waits, AckComes, IsSend, pending, rest_of}
 use Rattle.app_tcp.specs.declared.sending.Sending.{Sending}
 use Rattle.app_tcp.proofs.Places.{ring_drop, ring_front, length-ring}
@@ -176,6 +177,10 @@ cut_items c b skip at n last start len inside is le few fits why =
     subst (λ (l : List Item). map Byte (take n (drop at b)) ++ end_of last ≡ take (length (map Byte (take n (drop at b)) ++ end_of last)) l) (sym rest)
     (subst (λ (l : List ℕ). map Byte l ++ end_of last ≡ take (length (map Byte l ++ end_of last)) (map Byte all ++ end_of c.has_fin)) bytes
     (data_items all n c.has_fin last (omega arith) (λ is_last. ((why is_last).0, omega (arith, (why is_last).1)))))
+
+-- an acknowledgement counts nothing that did not come
+pub ack_counted : (initial : ℕ) (events : List Event) (which : ℕ) → let v : World = happens (run events (start initial)) (Ack_comes which) in v.acked ≤ length v.receiver.got
+ack_counted initial events which = (happens_good (run events (start initial)) (Ack_comes which) (run_good events (start initial) (good_start initial))).counted
 
 short_syn : (syn : Bool) → length (syn_of syn) ≤ 1
 short_syn true = omega arith

@@ -1,12 +1,12 @@
 -- What is received, after each step of the receiver.
 use Rattle.std.proofs.Common.{◌≡◌, ◌⊎◌, inl, inr, refl, ℕ, zero, suc, ◌+◌, ◌-◌, ◌%◌, ◌≤◌, ◌<◌, min, List, [], ◌∷◌, ◌++◌, Bool, true, false, length, map, take, drop, sym, ◌∙◌, ap, subst, arith, append_assoc, nat_lt}
-use Rattle.std.specs.Prelude.{Option, Some, slice_get}
+use Rattle.std.specs.Prelude.{Option}
 use Rattle.std.proofs.Math.Seq.{take-nil}
 use Rattle.std.proofs.lemmas.List.{drop_all, length-append, length-map, length-drop, take_min, take_rest, take-take, take-append-drop, length-take-le, append-nil}
 use Rattle.std.proofs.lemmas.Bool.{cond_both, cond-true, cond-false, false≢true}
 use Rattle.std.proofs.lemmas.Bool.Decides.{nat_tests}
 use Rattle.tcp_model.specs.Endpoint.{Item, Syn, Byte, Fin, Receiver, distance, fresh, accepted, opened, received}
-use Rattle.tcp_model.specs.Network.{World, Segment, Event, Segment_comes, Answer, happens, run, start, segment_comes, end_of, bytes_of, is_ended, is_alive, IsPrefixOf}
+use Rattle.tcp_model.specs.Network.{World, Segment, Event, Segment_comes, happens, run, start, segment_comes, end_of, bytes_of, is_ended, is_alive, IsPrefixOf}
 use Rattle.tcp_model.proofs.Kept.{run_delivers}
 use Rattle.tcp_model.proofs.Streams.{bytes_of_part}
 use Rattle.app_tcp.specs.Stands.{Stands, SegmentComes, IsAnswer, room_of}

@@ -1,4 +1,5 @@
 -- What a segment brings, in sequence numbers (RFC 9293, section 3.4).
+-- Pinned by: `tcp/stream`
 use Rattle.std.specs.Prelude.{ℕ, List, [], ◌∷◌, ◌++◌, map, Bool, true, false}
 use Rattle.tcp_model.specs.Endpoint.{Item, Syn, Byte}
 use Rattle.tcp_model.specs.Network.{end_of}

@@ -1,4 +1,5 @@
 -- Bytes in a buffer that is used as a ring.
+-- Pinned by: `tcp/stream`
 use Rattle.std.specs.Prelude.{ℕ, List, ◌++◌, take, drop, length}
 
 -- the bytes of a buffer in the order of the ring that begins at `start`

@@ -1,5 +1,6 @@
 -- What the state of the receiving half stands for in a history of the network.
-use Rattle.std.specs.Prelude.{ℕ, ◌≡◌, ◌+◌, ◌-◌, List, ◌∷◌, ◌++◌, length, take, Bool, true, if◌then◌else◌, Option, Some, slice_get}
+-- Pinned by: `tcp/stream`
+use Rattle.std.specs.Prelude.{ℕ, ◌≡◌, ◌-◌, List, ◌∷◌, ◌++◌, length, take, true, if◌then◌else◌, Some, slice_get}
 use Rattle.tcp_model.specs.Endpoint.{Item, Receiver}
 use Rattle.tcp_model.specs.Network.{World, Segment, Answer, happens, bytes_of, is_ended, is_alive}
 use Rattle.app_tcp.specs.Ring.{ring}

@@ -1,8 +1,9 @@
 -- What the state of the sending half stands for in a history of the network.
-use Rattle.std.specs.Prelude.{ℕ, ◌≡◌, ◌+◌, ◌≤◌, ◌++◌, List, ◌∷◌, length, map, take, drop, min, Bool, true, false, Option, Some, slice_get}
+-- Pinned by: `tcp/stream`
+use Rattle.std.specs.Prelude.{ℕ, ◌≡◌, ◌+◌, ◌≤◌, ◌++◌, List, ◌∷◌, length, map, take, drop, min, true, false, Some, slice_get}
 use Rattle.tcp_model.specs.Endpoint.{Item, Byte}
-use Rattle.tcp_model.specs.Network.{World, Segment, Ack, Send, happens, stream, end_of, number_at, is_alive}
-use Rattle.app_tcp.specs.Items.{items_of, syn_of}
+use Rattle.tcp_model.specs.Network.{World, Ack, Send, happens, stream, end_of, number_at, is_alive}
+use Rattle.app_tcp.specs.Items.{syn_of}
 use Rattle.app_tcp.specs.Ring.{ring}
 use Rattle.app_tcp.specs.declared.sending.Sending.{Sending}
 

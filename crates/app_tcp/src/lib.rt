@@ -2,9 +2,13 @@
 //! wrote.
 #![tactic(auto)]
 
+pub mod laws;
 mod receiving;
 mod ring;
 mod sending;
 
 pub use receiving::Receiving;
 pub use sending::{Segment, Sending};
+
+#[cfg(test)]
+mod tests;

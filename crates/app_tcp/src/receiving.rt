@@ -1,12 +1,12 @@
 //! The receiving half: what came in order and the application did not read yet (RFC 9293, section 3.3.1).
 
-ghost use Rattle.std.specs.Prelude.{◌≡◌, ◌+◌, ◌-◌, ◌%◌, [], ◌≤◌, ◌<◌, ◌++◌, ◌∷◌, ◌==◌, ◌&&◌, ℕ, List, length, take, true, false};
+ghost use Rattle.std.specs.Prelude.{◌≡◌, ◌+◌, ◌-◌, ◌%◌, [], ◌≤◌, ◌<◌, ◌++◌, ◌∷◌, ◌==◌, ◌&&◌, if◌then◌else◌, IfSome, Some, None, ℕ, List, length, take, true, false};
 ghost use Rattle.tcp_model.specs.Endpoint.{Item, Syn, Receiver};
 ghost use Rattle.tcp_model.specs.Network.{World, Event, Segment_comes, Answer, happens, run, start, IsPrefixOf};
 ghost use Rattle.app_tcp.specs.Items.{items_of};
 ghost use Rattle.app_tcp.specs.Stands.{Stands, SegmentComes, IsAnswer, room_of};
 
-use crate::ring::{put, wrapped};
+use crate::ring::{RING_LIMIT, put, wrapped};
 
 // Half of the sequence numbers: a number that is less after another one is newer.
 const HALF: usize = 1 << 31;
@@ -61,6 +61,7 @@ impl Receiving {
         requires small { length ring.old < 1073741824 }
         ensures begin { self.new.start < length ring.old }
         ensures len { self.new.len ≤ length ring.old }
+        ensures opened { self.new.is_open ≡ self.old.is_open }
         ensures edge { self.new.has_fin ≡ false → (self.new.next + (length ring.old - self.new.len)) % 4294967296 ≡ (self.old.next + (length ring.old - self.old.len)) % 4294967296 }
         ensures stands { (w : World) (consumed : List ℕ) (which : ℕ) → SegmentComes w which number (items_of false payload.now fin) → Stands w.receiver consumed self.old ring.old → Stands (happens w (Segment_comes which (room_of self.old (length ring.old)))).receiver consumed self.new ring.new }
     {
@@ -77,7 +78,7 @@ impl Receiving {
         put(ring, self.start, self.len, &fresh[..n]);
         self.len += n;
         self.next = self.next.wrapping_add(n as u32);
-        if fin && n == fresh.len() && n < room {
+        if fin && n < room {
             self.next = self.next.wrapping_add(1);
             self.has_fin = true;
         }
@@ -110,11 +111,12 @@ impl Receiving {
         self.has_fin && self.len == 0
     }
 
-    /// The number to acknowledge (RCV.NXT), after the SYN.
-    pub fn next(&self) -> u32
-        ensures { (w : World) (consumed buffer : List ℕ) → self.now.is_open ≡ true → Stands w.receiver consumed self.now buffer → IsAnswer w result }
+    /// The number to acknowledge (RCV.NXT); `None` before the SYN.
+    pub fn next(&self) -> Option<u32>
+        ensures value { result ≡ (if self.now.is_open then Some self.now.next else None) }
+        ensures legal { (w : World) (consumed buffer : List ℕ) → Stands w.receiver consumed self.now buffer → IfSome result (λ number. IsAnswer w number) }
     {
-        self.next
+        if self.is_open { Some(self.next) } else { None }
     }
 
     /// How many bytes there is room for in a ring of this size (RCV.WND): 0 after a FIN.
@@ -123,5 +125,15 @@ impl Receiving {
         ensures { result ≡ room_of self.now size }
     {
         if self.has_fin { 0 } else { size - self.len }
+    }
+
+    /// Whether the bytes are in a ring of this size: what the other calls require, of the ring that they always get.
+    pub fn fits(&self, size: usize) -> bool
+        ensures begin { result ≡ true → self.now.start < size }
+        ensures len { result ≡ true → self.now.len ≤ size }
+        ensures small { result ≡ true → size < 1073741824 }
+        ensures all { self.now.start < size → self.now.len ≤ size → size < 1073741824 → result ≡ true }
+    {
+        self.start < size && self.len <= size && size < RING_LIMIT
     }
 }

@@ -3,6 +3,9 @@
 ghost use Rattle.std.specs.Prelude.{◌≡◌, ◌+◌, ◌≤◌, ◌<◌, ◌⊎◌, ◌*◌, length};
 ghost use Rattle.app_tcp.specs.Ring.{ring, placed};
 
+// A ring has less than 2^30 bytes, which is the largest window (RFC 7323, section 2.3).
+pub(crate) const RING_LIMIT: usize = 1 << 30;
+
 // The index in a buffer of this size of a place that is less than one round past its end.
 pub(crate) fn wrapped(place: usize, size: usize) -> usize
     requires { place < size + size }

@@ -1,12 +1,12 @@
 //! The sending half: what the application wrote and the peer did not acknowledge yet (RFC 9293, section 3.3.1).
 
-ghost use Rattle.std.specs.Prelude.{◌≡◌, ◌+◌, ◌-◌, ◌%◌, ◌≤◌, ◌<◌, ℕ, Bool, List, length, take, drop, min, false, if◌then◌else◌};
+ghost use Rattle.std.specs.Prelude.{◌≡◌, ◌+◌, ◌-◌, ◌%◌, ◌≤◌, ◌<◌, ℕ, Bool, List, length, take, drop, min, true, false, if◌then◌else◌};
 ghost use Rattle.tcp_model.specs.Endpoint.{Item};
-ghost use Rattle.tcp_model.specs.Network.{World, Write, Close, Send, Ack_comes, happens, start, number_at};
+ghost use Rattle.tcp_model.specs.Network.{World, Event, Write, Close, Send, Ack_comes, happens, run, start, number_at};
 ghost use Rattle.app_tcp.specs.Items.{items_of, syn_of};
 ghost use Rattle.app_tcp.specs.Waits.{Waits, AckComes, IsSend, from_of, pending, rest_of};
 
-use crate::ring::{put, wrapped};
+use crate::ring::{RING_LIMIT, put, wrapped};
 
 /// A segment that goes out.
 #[derive(Debug, Clone, Copy)]
@@ -55,6 +55,16 @@ impl Sending {
         }
     }
 
+    /// Whether the bytes are in a ring of this size: what the other calls require, of the ring that they always get.
+    pub fn fits(&self, size: usize) -> bool
+        ensures start { result ≡ true → self.now.start < size }
+        ensures len { result ≡ true → self.now.len ≤ size }
+        ensures small { result ≡ true → size < 1073741824 }
+        ensures all { self.now.start < size → self.now.len ≤ size → size < 1073741824 → result ≡ true }
+    {
+        self.start < size && self.len <= size && size < RING_LIMIT
+    }
+
     /// Takes bytes of the application, as far as the ring has room. Returns how many: 0 after `close`.
     pub fn write(&mut self, ring: &mut [u8], bytes: &[u8]) -> usize
         requires start { self.old.start < length ring.old }
@@ -94,6 +104,7 @@ impl Sending {
         ensures start { self.new.start < length ring.now }
         ensures len { self.new.len ≤ length ring.now }
         ensures waits { (w : World) (which : ℕ) → AckComes w which number → Waits w self.old ring.now → Waits (happens w (Ack_comes which)) self.new ring.now }
+        ensures counted { (initial : ℕ) (events : List Event) (which : ℕ) → AckComes (run events (start initial)) which number → let v : World = happens (run events (start initial)) (Ack_comes which) in v.acked ≤ length v.receiver.got }
     {
         let newly = number.wrapping_sub(self.una);
         if newly > self.flight {
@@ -116,10 +127,15 @@ impl Sending {
         ensures waits { (w : World) → Waits w self.old ring.now → Waits (happens w (Send (from_of self.old offset) (length (items_of result.syn result.payload.now result.fin)))) self.new ring.now }
         ensures some { 0 < count → offset < length (pending self.old ring.now) → 0 < length (items_of result.syn result.payload.now result.fin) }
         ensures few { length result.payload.now ≤ count }
+        ensures inner { length result.payload.now ≤ length ring.now }
+        ensures syn { self.old.has_syn ≡ false → result.syn ≡ false }
     {
         let from = offset.min(self.syn_len() + self.len);
         let segment = self.cut(ring, from, count);
-        let end = from + usize::from(segment.syn) + segment.payload.len() + usize::from(segment.fin);
+        let end = from
+            + usize::from(segment.syn)
+            + segment.payload.len()
+            + usize::from(segment.fin);
         self.flight = self.flight.max(end as u32);
         segment
     }
@@ -142,6 +158,8 @@ impl Sending {
         ensures inside { from + length (items_of result.syn result.payload.now result.fin) ≤ length (pending self.now ring.now) }
         ensures some { 0 < count → from < length (pending self.now ring.now) → 0 < length (items_of result.syn result.payload.now result.fin) }
         ensures few { length result.payload.now ≤ count }
+        ensures inner { length result.payload.now ≤ length ring.now }
+        ensures syn { self.now.has_syn ≡ false → result.syn ≡ false }
     {
         if self.has_syn && from == 0 {
             return Segment {

@@ -1,15 +1,11 @@
 use Rattle.std.proofs.Common.{◌≡◌, ◌≤◌, ◌⊎◌, inl, inr, ◌∙◌, sym, ap, subst, refl, ℕ, length, take, drop, min, arith, ◌+◌, ◌-◌, ◌%◌, Bool, true, false}
-use Rattle.std.proofs.lemmas.Bool.{cond-true, cond-false}
 use Rattle.tcp_model.specs.Endpoint.{Receiver, received, distance}
-use Rattle.app_tcp.specs.Stands.{Stands, SegmentComes, room_of}
+use Rattle.app_tcp.specs.Stands.{Stands, room_of}
 use Rattle.app_tcp.specs.Items.{items_of}
-use Rattle.app_tcp.specs.Ring.{ring, placed}
 use Rattle.app_tcp.specs.declared.receiving.Receiving.{Receiving}
-use Rattle.app_tcp.proofs.Places.{length-ring}
-use Rattle.app_tcp.proofs.Pending.{placed_front}
 use Rattle.app_tcp.proofs.Received.{bytes_stand, end_stands, early_stands, length_rest, two_steps, comes, held_after, room_fits}
 use Rattle.app_tcp.proofs.receiving.Receiving.on_segment.Goals as goal
-use Rattle.app_tcp.proofs.receiving.Receiving.on_segment.Goals.{else-fin-via-then-fin+then-n-fresh+else-n-room, else-fin-via-then-fin+else-n-fresh, else-fin-via-else-fin}
+use Rattle.app_tcp.proofs.receiving.Receiving.on_segment.Goals.{else-fin-via-then-fin+else-n-room, else-fin-via-else-fin}
 
 pub returns-then-n-room-clause-stands : goal.returns-then-n-room-clause-stands
 returns-then-n-room-clause-stands c = λ w consumed which it stands.
@@ -18,7 +14,7 @@ returns-then-n-room-clause-stands c = λ w consumed which it stands.
     let skip = (c.args.self.now.next + (4294967296 - c.args.number)) % 4294967296 in
     let skip_is : distance c.args.self.now.next c.args.number ≡ skip = omega arith in
     let rest : length (take (length payload - skip) (drop skip payload)) ≡ length payload - skip = length_rest payload skip in
-    let all : c.min-n.result ≡ length payload - skip = c.if-n-fresh.true ∙ rest in
+    let all : c.min-n.result ≡ length payload - skip = (omega (arith, c.min-n.ensures, c.if-n-room.true, rest)) in
     let d : Receiving = record c.args.self.now { next = ((c.args.self.now.next + c.min-n.result) % 4294967296 + 1) % 4294967296; len = c.args.self.now.len + c.min-n.result; has_fin = true } in
     let new = c.put.new.buffer in
     let held = held_after c.args.self.now c.args.ring.now new payload skip c.min-n.result c.requires.begin (omega arith) (omega (arith, c.room-room.ensures, room_fits c.args.self.now (length c.args.ring.now))) c.put.ensures in
@@ -38,8 +34,7 @@ returns-else-fin-clause-stands c = λ w consumed which it stands.
     let rest : length (take (length payload - skip) (drop skip payload)) ≡ length payload - skip = length_rest payload skip in
     let n_is : c.min-n.result ≡ min (length payload - skip) c.room-room.result = c.min-n.ensures ∙ ap (λ (k : ℕ). min k c.room-room.result) rest in
     let why : (c.args.fin ≡ false) ⊎ (c.room-room.result ≤ length payload - skip) = elim c.else-fin.branch [
-      | else-fin-via-then-fin+then-n-fresh+else-n-room w ↦ inr (omega (arith, n_is, w.if-n-fresh.true, w.if-n-room.false))
-      | else-fin-via-then-fin+else-n-fresh w ↦ inr (let apart : c.min-n.result ≡ length payload - skip → ⊥ = λ e. w.if-n-fresh.false (e ∙ sym rest) in omega arith)
+      | else-fin-via-then-fin+else-n-room w ↦ inr (omega (arith, n_is, w.if-n-room.false))
       | else-fin-via-else-fin w ↦ inl w.if-fin.false
     ] in
     let d : Receiving = record c.args.self.now { next = (c.args.self.now.next + c.min-n.result) % 4294967296; len = c.args.self.now.len + c.min-n.result } in

@@ -1,8 +1,6 @@
-use Rattle.std.proofs.Common.{◌≡◌, ◌⊎◌, inl, inr, refl, sym, ◌∙◌, ap, subst, arith, ◌+◌, ◌-◌, ◌%◌, ◌≤◌, ◌<◌, ◌++◌, ℕ, Bool, true, false, List, length, map, take, drop, min}
+use Rattle.std.proofs.Common.{◌≡◌, refl, sym, subst, arith, ◌+◌, ◌-◌, ◌++◌, ℕ, take, drop}
 use Rattle.app_tcp.proofs.Received.{read_stands, held_delivers}
 use Rattle.app_tcp.proofs.receiving.Receiving.read.Goals as goal
-use Rattle.tcp_model.specs.Network.{run, start, IsPrefixOf}
-use Rattle.tcp_model.specs.Endpoint.{Receiver}
 use Rattle.app_tcp.specs.Stands.{Stands}
 use Rattle.app_tcp.specs.declared.receiving.Receiving.{Receiving}
 

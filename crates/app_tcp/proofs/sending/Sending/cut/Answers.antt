@@ -1,5 +1,5 @@
-use Rattle.std.proofs.Common.{◌≡◌, ◌⊎◌, inl, inr, refl, sym, ◌∙◌, ap, subst, arith, ◌+◌, ◌-◌, ◌%◌, ◌≤◌, ◌<◌, ◌++◌, ℕ, Bool, true, false, List, length, map, take, drop, min}
-use Rattle.tcp_model.specs.Endpoint.{Item, Byte}
+use Rattle.std.proofs.Common.{◌≡◌, inl, inr, sym, ◌∙◌, subst, arith, ◌+◌, ◌-◌, ◌≤◌, ◌++◌, ℕ, true, length, map, take, drop}
+use Rattle.tcp_model.specs.Endpoint.{Byte}
 use Rattle.tcp_model.specs.Network.{end_of}
 use Rattle.app_tcp.specs.Items.{syn_of}
 use Rattle.app_tcp.specs.Waits.{pending}

@@ -1,4 +1,4 @@
-use Rattle.std.proofs.Common.{◌≡◌, ◌⊎◌, inl, inr, refl, sym, ◌∙◌, ap, subst, arith, ◌+◌, ◌-◌, ◌%◌, ◌≤◌, ◌<◌, ◌++◌, ℕ, Bool, true, false, List, length, map, take, drop, min}
+use Rattle.std.proofs.Common.{◌≡◌, ◌∙◌, ap, subst, arith, ◌+◌, ◌++◌, ℕ, List, length, take}
 use Rattle.std.proofs.lemmas.List.{length-take-le}
 use Rattle.app_tcp.specs.Ring.{ring, placed}
 use Rattle.app_tcp.proofs.Pending.{write_waits, placed_front}
