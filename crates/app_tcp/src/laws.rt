@@ -1,7 +1,7 @@
 //! Laws of both halves together.
 
 ghost use Rattle.std.specs.Prelude.{◌≡◌, ◌≤◌, ◌<◌, ℕ, List, length, true, false};
-ghost use Rattle.tcp_model.specs.Network.{Event, run, start, stream};
+ghost use Rattle.tcp_model.specs.Network.{World, Event, run, start, stream};
 ghost use Rattle.app_tcp.specs.Round.{GoesOn};
 ghost use Rattle.app_tcp.specs.Stands.{Stands, room_of};
 ghost use Rattle.app_tcp.specs.Waits.{Waits};
@@ -26,7 +26,7 @@ pub fn goes_on(
     requires is_open { receiving.old.is_open ≡ true }
     requires count { 0 < count }
     requires room { receiving.old.has_fin ≡ false → 0 < room_of receiving.old (length incoming.old) }
-    ensures { (initial : ℕ) (events : List Event) (consumed : List ℕ) → Waits (run events (start initial)) sending.old outgoing.now → Stands (run events (start initial)).receiver consumed receiving.old incoming.old → (run events (start initial)).acked < length (stream (run events (start initial)).written (run events (start initial)).closed) → GoesOn (run events (start initial)) consumed sending.new outgoing.now receiving.new incoming.new }
+    ensures { (initial : ℕ) (events : List Event) (consumed : List ℕ) → let w : World = run events (start initial) in Waits w sending.old outgoing.now → Stands w.receiver consumed receiving.old incoming.old → w.acked < length (stream w.written w.closed) → GoesOn w consumed sending.new outgoing.now receiving.new incoming.new }
 {
     let segment = sending.segment(outgoing, 0, count);
     receiving.on_segment(incoming, segment.number, segment.payload, segment.fin);

@@ -53,8 +53,8 @@ impl Receiving {
         }
     }
 
-    /// Takes what is new of a segment and in order, as far as there is room. `number` is that of its first byte (SEG.SEQ, or the
-    /// next number if it has a SYN). A FIN is taken after all its bytes.
+    /// Takes what is new of a segment without SYN and in order, as far as there is room. `number` is that of its first byte
+    /// (SEG.SEQ). A FIN is taken after all its bytes.
     pub fn on_segment(&mut self, ring: &mut [u8], number: u32, payload: &[u8], fin: bool)
         requires begin { self.old.start < length ring.old }
         requires len { self.old.len ≤ length ring.old }
@@ -94,7 +94,7 @@ impl Receiving {
         ensures few { length result.now ≤ count }
         ensures some { 0 < count → 0 < self.old.len → 0 < length result.now }
         ensures stands { (r : Receiver) (consumed : List ℕ) → Stands r consumed self.old ring.now → Stands r (consumed ++ result.now) self.new ring.now }
-        ensures delivers { (initial : ℕ) (events : List Event) (consumed : List ℕ) → Stands (run events (start initial)).receiver consumed self.old ring.now → IsPrefixOf (consumed ++ result.now) (run events (start initial)).written }
+        ensures delivers { (initial : ℕ) (events : List Event) (consumed : List ℕ) → let w : World = run events (start initial) in Stands w.receiver consumed self.old ring.now → IsPrefixOf (consumed ++ result.now) w.written }
     {
         let n = count.min(self.len).min(ring.len() - self.start);
         let bytes = &ring[self.start..self.start + n];
@@ -106,7 +106,7 @@ impl Receiving {
     /// Whether the application has read all that the peer wrote, and the peer has closed.
     pub fn is_ended(&self) -> bool
         ensures value { result ≡ (self.now.has_fin && self.now.len == 0) }
-        ensures whole { (initial : ℕ) (events : List Event) (consumed buffer : List ℕ) → result ≡ true → Stands (run events (start initial)).receiver consumed self.now buffer → ((run events (start initial)).closed ≡ true) × (consumed ≡ (run events (start initial)).written) }
+        ensures whole { (initial : ℕ) (events : List Event) (consumed buffer : List ℕ) → result ≡ true → let w : World = run events (start initial) in Stands w.receiver consumed self.now buffer → (w.closed ≡ true) × (consumed ≡ w.written) }
     {
         self.has_fin && self.len == 0
     }
