@@ -1,12 +1,11 @@
 -- What is received, after each step of the receiver.
 use Rattle.std.proofs.Common.{◌≡◌, ◌⊎◌, inl, inr, refl, ℕ, zero, suc, ◌+◌, ◌-◌, ◌%◌, ◌≤◌, ◌<◌, min, List, [], ◌∷◌, ◌++◌, Bool, true, false, length, map, take, drop, sym, ◌∙◌, ap, subst, arith, append_assoc, nat_lt}
-use Rattle.std.specs.Prelude.{Option}
 use Rattle.std.proofs.Math.Seq.{take-nil}
 use Rattle.std.proofs.lemmas.List.{drop_all, length-append, length-map, length-drop, take_min, take_rest, take-take, take-append-drop, length-take-le, append-nil}
 use Rattle.std.proofs.lemmas.Bool.{cond_both, cond-true, cond-false, false≢true}
 use Rattle.std.proofs.lemmas.Bool.Decides.{nat_tests}
 use Rattle.tcp_model.specs.Endpoint.{Item, Syn, Byte, Fin, Receiver, distance, fresh, accepted, opened, received}
-use Rattle.tcp_model.specs.Network.{World, Segment, Event, Segment_comes, happens, run, start, segment_comes, end_of, bytes_of, is_ended, is_alive, IsPrefixOf}
+use Rattle.tcp_model.specs.Network.{World, Event, happens, run, start, end_of, bytes_of, is_ended, is_alive, IsPrefixOf}
 use Rattle.tcp_model.proofs.Kept.{run_delivers}
 use Rattle.tcp_model.proofs.Streams.{bytes_of_part}
 use Rattle.app_tcp.specs.Stands.{Stands, SegmentComes, IsAnswer, room_of}
@@ -130,9 +129,9 @@ module _ (r : Receiver) (consumed : List ℕ) (c : Receiving) (old : List ℕ) (
       (ended_more r.got _ taken.ended ∙ sym flag) still
 
 -- the event
-pub comes : (w : World) (which number room : ℕ) (items : List Item) → SegmentComes w which number items → (happens w (Segment_comes which room)).receiver ≡ received w.receiver number items room
-comes w which number room items it =
-    ap (λ (o : Option Segment). (segment_comes w room o).receiver) it.there
+pub comes : (w : World) (event : ℕ → Event) (number room : ℕ) (items : List Item) → SegmentComes w event number items → (happens w (event room)).receiver ≡ received w.receiver number items room
+comes w event number room items it =
+    ap (λ (v : World). v.receiver) (it.comes room)
     ∙ ap (λ (v : World). v.receiver) (cond-true (is_alive (length w.receiver.got) it.segment.place) _ _ it.alive)
     ∙ ap (λ (n : ℕ). received w.receiver n it.segment.items room) it.same
     ∙ ap (λ (l : List Item). received w.receiver number l room) it.brings

@@ -72,7 +72,7 @@ pub round_goes : (initial : ℕ) (events : List Event) (consumed o i0 i1 : List 
     → r0.is_open ≡ true → (0 < room) ⊎ (r0.has_fin ≡ true) → (run events (start initial)).acked < length (stream (run events (start initial)).written (run events (start initial)).closed)
     → 0 < length items → length items ≤ 2147483648
     → IsSend (run events (start initial)) 0 number items → Waits (happens (run events (start initial)) (Send 0 (length items))) s1 o
-    → ((v : World) → SegmentComes v 0 number items → Stands v.receiver consumed r0 i0 → Stands (happens v (Segment_comes 0 room)).receiver consumed r1 i1)
+    → ((v : World) → SegmentComes v (Segment_comes 0) number items → Stands v.receiver consumed r0 i0 → Stands (happens v (Segment_comes 0 room)).receiver consumed r1 i1)
     → ((v : World) → Stands v.receiver consumed r1 i1 → IsAnswer v next)
     → ((v : World) → AckComes v 0 next → Waits v s1 o → Waits (happens v (Ack_comes 0)) s2 o)
     → GoesOn (run events (start initial)) consumed s2 o r1 i1
@@ -88,14 +88,14 @@ round_goes initial events consumed o i0 i1 s0 s1 s2 r0 r1 number next room items
     let left : length (stream w.written w.closed) - w.acked ≡ length (pending s0 o) = sym (length-drop w.acked (stream w.written w.closed)) ∙ ap length waits0.held in
     let near : length w1.receiver.got < w.acked + 0 + 2147483648 = omega (arith, ap (λ (r : Receiver). length r.got) same1, good.behind, waits0.within, waits0.flight, left, short_pending s0 o start0 len0) in
     let segment : Segment = record { place = w.acked + 0; number = number; items = items } in
-    let comes : SegmentComes w1 0 number items = record {
+    let it : SegmentComes w1 (Segment_comes 0) number items = record {
       segment = segment;
-      there = subst (λ (l : List Segment). slice_get l 0 ≡ Some segment) (sym legal.last) refl;
+      comes = λ k. (let there : slice_get w1.segments 0 ≡ Some segment = subst (λ (l : List Segment). slice_get l 0 ≡ Some segment) (sym legal.last) refl in ap (λ (x : Option Segment). segment_comes w1 k x) there);
       same = refl;
       brings = refl;
       alive = true_test _ _ near;
     } in
-    let stands2 : Stands w2.receiver consumed r1 i1 = takes w1 comes (subst (λ (r : Receiver). Stands r consumed r0 i0) (sym same1) stands0) in
+    let stands2 : Stands w2.receiver consumed r1 i1 = takes w1 it (subst (λ (r : Receiver). Stands r consumed r0 i0) (sym same1) stands0) in
     let waits2 : Waits w2 s1 o = segment_sender w1 room (slice_get w1.segments 0) s1 o waits1 in
     let said : IsAnswer w2 next = says w2 stands2 in
     let ack : Ack = record { place = length w2.receiver.got; number = next } in

@@ -1,8 +1,8 @@
 -- What the state of the receiving half stands for in a history of the network.
 -- Pinned by: `tcp/stream`
-use Rattle.std.specs.Prelude.{ℕ, ◌≡◌, ◌-◌, List, ◌∷◌, ◌++◌, length, take, true, if◌then◌else◌, Some, slice_get}
+use Rattle.std.specs.Prelude.{ℕ, ◌≡◌, ◌-◌, List, ◌∷◌, ◌++◌, length, take, true, if◌then◌else◌, Some}
 use Rattle.tcp_model.specs.Endpoint.{Item, Receiver}
-use Rattle.tcp_model.specs.Network.{World, Segment, Answer, happens, bytes_of, is_ended, is_alive}
+use Rattle.tcp_model.specs.Network.{World, Event, Segment, Answer, happens, segment_comes, bytes_of, is_ended, is_alive}
 use Rattle.app_tcp.specs.Ring.{ring}
 use Rattle.app_tcp.specs.declared.receiving.Receiving.{Receiving}
 
@@ -17,10 +17,11 @@ pub record Stands (r : Receiver) (consumed : List ℕ) (c : Receiving) (buffer :
   pub held : bytes_of r.got ≡ consumed ++ take c.len (ring c.start buffer)
   pub ended : is_ended r.got ≡ c.has_fin
 
--- A segment with this number and these items comes, which was sent before. It is not older than the sequence space allows.
-pub record SegmentComes (w : World) (which number : ℕ) (items : List Item) : Type 0 where
+-- By this event a segment with this number and these items comes: one that was sent before, or a part of it. The receiver has
+-- room for as many items as the event says. It is not older than the sequence space allows.
+pub record SegmentComes (w : World) (event : ℕ → Event) (number : ℕ) (items : List Item) : Type 0 where
   pub segment : Segment
-  pub there : slice_get w.segments which ≡ Some segment
+  pub comes : (room : ℕ) → happens w (event room) ≡ segment_comes w room (Some segment)
   pub same : segment.number ≡ number
   pub brings : segment.items ≡ items
   pub alive : is_alive (length w.receiver.got) segment.place ≡ true

@@ -2,7 +2,7 @@
 
 ghost use Rattle.std.specs.Prelude.{◌≡◌, ◌+◌, ◌-◌, ◌%◌, [], ◌≤◌, ◌<◌, ◌++◌, ◌∷◌, ◌==◌, ◌&&◌, if◌then◌else◌, IfSome, Some, None, ℕ, List, length, take, true, false};
 ghost use Rattle.tcp_model.specs.Endpoint.{Item, Syn, Receiver};
-ghost use Rattle.tcp_model.specs.Network.{World, Event, Segment_comes, Answer, happens, run, start, IsPrefixOf};
+ghost use Rattle.tcp_model.specs.Network.{World, Event, happens, run, start, IsPrefixOf};
 ghost use Rattle.app_tcp.specs.Items.{items_of};
 ghost use Rattle.app_tcp.specs.Stands.{Stands, SegmentComes, IsAnswer, room_of};
 
@@ -45,7 +45,7 @@ impl Receiving {
         ensures begin { self.new.start ≡ self.old.start }
         ensures len { self.new.len ≡ self.old.len }
         ensures again { self.old.is_open ≡ true → self.new ≡ self.old }
-        ensures opens { (w : World) (consumed buffer : List ℕ) (which : ℕ) (rest : List Item) → self.old.is_open ≡ false → SegmentComes w which number (Syn ∷ rest) → Stands w.receiver consumed self.old buffer → Stands (happens w (Segment_comes which 1)).receiver consumed self.new buffer }
+        ensures opens { (w : World) (consumed buffer : List ℕ) (event : ℕ → Event) (rest : List Item) → self.old.is_open ≡ false → SegmentComes w event number (Syn ∷ rest) → Stands w.receiver consumed self.old buffer → Stands (happens w (event 1)).receiver consumed self.new buffer }
     {
         if !self.is_open {
             self.next = number.wrapping_add(1);
@@ -53,8 +53,8 @@ impl Receiving {
         }
     }
 
-    /// Takes what is new of a segment without SYN and in order, as far as there is room. `number` is that of its first byte
-    /// (SEG.SEQ). A FIN is taken after all its bytes.
+    /// Takes what is new of a segment and in order, as far as there is room. `number` is that of its first byte
+    /// (SEG.SEQ, or the next number if it has a SYN). A FIN is taken after all its bytes.
     pub fn on_segment(&mut self, ring: &mut [u8], number: u32, payload: &[u8], fin: bool)
         requires begin { self.old.start < length ring.old }
         requires len { self.old.len ≤ length ring.old }
@@ -63,7 +63,7 @@ impl Receiving {
         ensures len { self.new.len ≤ length ring.old }
         ensures opened { self.new.is_open ≡ self.old.is_open }
         ensures edge { self.new.has_fin ≡ false → (self.new.next + (length ring.old - self.new.len)) % 4294967296 ≡ (self.old.next + (length ring.old - self.old.len)) % 4294967296 }
-        ensures stands { (w : World) (consumed : List ℕ) (which : ℕ) → SegmentComes w which number (items_of false payload.now fin) → Stands w.receiver consumed self.old ring.old → Stands (happens w (Segment_comes which (room_of self.old (length ring.old)))).receiver consumed self.new ring.new }
+        ensures stands { (w : World) (consumed : List ℕ) (event : ℕ → Event) → SegmentComes w event number (items_of false payload.now fin) → Stands w.receiver consumed self.old ring.old → Stands (happens w (event (room_of self.old (length ring.old)))).receiver consumed self.new ring.new }
     {
         if !self.is_open {
             return;
