@@ -12,6 +12,7 @@ PATHS = {
     "wire": "crates/test_wire/src/tests/{}.rt",
     "apps": "crates/test_apps/src/tests/{}.rt",
     "fragments": "crates/test_fragments/src/tests/{}.rt",
+    "tcp": "crates/app_tcp/src/tests/{}.rt",
     "promises": "crates/promises/src/{}.rt",
     "cases": "tests/data/cases/{}.hex",
     "calls": "tests/data/calls/{}.call",

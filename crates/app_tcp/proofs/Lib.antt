@@ -1,0 +1,4 @@
+pub mod Places
+pub mod Pending
+pub mod Received
+pub mod Rounds

@@ -1,0 +1,5 @@
+pub mod Ring
+pub mod Items
+pub mod Waits
+pub mod Stands
+pub mod Round

@@ -1,0 +1,40 @@
+-- What the state of the sending half stands for in a history of the network.
+-- Pinned by: `tcp/stream`
+use Rattle.std.specs.Prelude.{ℕ, ◌≡◌, ◌+◌, ◌≤◌, ◌++◌, List, ◌∷◌, length, map, take, drop, min, true, false, Some, slice_get}
+use Rattle.tcp_model.specs.Endpoint.{Item, Byte}
+use Rattle.tcp_model.specs.Network.{World, Ack, Send, happens, stream, end_of, number_at, is_alive}
+use Rattle.app_tcp.specs.Items.{syn_of}
+use Rattle.app_tcp.specs.Ring.{ring}
+use Rattle.app_tcp.specs.declared.sending.Sending.{Sending}
+
+-- the items that are not acknowledged and no SYN
+abbrev pub rest_of : Sending → List ℕ → List Item
+rest_of c buffer = map Byte (take c.len (ring c.start buffer)) ++ end_of c.has_fin
+
+-- the items that are not acknowledged
+abbrev pub pending : Sending → List ℕ → List Item
+pending c buffer = syn_of c.has_syn ++ rest_of c buffer
+
+-- The state stands for the sender of a world, of which the code holds no more than what is not acknowledged.
+pub record Waits (w : World) (c : Sending) (buffer : List ℕ) : Type 0 where
+  pub una : c.una ≡ number_at w.initial w.acked
+  pub flight : c.flight + w.acked ≡ w.sent
+  pub within : w.sent ≤ length (stream w.written w.closed)
+  pub closed : c.is_closed ≡ w.closed
+  pub still : c.is_closed ≡ false → c.has_fin ≡ false
+  pub held : drop w.acked (stream w.written w.closed) ≡ pending c buffer
+
+-- the item from which a segment is cut: at most that of the FIN
+abbrev pub from_of : Sending → ℕ → ℕ
+from_of c offset = min offset (length (syn_of c.has_syn) + c.len)
+
+-- These items with this number are what the event Send puts on the network.
+pub record IsSend (w : World) (offset number : ℕ) (items : List Item) : Type 0 where
+  pub last : (happens w (Send offset (length items))).segments ≡ record { place = w.acked + offset; number = number; items = items } ∷ w.segments
+
+-- An acknowledgement with this number comes, which was sent before. It is not older than the sequence space allows.
+pub record AckComes (w : World) (which number : ℕ) : Type 0 where
+  pub ack : Ack
+  pub there : slice_get w.acks which ≡ Some ack
+  pub same : ack.number ≡ number
+  pub alive : is_alive w.acked ack.place ≡ true

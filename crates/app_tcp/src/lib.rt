@@ -1,0 +1,14 @@
+//! Both halves of a TCP connection over rings in the caller's memory (RFC 9293): what the receiver reads is what the sender
+//! wrote.
+#![tactic(auto)]
+
+pub mod laws;
+mod receiving;
+mod ring;
+mod sending;
+
+pub use receiving::Receiving;
+pub use sending::{Segment, Sending};
+
+#[cfg(test)]
+mod tests;

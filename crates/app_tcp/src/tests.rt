@@ -1,0 +1,3 @@
+//! Tests of both halves together.
+
+mod stream;
