@@ -119,31 +119,17 @@ impl Mapping {
         }
     }
 
-    // The mapping after this remote endpoint sent a packet to its outside port.
-    pub(crate) fn after_inbound(
-        &self,
-        nat: &Nat,
-        now: u64,
-        event: Event,
-        remote: &Ipv4Endpoint,
-    ) -> Mapping
-        ensures { result ≡ after_inbound nat.now now event remote.now self.now }
+    // Notes that this remote endpoint sent a packet to the outside port.
+    pub(crate) fn receive(&mut self, nat: &Nat, now: u64, event: Event, remote: &Ipv4Endpoint)
+        ensures { self.new ≡ after_inbound nat.now now event remote.now self.old }
     {
         if !event.ends_connection() || self.is_shared(remote) {
-            return *self;
+            return;
         }
-        Mapping {
-            expires: self
-                .expires
-                .min(expiry(now, nat.timeout(Protocol::Tcp, TcpState::Closing))),
-            inside: self.inside,
-            remote: self.remote,
-            inside_port: self.inside_port,
-            remote_port: self.remote_port,
-            state: self.state_after_end(event).byte(),
-            shared: self.shared,
-            unused: self.unused,
-        }
+        self.expires = self
+            .expires
+            .min(expiry(now, nat.timeout(Protocol::Tcp, TcpState::Closing)));
+        self.state = self.state_after_end(event).byte();
     }
 
     // The state after a FIN or RST of its only remote endpoint.

@@ -46,6 +46,7 @@ pub fn open(
 
 /// The inside endpoint of an outside port to which a remote endpoint sends a packet. `None` if the
 /// port has no live mapping. Does not restart the time-out.
+#[inline(always)]
 pub fn find(
     nat: &Nat,
     mappings: &mut [Mapping],
@@ -69,6 +70,6 @@ pub fn find(
     if mapping.expires <= now {
         return None;
     }
-    mappings[place] = mapping.after_inbound(nat, now, event, remote);
+    mappings[place].receive(nat, now, event, remote);
     Some(mapping.inside())
 }
