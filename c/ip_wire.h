@@ -745,6 +745,29 @@ int lk_read_ndisc(const uint8_t *frame, size_t len, struct lk_ndisc *ndisc);
  * LK_NO_ROOM. What lk_read_ndisc rejects for its addresses or flags is written too. */
 ptrdiff_t lk_emit_ndisc_frame(const struct lk_frame *headers, const struct lk_ndisc *ndisc, uint8_t *out, size_t cap);
 
+/* ---- multicast listener discovery ---- */
+
+/* Writes a whole frame, 86 bytes, with a report of version 1 (RFC 2710): a host says that it listens to a multicast group.
+ * A switch with MLD snooping sends the frames for a group, as neighbour solicitations, only where it got reports. Send it
+ * when an interface comes up, and after each query that lk_read_mld_query finds. Queriers of version 2 take it too (RFC
+ * 3810, section 8.3).
+ *
+ * Uses `ethernet.src`, `src.addr` and `dst.addr` of `headers`. `dst.addr` is the group, and the frame goes to its Ethernet
+ * address (RFC 2464, section 7). `src.addr` is a link-local address, or `::` if there is none (RFC 3590, section 4). The
+ * hop limit is 1, and hop-by-hop options have the router alert (RFC 2711). Fails with LK_NO_VERSION unless both are IPv6
+ * addresses, and with LK_NO_ROOM. That `dst.addr` is a multicast address is not checked. */
+ptrdiff_t lk_emit_mld_report(const struct lk_frame *headers, uint8_t *out, size_t cap);
+
+/* Returns the maximum response delay of a query in an Ethernet frame that asks for a multicast group, in milliseconds from
+ * 0 to 65535: report the group after a random part of it (RFC 2710, section 4). Returns -1 if the frame is no valid query
+ * (section 5) of version 1 or 2 for all groups or for this one:
+ *
+ * - The IPv6 source must be a link-local address.
+ * - The ICMPv6 message may follow extension headers. It must have 24 bytes or more, and a valid checksum.
+ * - A delay of version 2 above 32767 has an exponent (RFC 3810, section 5.1.3). It is returned as in version 1, which is
+ *   not longer. */
+int lk_read_mld_query(const uint8_t *frame, size_t len, const struct lk_addr *group);
+
 /* ---- a host ---- */
 
 /* A host with one interface and no connections. */

@@ -29,6 +29,7 @@ size_t mtu;
 static struct lk_host own = {.echo_port = ECHO_PORT};
 static struct error_limit limit;
 static struct fragments fragments;
+static struct listener listener;
 static int device;
 static uint8_t out[LONGEST_WHOLE];
 static unsigned long frames_in, frames_out, rejected, wrong_checksums;
@@ -130,6 +131,8 @@ static void on_frame(const uint8_t *frame, size_t len, int is_whole)
         wrong_checksums++;
     else if (is_too_big(&in) && is_for_us(&in))
         on_too_big(&in, frame);
+    else if (in.network == LK_IPV6 && in.transport == LK_ICMP && in.icmp.type == MLD_QUERY)
+        hear_query(&listener, milliseconds(), &own.ipv6, 0, frame, len);
     else if (in.transport != LK_TCP && in.rejected != LK_TCP)
         answer(frame, len);
     else if (is_for_us(&in) && reason == LK_BAD_FLAGS)
@@ -158,9 +161,10 @@ static int serve(const char *name, int signals)
     struct output errors = open_output(STDERR_FILENO);
     struct pollfd fds[2] = {{.fd = signals, .events = POLLIN}, {.fd = device, .events = POLLIN}};
     for (;;) {
-        int timer = run_timers(), other = until_expire(&fragments);
-        poll(fds, 2, timer < 0 || (other >= 0 && other < timer) ? other : timer);
+        int other = sooner(until_expire(&fragments), until_report(&listener, milliseconds()));
+        poll(fds, 2, sooner(run_timers(), other));
         expire_fragments();
+        frames_out += report_group(&listener, milliseconds(), &own, device);
         if (fds[0].revents != 0)
             return 0;
         if ((fds[1].revents & (POLLERR | POLLHUP | POLLNVAL)) || !read_frames()) {
@@ -196,6 +200,7 @@ int main(int argc, char **argv)
         perror("host: signalfd");
         return 1;
     }
+    listener.report_at = milliseconds();
     print(&output, "ready\n");
     int status = serve(argv[1], signals);
     print(&output, "frames read %lu, written %lu, rejected %lu, wrong checksums %lu\n", frames_in, frames_out,

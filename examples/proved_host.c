@@ -18,6 +18,7 @@
 enum { MOST_PORTS = 16 };
 
 static struct fragments fragments;
+static struct listener listener;
 
 static const char help[] =
     "usage: proved_host DEVICE HARDWARE_ADDRESS IPV4_ADDRESS IPV6_ADDRESS [TCP_PORT..]\n"
@@ -65,6 +66,8 @@ static size_t whole_frame(const struct lk_host *host, const uint8_t **frame, siz
 {
     struct lk_frame in;
     lk_read_frame(*frame, len, &in);
+    if (in.network == LK_IPV6 && in.transport == LK_ICMP && in.icmp.type == MLD_QUERY)
+        hear_query(&listener, milliseconds(), &host->ipv6, 0, *frame, len);
     if (!is_fragment_for(host, &in))
         return len;
     ptrdiff_t whole_len = reassemble(&fragments, milliseconds(), *frame, len);
@@ -110,8 +113,9 @@ static int serve(const char *name, int device, int signals, struct lk_host *host
     struct output errors = open_output(STDERR_FILENO);
     struct pollfd files[2] = {{.fd = signals, .events = POLLIN}, {.fd = device, .events = POLLIN}};
     for (;;) {
-        poll(files, 2, until_expire(&fragments));
+        poll(files, 2, sooner(until_expire(&fragments), until_report(&listener, milliseconds())));
         expire_fragments(device, host);
+        report_group(&listener, milliseconds(), host, device);
         if (files[0].revents != 0)
             return 0;
         if ((files[1].revents & (POLLERR | POLLHUP | POLLNVAL)) || !answer_frames(device, host)) {
@@ -151,6 +155,7 @@ int main(int argc, char **argv)
         perror("proved_host: signalfd");
         return 1;
     }
+    listener.report_at = milliseconds();
     print(&output, "ready\n");
     return serve(argv[1], device, signals, &host);
 }

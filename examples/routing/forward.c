@@ -232,6 +232,8 @@ void on_frame(struct router *router, uint16_t from, struct packet *packet)
         drop(router, LK_WRONG_CHECKSUM);
     } else if (in.network == LK_IPV6 && in.transport == LK_ICMP && on_ndisc(router, from, &in, packet)) {
         router->ndisc++;
+    } else if (in.transport == LK_ICMP && in.icmp.type == MLD_QUERY && on_query(router, from, packet)) {
+        router->mld++;
     } else if (may_pass(router, from, &in)) {
         on_packet(router, from, &in, packet);
     }
@@ -251,6 +253,8 @@ void print_counts(struct router *router)
     struct output *out = &router->out;
     print(out, "frames %lu, forwarded %lu, answered %lu, ARP %lu, ND %lu\n", router->frames, router->forwarded,
           router->answered, router->arp, router->ndisc);
+    if (router->mld != 0)
+        print(out, "MLD %lu\n", router->mld);
     if (router->for_kernel != 0)
         print(out, "left to the kernel %lu\n", router->for_kernel);
     if (router->fragments != 0)

@@ -181,14 +181,12 @@ static const struct lk_addr *own_address(const struct router *router, uint16_t i
  * 2.7.1; RFC 2464, section 7). */
 static void ask_all(struct lk_frame *request)
 {
-    static const uint8_t group[13] = {0xff, 2, 0, 0, 0, 0, 0, 0, 0, 0, 0, 1, 0xff};
-    uint8_t *octets = request->dst.addr.octets;
     memset(request->ethernet.dst, 0xff, 6);
     if (request->dst.addr.version == 4)
         return;
-    memcpy(octets, group, sizeof group);
+    request->dst.addr = solicited_node(&request->dst.addr);
     memset(request->ethernet.dst, 0x33, 2);
-    memcpy(request->ethernet.dst + 2, octets + 12, 4);
+    memcpy(request->ethernet.dst + 2, request->dst.addr.octets + 12, 4);
 }
 
 /* One from `::` has no Ethernet address: it asks whether `target` is unused (RFC 4861, section 4.3). */

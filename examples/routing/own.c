@@ -1,4 +1,5 @@
-/* The router's own addresses on their links: whether another host has them, and whether the kernel has them. */
+/* The router's own addresses on their links: reports of their groups, whether another host has them, and whether the
+ * kernel has them. */
 #define _GNU_SOURCE
 #include "router.h"
 
@@ -7,7 +8,7 @@
 #include <stddef.h>
 
 enum { PROBE, ANNOUNCE, INTRODUCED };
-enum { BETWEEN_REPORTS = 10000 }; /* in milliseconds */
+enum { BETWEEN_CONFLICTS = 10000, BETWEEN_CALLS = 1000 }; /* in milliseconds */
 enum { ADVERT_LEN = ETHERNET_LEN + 72 };
 
 /* Tells all hosts the Ethernet address: an ARP announcement (RFC 5227, section 3), or an unsolicited advertisement (RFC
@@ -40,8 +41,43 @@ static void probe(struct router *router, const struct address *own)
     send_request(router, own->interface, &none, &own->block.addr, NULL);
 }
 
+/* Reports the groups of an interface, if that is due. */
+static void report_groups(struct router *router, uint16_t at)
+{
+    struct interface *interface = &router->interfaces[at];
+    uint8_t out[REPORT_LEN];
+    if (!is_due(&interface->listener, router->now))
+        return;
+    interface->listener.report_at = 0;
+    for (size_t i = 0; i < router->config.address_count; i++) {
+        const struct address *own = &router->config.addresses[i];
+        if (own->interface == at && own->block.addr.version == 6)
+            send_own(router, at, out, write_report(interface->own.hardware, &own->block.addr, out));
+    }
+}
+
+/* The time of a report may be over by BETWEEN_CALLS when `introduce` is called next. */
+int on_query(struct router *router, uint16_t from, const struct packet *packet)
+{
+    struct interface *interface = &router->interfaces[from];
+    int is_heard = 0;
+    for (size_t i = 0; !is_heard && !interface->kernel_answers && i < router->config.address_count; i++) {
+        const struct address *own = &router->config.addresses[i];
+        is_heard = own->interface == from && hear_query(&interface->listener, router->now, &own->block.addr, BETWEEN_CALLS,
+                                                        packet->frame, packet->len);
+    }
+    report_groups(router, from);
+    return is_heard;
+}
+
 void introduce(struct router *router)
 {
+    for (uint16_t i = 0; i < router->interface_count; i++) {
+        struct interface *interface = &router->interfaces[i];
+        if (interface->is_up && interface->introduced < INTRODUCED && !interface->kernel_answers)
+            interface->listener.report_at = router->now;
+        report_groups(router, i);
+    }
     for (size_t i = 0; i < router->config.address_count; i++) {
         const struct address *own = &router->config.addresses[i];
         const struct interface *interface = &router->interfaces[own->interface];
@@ -56,7 +92,7 @@ void defend(struct router *router, const struct address *own, const uint8_t *har
 {
     struct interface *interface = &router->interfaces[own->interface];
     char other[LK_ETHERNET_TEXT], addr[LK_ADDR_TEXT];
-    int is_early = interface->defended_at != 0 && router->now - interface->defended_at < BETWEEN_REPORTS;
+    int is_early = interface->defended_at != 0 && router->now - interface->defended_at < BETWEEN_CONFLICTS;
     if (is_early || memcmp(hardware, interface->own.hardware, 6) == 0)
         return;
     interface->defended_at = router->now;

@@ -3,6 +3,7 @@
 #define ROUTER_H
 
 #include "../error_limit.h"
+#include "../listener.h"
 #include "../process.h"
 
 #include <ip_wire.h>
@@ -29,6 +30,7 @@ struct interface {
     int is_up;           /* at the last look: a frame can be sent */
     int kernel_answers;  /* the kernel has its addresses, and answers for them */
     int introduced;      /* steps of `introduce` that its addresses have had */
+    struct listener listener;
     int64_t defended_at; /* when a conflict of addresses was reported last, in milliseconds; 0: never */
     int clamps;          /* the MTU limits the segments of TCP connections over it */
     int renumbers;       /* packets that leave in fragments get an identification of the router (RFC 6864, section 5.3) */
@@ -111,7 +113,7 @@ struct router {
     int64_t now;       /* in milliseconds */
     int takes_any_way; /* a packet may come from elsewhere than the route back to its source leads */
     int kernel_answers; /* for the addresses of packet sockets */
-    unsigned long frames, forwarded, answered, arp, ndisc;
+    unsigned long frames, forwarded, answered, arp, ndisc, mld;
     unsigned long for_kernel; /* packets that are left to the kernel */
     unsigned long fragments; /* taken to be put together */
     unsigned long wholes;    /* packets that were put together */
@@ -221,8 +223,11 @@ void send_error(struct router *router, uint16_t from, enum lk_problem problem, s
 /* ---- own.c ---- */
 
 /* Asks on each link whether another host has an address of the router, and a second later announces the addresses: at
- * the start, when a device has come up, and when the file was read again. To be called once a second. */
+ * the start, when a device has come up, and when the file was read again. Reports their groups then, and when a report is
+ * due. To be called once a second. */
 void introduce(struct router *router);
+/* Takes a query of multicast listener discovery. Returns 0 if the packet is none for a group of the router. */
+int on_query(struct router *router, uint16_t from, const struct packet *packet);
 /* Another Ethernet address claims an address of the router. Reports it and announces the address, once in 10 seconds
  * (RFC 5227, section 2.4 c). Does nothing if it is the router's own Ethernet address. */
 void defend(struct router *router, const struct address *own, const uint8_t *hardware);

@@ -69,7 +69,7 @@ __attribute__((constructor)) static void choose(void)
         "hop-by-hop options in any place", "an atomic fragment as a fragment",
         "the length of an authentication header in units of 8 bytes", "an address before a route with segments left written",
         "a parameter problem about an option to be dropped", "a pointer that counts from the end of the IPv6 header",
-        "the ports of a later fragment",
+        "the ports of a later fragment", "a router alert of RSVP", "a query for another group taken",
     };
     const char *number = getenv("FAULT");
     fault = number ? (enum fault)atoi(number) : NO_FAULT;

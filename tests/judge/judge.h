@@ -61,7 +61,7 @@ void same_text(const char *name, const char *wanted, const char *came);
 void same_frame(const struct lk_frame *wanted, const struct lk_frame *came);
 void same_options(const struct lk_tcp_options *wanted, const struct lk_tcp_options *came);
 
-/* ---- calls.c, calls_reassembly.c: each call of the library beside its model ---- */
+/* ---- calls.c, calls_mld.c, calls_reassembly.c: each call of the library beside its model ---- */
 
 #define BOTH(call) extern __typeof__(lk_##call) both_##call
 BOTH(emit_udp_frame); BOTH(emit_tcp_frame); BOTH(emit_icmp_frame); BOTH(emit_arp_frame); BOTH(emit_ndisc_frame);
@@ -80,7 +80,7 @@ BOTH(check_source); BOTH(make_route_table); BOTH(choose_route_by_table); BOTH(ch
 BOTH(translate_out); BOTH(translate_in); BOTH(set_hop_limit); BOTH(set_dscp); BOTH(set_addr);
 BOTH(set_port); BOTH(set_bytes); BOTH(fill_checksum); BOTH(protocol_name); BOTH(ethertype_name);
 BOTH(tcp_flag_name); BOTH(clamp_mss_as); BOTH(set_addr_as); BOTH(set_port_as); BOTH(set_bytes_as); BOTH(fragment);
-BOTH(reassemble); BOTH(expire);
+BOTH(reassemble); BOTH(expire); BOTH(emit_mld_report); BOTH(read_mld_query);
 
 /* The model of NAT has a table of its own: it is empty then. */
 void forget_mappings(void);
@@ -122,7 +122,7 @@ void make_valid(void);
 void make_frame(void);
 
 /* ---- cases_read.c, cases_link.c, cases_write.c, cases_text.c, cases_sums.c, cases_route.c,
- * cases_nat.c, cases_icmp.c, cases_edit.c, cases_fragment.c, cases_reassembly.c ---- */
+ * cases_nat.c, cases_icmp.c, cases_mld.c, cases_edit.c, cases_fragment.c, cases_reassembly.c ---- */
 
 void read_whole(void);
 void read_cut(void);
@@ -146,6 +146,7 @@ void choose_route(void);
 void translate_frames(void);
 void emit_icmp(void);
 void read_ndisc(void);
+void ask_groups(void);
 void emit_error(void);
 void edit_frame(void);
 void fragment_frame(void);

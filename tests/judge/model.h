@@ -152,6 +152,13 @@ ptrdiff_t model_emit_ndisc_frame(const struct lk_frame *headers, const struct lk
 ptrdiff_t model_emit_icmp_error(const struct lk_interface *own, int problem, uint32_t mtu, const uint8_t *octets,
                                 size_t len, uint8_t *out, size_t cap);
 
+/* ---- model_mld.c ---- */
+
+ptrdiff_t model_emit_mld_report(const struct lk_frame *headers, uint8_t *out, size_t cap);
+int model_read_mld_query(const uint8_t *frame, size_t len, const struct lk_addr *group);
+
+/* ---- model_icmp.c, for others ---- */
+
 /* Writes the message of a value, and returns its length. */
 size_t put_ndisc(const struct lk_ndisc *ndisc, const struct lk_addr *src, const struct lk_addr *dst, uint8_t *out);
 

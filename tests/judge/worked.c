@@ -90,6 +90,7 @@ void make_worked_calls(void)
     worked_nat();
     worked_mappings();
     worked_icmp();
+    worked_mld();
     worked_edit();
     worked_fragment();
     worked_reassembly();

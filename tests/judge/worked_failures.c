@@ -112,6 +112,7 @@ BY(emit_udp_frame, &in->frame, DATA, WRITTEN)
 BY(emit_tcp_frame, &in->frame, &in->options, DATA, WRITTEN)
 BY(emit_icmp_frame, &in->frame, DATA, WRITTEN)
 BY(emit_ndisc_frame, &in->frame, &in->ndisc, WRITTEN)
+BY(emit_mld_report, &in->frame, WRITTEN)
 BY(wrap_udp_frame, &in->frame, in->payload_len, WRITTEN)
 BY(wrap_tcp_frame, &in->frame, &in->options, in->payload_len, WRITTEN)
 BY(rebuild, in->packet.at, in->packet_len, WRITTEN)
@@ -152,6 +153,7 @@ static const struct {
     {by_emit_tcp_frame, HEADER | TCP, 0},
     {by_emit_icmp_frame, HEADER, 0},
     {by_emit_ndisc_frame, TWO, 6},
+    {by_emit_mld_report, TWO, 6},
     {by_wrap_udp_frame, HEADER | BIT(DST_PORT), 0},
     {by_wrap_tcp_frame, HEADER | TCP, 0},
     {by_rebuild, BIT(LENGTH) | BIT(ROOM_LEFT), 0},

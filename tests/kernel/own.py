@@ -1,7 +1,7 @@
 #!/usr/bin/env python3
 """The kernel's side of tests/kernel, for the addresses that examples/router.c and nat.c have on their links.
 
-tests/kernel/own.py ROUTER NAT
+tests/kernel/own.py ROUTER NAT HOST PROVED_HOST
 
 What they send at the start, another host with an address of theirs, and -k: the kernel has the addresses and answers.
 This process is a host on one side, and a namespace of its own is the host on the other side. Prints how many exchanges
@@ -16,6 +16,7 @@ import time
 import icmp
 import nat
 import packets
+from bridge import in_namespace
 from client import check, echoed, report
 from links import ELSEWHERE, READS_MTU, SELF, Here, Namespace, Program, WideSide, no_errors, ping, settle, udp_echo, udp_error
 from routed_frames import HARDWARE, HOSTS
@@ -242,27 +243,40 @@ def kernel_inside(program):
     server.kill()
 
 
-def behind_snooping(program):
-    """Behind a bridge that forwards a group only to where reports came from, hosts find a router whose groups the kernel
-    reports."""
-    switch, room, host = Namespace(), Namespace(), Namespace()
+def behind_snooping(program, hosts):
+    """Behind a bridge that forwards a group only to where reports came from, a host finds the router, the router whose
+    groups the kernel reports, and the hosts on TAP devices. Its queries are of version 2, and then of version 1."""
+    switch, near, kernel, far = (Namespace() for _ in range(4))
     switch.run(SWITCH)
-    for name, namespace in (("left", room), ("far", host)):
+    for number, (name, namespace) in enumerate((("left", near), ("right", kernel), ("far", far)), 1):
         switch.run(f"ip link add name {name} type veth peer name {name} netns {namespace.process} && ip link set dev {name} master switch up")
-        namespace.run(f"ip link set {name} up && ip address add fd01::{1 + (name == 'far')}/64 dev {name} nodad")
-    router = Program(room, program, "address fd01::1/64 dev left\n", ["packet:left"], options=["-k"])
-    time.sleep(SNOOPS)
-    host.run("ip neighbour flush all")
-    with host.entered():
-        check("ping behind a bridge that snoops", ping(socket.AF_INET6, "fd01::1", b"data", 1))
-    group = subprocess.run(["nsenter", "--target", switch.process, "--net", "bridge", "mdb"], capture_output=True, text=True, check=True)
-    check("groups of the router", "port left grp ff02::1:ff00:1 " in group.stdout, group.stdout)
-    router.ends("behind a bridge that snoops")
+        namespace.run(f"ip link set {name} up" + ("" if namespace is near else f" && ip address add fd01::{number}/64 dev {name} nodad"))
+    routers = [Program(near, program, "address fd01::1/64 dev left\n", ["packet:left"]),
+               Program(kernel, program, "address fd01::2/64 dev right\n", ["packet:right"], options=["-k"])]
+    running = []
+    for number, host in enumerate(hosts, 4):
+        running.append(in_namespace(switch.process, host, f"tap{number}", f"02:00:00:00:aa:0{number}", "0.0.0.0", f"fd01::{number}"))
+        running[-1].stdout.readline()
+        switch.run(f"ip link set dev tap{number} master switch up")
+    for version in (2, 1):
+        switch.run(f"ip link set switch type bridge mcast_mld_version {version}")
+        time.sleep(SNOOPS)
+        far.run("ip neighbour flush all")
+        groups = subprocess.run(["nsenter", "--target", switch.process, "--net", "bridge", "mdb"], capture_output=True, text=True, check=True)
+        for number, port in ((1, "left"), (2, "right"), (4, "tap4"), (5, "tap5")):
+            with far.entered():
+                check("ping behind a bridge that snoops", ping(socket.AF_INET6, f"fd01::{number}", b"data", 1), (version, port))
+            check("groups", f"port {port} grp ff02::1:ff00:{number} " in groups.stdout, (version, port, groups.stdout))
+    for router in routers:
+        router.ends("behind a bridge that snoops")
+    for host in running:
+        host.terminate()
+        check("SIGTERM to a host behind a bridge that snoops", host.wait() == 0)
 
 
-def own_addresses(router, nat_program):
+def own_addresses(router, nat_program, *hosts):
     introductions(router)
-    behind_snooping(router)
+    behind_snooping(router, hosts)
     kernel_answers(router)
     kernel_inside(nat_program)
 

@@ -1,16 +1,17 @@
-//! ICMP messages, neighbour discovery and ICMP errors.
+//! ICMP messages, neighbour discovery, multicast listener discovery and ICMP errors.
 #![tactic(auto, using(crate::proofs::Written::all, crate::proofs::Written::none, crate::proofs::Written::too_long))]
 
 ghost use Rattle.std.specs.Prelude.{◌≡◌, length};
 ghost use Rattle.c_icmp.specs.Errors.{WritesError, own_interface, problem_by};
 ghost use Rattle.c_icmp.specs.Frames.{icmp_failure, icmp_frame, icmp_frame_failure};
 ghost use Rattle.c_icmp.specs.Messages.{icmp_bytes};
+ghost use Rattle.c_icmp.specs.Mld.{AsksFor, TellsDelay, mld_failure, mld_report};
 ghost use Rattle.c_icmp.specs.Neighbours.{ReadsNdisc, ndisc_failure, ndisc_frame, ndisc_struct};
 ghost use Rattle.c_structs.specs.Written.{IsRead, Writes, is_set, within};
 
 use c_icmp::{
-    InterfaceFields, Ndisc, Problem, emit_icmp, emit_icmp_frame, emit_ndisc_frame, icmp_failure,
-    icmp_frame_failure, ndisc_failure,
+    InterfaceFields, Ndisc, Problem, emit_icmp, emit_icmp_frame, emit_mld_report, emit_ndisc_frame,
+    icmp_failure, icmp_frame_failure, mld_failure, ndisc_failure, read_mld_query,
 };
 use c_structs::{Addr, FrameFields, Icmp, MAX_LEN, failed, is_set, within};
 
@@ -72,6 +73,29 @@ pub extern "C" fn lk_emit_ndisc_frame(headers: &FrameFields, ndisc: &Ndisc, out:
     } else {
         failed(ndisc_failure(headers, ndisc))
     }
+}
+
+/// Writes a whole frame with the report of a multicast group.
+#[unsafe(no_mangle)]
+pub extern "C" fn lk_emit_mld_report(headers: &FrameFields, out: &mut [u8]) -> isize
+    ensures { Writes (mld_report headers.now) (mld_failure headers.now) out.old out.new result }
+{
+    if out.len() <= MAX_LEN
+        && let Some(len) = emit_mld_report(headers, out)
+    {
+        len as isize
+    } else {
+        failed(mld_failure(headers))
+    }
+}
+
+/// The maximum response delay of a query in a frame that asks for the multicast group, in milliseconds; -1 if the frame
+/// is none.
+#[unsafe(no_mangle)]
+pub extern "C" fn lk_read_mld_query(frame: &[u8], group: &Addr) -> i32
+    ensures { TellsDelay (AsksFor group.now (within frame.now)) result }
+{
+    read_mld_query(within(frame), group)
 }
 
 /// Writes an ICMP error about a frame that came in by an interface, to its sender, and returns its length; 0 if there

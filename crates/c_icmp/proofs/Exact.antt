@@ -2,6 +2,7 @@
 use Rattle.std.proofs.Common.{ℕ, ◌≡◌, ◌∙◌, ◌+◌, ◌≤◌, ◌&&◌, ◌==◌, true, false, Bool, if◌then◌else◌, List, length, length-append, Some, None, is_none, is_some, nat_le, nat_lt, refl, sym, ap, arith}
 use Rattle.std.proofs.lemmas.Bool.Decides.{nat_tests}
 use Rattle.std.specs.Option.{option_and_then}
+use Rattle.app_mld.specs.Mld.{report_bytes}
 use Rattle.ip_wire.specs.Types.{IpAddress}
 use Rattle.wire_icmp.specs.Icmp.{emitted}
 use Rattle.wire_icmp.specs.Ndisc.{body_of, bytes_of}
@@ -19,6 +20,7 @@ use Rattle.c_write.specs.Headers.{is_yes, only_if}
 use Rattle.c_icmp.proofs.Packets.{length-icmp}
 use Rattle.c_icmp.specs.Frames.{icmp_failure, icmp_frame, icmp_frame_failure, protocol_number}
 use Rattle.c_icmp.specs.Messages.{header_value, icmp_bytes}
+use Rattle.c_icmp.specs.Mld.{are_ipv6, mld_failure, mld_report}
 use Rattle.c_icmp.specs.Neighbours.{has_ipv6, is_ipv6, ndisc_failure, ndisc_frame, ndisc_ip, ndisc_value}
 use Rattle.c_icmp.specs.declared.types.Ndisc.{Ndisc}
 
@@ -99,3 +101,12 @@ ndisc-frame-exact f n target hardware = by (has_ipv6 f n) refl
     by : (b : Bool) → has_ipv6 f n ≡ b → is_some (ndisc_frame f n) ≡ is_none (ndisc_failure f n)
     by true is = chosen true is ∙ whole is ∙ sym (ap (λ (b : Bool). is_none (if b then None else Some failure.NoVersion)) is)
     by false is = chosen false is ∙ sym (ap (λ (b : Bool). is_none (if b then None else Some failure.NoVersion)) is)
+
+-- ---- multicast listener discovery
+
+pub mld-exact : (f : FrameFields) → is_some (mld_report f) ≡ is_none (mld_failure f)
+mld-exact f = by (are_ipv6 f) (report_bytes (record { 0 = f.ethernet.src }) f.src.addr.octets f.dst.addr.octets)
+  where
+    by : (b : Bool) (bytes : List ℕ) → is_some (only_if b bytes) ≡ is_none (if b then None else Some failure.NoVersion)
+    by true bytes = refl
+    by false bytes = refl

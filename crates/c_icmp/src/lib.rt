@@ -1,5 +1,5 @@
-//! ICMP in the structs of `c/ip_wire.h`: messages that are written, neighbour discovery, and ICMP errors. `c_exports`
-//! exports it to C.
+//! ICMP in the structs of `c/ip_wire.h`: messages that are written, neighbour discovery, multicast
+//! listener discovery, and ICMP errors. `c_exports` exports it to C.
 #![tactic(auto)]
 
 mod emit;
@@ -7,10 +7,12 @@ mod errors;
 mod host;
 mod interfaces;
 pub mod laws;
+mod mld;
 mod neighbours;
 mod types;
 
 pub use emit::{emit_icmp, emit_icmp_frame, icmp_failure, icmp_frame_failure};
 pub use errors::Problem;
+pub use mld::{emit_mld_report, mld_failure, read_mld_query};
 pub use neighbours::{emit_ndisc_frame, ndisc_failure};
 pub use types::{HostFields, InterfaceFields, Ndisc};

@@ -1,5 +1,5 @@
 use Rattle.std.proofs.Common.{◌≡◌, length, rules}
-use Rattle.c_icmp.proofs.Exact.{icmp-exact, icmp-frame-exact, ndisc-frame-exact}
+use Rattle.c_icmp.proofs.Exact.{icmp-exact, icmp-frame-exact, mld-exact, ndisc-frame-exact}
 use Rattle.c_icmp.proofs.laws.failures_are_exact_icmp.Goals as goal
 
 pub returns : goal.returns
@@ -9,5 +9,6 @@ returns c =
     record {
       message = icmp-exact;
       frame = icmp-frame-exact c.args.frame;
+      mld_report = mld-exact c.args.frame;
       ndisc_frame = ndisc-frame-exact c.args.frame c.args.ndisc target hardware;
     }

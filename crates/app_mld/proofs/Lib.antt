@@ -1,0 +1,2 @@
+mod Queries
+mod Reports
