@@ -1,4 +1,3 @@
-mod Beside
 mod Covers
 mod Direct
 mod Found

@@ -3,7 +3,7 @@
 ghost use Rattle.std.specs.Prelude.{◌≡◌, ◌≤◌, ◌<◌, ◌^◌, is_some, length, true};
 ghost use Rattle.std.specs.Option.{unwrap_or};
 ghost use Rattle.app_edit.specs.Edited.{addr_set, address_place, allows, bytes_set, dscp_set, edited, hop_limit_place, hop_limit_set, is_apart, keeps_carried, keeps_header, keeps_segment, port_place, port_set, takes_address, with_dscp};
-ghost use Rattle.app_edit.specs.Places.{Holds, addresses_start, carried_start, places_of};
+ghost use Rattle.app_edit.specs.Places.{Holds, carried_start, places_of};
 ghost use Rattle.ip_wire.specs.IpAddress.{IsAddress, address_bytes};
 
 use crate::offsets::{
@@ -28,14 +28,13 @@ pub fn set_hop_limit(frame: &mut [u8], hop_limit: u8) -> bool
         return false;
     };
     let at = hop_limit_place(places.version);
-    places.replace_before_addresses(frame, at, &[hop_limit]);
+    places.replace(frame, at, &[hop_limit], Offload::Complete);
     true
 }
 
 // The place of the TTL or hop limit.
 fn hop_limit_place(version: IpVersion) -> usize
-    ensures value { result ≡ hop_limit_place version }
-    ensures before { result < addresses_start version }
+    ensures { result ≡ hop_limit_place version }
 {
     match version {
         IpVersion::Ipv4 => IPV4_HOP_LIMIT,
@@ -60,7 +59,7 @@ pub fn set_dscp(frame: &mut [u8], dscp: u8) -> bool
     let mut bytes = [0; 2];
     bytes.copy_from_slice(&frame[IP_HEADER..DSCP_END]);
     write_dscp(places.version, &mut bytes, dscp);
-    places.replace_before_addresses(frame, IP_HEADER, &bytes);
+    places.replace(frame, IP_HEADER, &bytes, Offload::Complete);
     true
 }
 
@@ -130,16 +129,10 @@ fn write_address(places: &Places, frame: &mut [u8], side: Side, addr: &IpAddress
     ensures bytes { frame.new ≡ edited offload places.now frame.old (address_place side places.now.version) (address_bytes addr.now) }
     ensures octets { IsAddress addr.now }
 {
-    match (places.version, addr) {
-        (IpVersion::Ipv4, IpAddress::Ipv4(addr)) => {
-            let at = address_place(side, IpVersion::Ipv4);
-            places.replace_address(frame, at, &addr.octets(), offload)
-        }
-        (IpVersion::Ipv6, IpAddress::Ipv6(addr)) => {
-            let at = address_place(side, IpVersion::Ipv6);
-            places.replace_address(frame, at, &addr.octets(), offload)
-        }
-        _ => unreachable!(),
+    let at = address_place(side, places.version);
+    match addr {
+        IpAddress::Ipv4(addr) => places.replace(frame, at, &addr.octets(), offload),
+        IpAddress::Ipv6(addr) => places.replace(frame, at, &addr.octets(), offload),
     }
 }
 
@@ -155,7 +148,7 @@ pub fn set_port(frame: &mut [u8], side: Side, port: u16, offload: Offload) -> bo
     };
     match port_place(side, places.carried) {
         Some(at) => {
-            places.replace_payload(frame, at, &port.to_be_bytes(), offload);
+            places.replace(frame, at, &port.to_be_bytes(), offload);
             true
         }
         None => false,

@@ -2,19 +2,16 @@
 
 ghost use Rattle.std.specs.Prelude.{◌≡◌, ◌≤◌, ◌+◌, ◌^◌, length};
 ghost use Rattle.ip_wire.specs.IpAddress.{version_of};
-ghost use Rattle.ip_wire.specs.PseudoHeader.{with_pseudo_header};
-ghost use Rattle.ip_wire.specs.WordSum.{sum_of_bytes, updated};
+ghost use Rattle.ip_wire.specs.WordSum.{updated};
 ghost use Rattle.app_edit.specs.Edited.{can_be_left, dst_of, edited, header_checksum, is_left, looks_left, pseudo_header_sum, segment_sum, src_of, transport_checksum, updated_by, updated_checksum, updated_over, with_header_checksum, with_transport_checksum, with_word, word_at, written};
 ghost use Rattle.app_edit.specs.Checksums.{sum_at};
 ghost use Rattle.app_edit.specs.Filled.{filled};
 ghost use Rattle.app_edit.specs.Places.{Holds, InFrame, addresses_end, addresses_start};
-ghost use Rattle.app_edit.specs.declared.replace.Offload.TheVariants.{Complete};
 
 use crate::checksums::{update_bytes, update_udp_bytes};
 use crate::offsets::{IP_HEADER, IPV4_CHECKSUM, IPV4_END, IPV4_SRC, IPV6_END, IPV6_SRC};
 use crate::places::{Carried, Places, Segment};
 use byteorder::{ByteOrder, NetworkEndian};
-use ip_wire::laws::field::bytes_fit;
 use ip_wire::{IpAddress, IpProtocol, IpVersion, Ipv4Packet, Ipv6Packet, checksum};
 
 /// Whether the checksum of a TCP or UDP packet is left to the device that sends the frame (checksum offload). The frame
@@ -44,59 +41,6 @@ impl Places {
         self.write_transport_checksum(frame, transport);
     }
 
-    // The same before the addresses: no transport checksum covers these bytes.
-    #[inline(always)]
-    pub(crate) fn replace_before_addresses(&self, frame: &mut [u8], at: usize, bytes: &[u8])
-        requires places { Holds self.now frame.old }
-        requires before { at + length bytes.now ≤ addresses_start self.now.version }
-        ensures { frame.new ≡ edited Complete self.now frame.old at bytes.now }
-    {
-        bytes_fit(frame);
-        let header = self.fixed_header_checksum(frame, at, bytes);
-        write_at(frame, at, bytes);
-        self.write_header_checksum(frame, header);
-    }
-
-    // The same of an address: both checksums cover it, and the transport packet has none of its bytes.
-    #[inline(always)]
-    pub(crate) fn replace_address(
-        &self,
-        frame: &mut [u8],
-        at: usize,
-        bytes: &[u8],
-        offload: Offload,
-    )
-        requires places { Holds self.now frame.old }
-        requires fixed { at + length bytes.now ≤ addresses_end self.now.version }
-        ensures { frame.new ≡ edited offload self.now frame.old at bytes.now }
-    {
-        let header = self.fixed_header_checksum(frame, at, bytes);
-        let transport = self.transport_checksum(frame, at, bytes, offload);
-        write_at(frame, at, bytes);
-        self.write_header_checksum(frame, header);
-        self.write_transport_checksum(frame, transport);
-    }
-
-    // The same after the IP header and extension headers: only the transport checksum covers these bytes.
-    #[inline(always)]
-    pub(crate) fn replace_payload(
-        &self,
-        frame: &mut [u8],
-        at: usize,
-        bytes: &[u8],
-        offload: Offload,
-    )
-        requires places { Holds self.now frame.old }
-        requires after { self.now.start ≤ at }
-        requires room { at + length bytes.now ≤ length frame.old }
-        ensures { frame.new ≡ edited offload self.now frame.old at bytes.now }
-    {
-        bytes_fit(frame);
-        let transport = self.transport_checksum(frame, at, bytes, offload);
-        write_at(frame, at, bytes);
-        self.write_transport_checksum(frame, transport);
-    }
-
     // The checksum of an IPv4 header after these bytes are written; 0 for IPv6.
     #[inline(always)]
     fn header_checksum(&self, frame: &[u8], at: usize, bytes: &[u8]) -> u16
@@ -109,23 +53,6 @@ impl Places {
                 let before = &frame[at..at + bytes.len()];
                 let field = word_at(frame, IPV4_CHECKSUM);
                 update_over(field, IP_HEADER, self.start, at, before, bytes)
-            }
-            IpVersion::Ipv6 => 0,
-        }
-    }
-
-    // The same if none of these bytes is after the addresses, where IPv4 options are.
-    #[inline(always)]
-    fn fixed_header_checksum(&self, frame: &[u8], at: usize, bytes: &[u8]) -> u16
-        requires places { Holds self.now frame.now }
-        requires fixed { at + length bytes.now ≤ addresses_end self.now.version }
-        ensures { result ≡ header_checksum self.now.version self.now.start frame.now at bytes.now }
-    {
-        match self.version {
-            IpVersion::Ipv4 => {
-                let before = &frame[at..at + bytes.len()];
-                let field = word_at(frame, IPV4_CHECKSUM);
-                update_over(field, IP_HEADER, IPV4_END, at, before, bytes)
             }
             IpVersion::Ipv6 => 0,
         }
@@ -219,7 +146,6 @@ impl Segment {
     }
 
     // Whether the checksum counts as left to the device.
-    #[inline(always)]
     fn is_left(&self, version: IpVersion, frame: &[u8], offload: Offload) -> bool
         requires { InFrame version self.now frame.now }
         ensures { result ≡ is_left offload version self.now frame.now }
@@ -232,7 +158,6 @@ impl Segment {
     }
 
     // Whether the checksum looks left to the device.
-    #[inline(always)]
     fn looks_left(&self, version: IpVersion, frame: &[u8]) -> bool
         requires { InFrame version self.now frame.now }
         ensures { result ≡ looks_left version self.now frame.now }
@@ -244,7 +169,6 @@ impl Segment {
     }
 
     // The sum of all that the checksum covers.
-    #[inline(always)]
     fn sum(&self, version: IpVersion, frame: &[u8]) -> u16
         requires { InFrame version self.now frame.now }
         ensures { result ≡ segment_sum version self.now frame.now }
@@ -255,13 +179,12 @@ impl Segment {
             protocol => {
                 let src = src_of(version, frame);
                 let dst = dst_of(version, frame);
-                packet_sum(&src, &dst, protocol, bytes)
+                checksum::packet(src, dst, protocol, bytes)
             }
         }
     }
 
     // The sum of the pseudo-header.
-    #[inline(always)]
     fn pseudo_header_sum(&self, version: IpVersion, frame: &[u8]) -> u16
         requires { InFrame version self.now frame.now }
         ensures { result ≡ pseudo_header_sum version self.now frame.now }
@@ -280,15 +203,6 @@ pub(crate) fn can_be_left(protocol: IpProtocol) -> bool
     matches!(protocol, IpProtocol::Tcp | IpProtocol::Udp)
 }
 
-// The sum of a pseudo-header and the packet after it.
-#[inline(never)]
-fn packet_sum(src: &IpAddress, dst: &IpAddress, protocol: IpProtocol, packet: &[u8]) -> u16
-    requires { version_of src.now ≡ version_of dst.now }
-    ensures { result ≡ sum_of_bytes (with_pseudo_header src.now dst.now protocol packet.now) }
-{
-    checksum::packet(*src, *dst, protocol, packet)
-}
-
 // Where the two addresses of a packet begin and end.
 fn addresses(version: IpVersion) -> (usize, usize)
     ensures start { result.0 ≡ addresses_start version }
@@ -301,7 +215,6 @@ fn addresses(version: IpVersion) -> (usize, usize)
 }
 
 // The source address of a packet.
-#[inline(always)]
 fn src_of(version: IpVersion, frame: &[u8]) -> IpAddress
     requires { addresses_end version ≤ length frame.now }
     ensures value { result ≡ src_of version frame.now }
@@ -315,7 +228,6 @@ fn src_of(version: IpVersion, frame: &[u8]) -> IpAddress
 }
 
 // The destination address of a packet.
-#[inline(always)]
 fn dst_of(version: IpVersion, frame: &[u8]) -> IpAddress
     requires { addresses_end version ≤ length frame.now }
     ensures value { result ≡ dst_of version frame.now }
