@@ -1,3 +1,4 @@
+mod Beside
 mod Covers
 mod Direct
 mod Found

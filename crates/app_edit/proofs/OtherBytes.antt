@@ -44,7 +44,7 @@ not-covered update field first last at before after out =
 
 -- ---- a word that is written over itself
 
-word-byte : (zs xs : List ℕ) (c i : ℕ) → AreBytes xs → c + 2 ≤ length zs → c ≤ i → i < c + 2 → slice_index (with_word zs c (word_at xs c)) i ≡ slice_index xs i
+pub word-byte : (zs xs : List ℕ) (c i : ℕ) → AreBytes xs → c + 2 ≤ length zs → c ≤ i → i < c + 2 → slice_index (with_word zs c (word_at xs c)) i ≡ slice_index xs i
 word-byte zs xs c i are room low high = elim (cases_eq i c) [
   | inl here ↦
       let is : i ≡ c + 0 = omega (arith, here) in
@@ -89,7 +89,7 @@ over-kept protocol.Icmp v field at before after out = refl
 over-kept q v field at before after (inl icmp) = absurd (cc)
 over-kept q v field at before after (inr out) = not-covered (updated_by q) field (addresses_start v) (addresses_end v) at before after out
 
-transport-kept : (o : Offload) (v : IpVersion) (s : Segment) (xs bytes : List ℕ) (at : ℕ) → AreBytes xs → BesideTransport (carried.Segment s) v at (at + length bytes)
+pub transport-kept : (o : Offload) (v : IpVersion) (s : Segment) (xs bytes : List ℕ) (at : ℕ) → AreBytes xs → BesideTransport (carried.Segment s) v at (at + length bytes)
     → updated_checksum o v s xs at (slice_range xs at (at + length bytes)) bytes ≡ word_at xs (checksum_place s)
 transport-kept o v s xs bytes at are beside = by-test (is_left o v s xs) refl
   where

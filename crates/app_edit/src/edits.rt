@@ -3,7 +3,7 @@
 ghost use Rattle.std.specs.Prelude.{◌≡◌, ◌≤◌, ◌<◌, ◌^◌, is_some, length, true};
 ghost use Rattle.std.specs.Option.{unwrap_or};
 ghost use Rattle.app_edit.specs.Edited.{addr_set, address_place, allows, bytes_set, dscp_set, edited, hop_limit_place, hop_limit_set, is_apart, keeps_carried, keeps_header, keeps_segment, port_place, port_set, takes_address, with_dscp};
-ghost use Rattle.app_edit.specs.Places.{Holds, carried_start, places_of};
+ghost use Rattle.app_edit.specs.Places.{Holds, addresses_start, carried_start, places_of};
 ghost use Rattle.ip_wire.specs.IpAddress.{IsAddress, address_bytes};
 
 use crate::offsets::{
@@ -24,17 +24,18 @@ pub fn set_hop_limit(frame: &mut [u8], hop_limit: u8) -> bool
     ensures bytes { frame.new ≡ unwrap_or (hop_limit_set frame.old hop_limit) frame.old }
     ensures places { places_of frame.new ≡ places_of frame.old }
 {
-    let Some(places) = Places::of(frame) else {
+    let Some(places) = Places::inlined(frame) else {
         return false;
     };
     let at = hop_limit_place(places.version);
-    places.replace(frame, at, &[hop_limit], Offload::Complete);
+    places.replace_before_addresses(frame, at, &[hop_limit]);
     true
 }
 
 // The place of the TTL or hop limit.
 fn hop_limit_place(version: IpVersion) -> usize
-    ensures { result ≡ hop_limit_place version }
+    ensures value { result ≡ hop_limit_place version }
+    ensures before { result < addresses_start version }
 {
     match version {
         IpVersion::Ipv4 => IPV4_HOP_LIMIT,
@@ -53,13 +54,13 @@ pub fn set_dscp(frame: &mut [u8], dscp: u8) -> bool
     if dscp > 63 {
         return false;
     }
-    let Some(places) = Places::of(frame) else {
+    let Some(places) = Places::inlined(frame) else {
         return false;
     };
     let mut bytes = [0; 2];
     bytes.copy_from_slice(&frame[IP_HEADER..DSCP_END]);
     write_dscp(places.version, &mut bytes, dscp);
-    places.replace(frame, IP_HEADER, &bytes, Offload::Complete);
+    places.replace_before_addresses(frame, IP_HEADER, &bytes);
     true
 }
 

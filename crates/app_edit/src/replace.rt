@@ -7,11 +7,13 @@ ghost use Rattle.app_edit.specs.Edited.{can_be_left, dst_of, edited, header_chec
 ghost use Rattle.app_edit.specs.Checksums.{sum_at};
 ghost use Rattle.app_edit.specs.Filled.{filled};
 ghost use Rattle.app_edit.specs.Places.{Holds, InFrame, addresses_end, addresses_start};
+ghost use Rattle.app_edit.specs.declared.replace.Offload.TheVariants.{Complete};
 
 use crate::checksums::{update_bytes, update_udp_bytes};
 use crate::offsets::{IP_HEADER, IPV4_CHECKSUM, IPV4_END, IPV4_SRC, IPV6_END, IPV6_SRC};
 use crate::places::{Carried, Places, Segment};
 use byteorder::{ByteOrder, NetworkEndian};
+use ip_wire::laws::field::bytes_fit;
 use ip_wire::{IpAddress, IpProtocol, IpVersion, Ipv4Packet, Ipv6Packet, checksum};
 
 /// Whether the checksum of a TCP or UDP packet is left to the device that sends the frame (checksum offload). The frame
@@ -39,6 +41,19 @@ impl Places {
         write_at(frame, at, bytes);
         self.write_header_checksum(frame, header);
         self.write_transport_checksum(frame, transport);
+    }
+
+    // The same before the addresses: no transport checksum covers these bytes.
+    #[inline(always)]
+    pub(crate) fn replace_before_addresses(&self, frame: &mut [u8], at: usize, bytes: &[u8])
+        requires places { Holds self.now frame.old }
+        requires before { at + length bytes.now ≤ addresses_start self.now.version }
+        ensures { frame.new ≡ edited Complete self.now frame.old at bytes.now }
+    {
+        bytes_fit(frame);
+        let header = self.header_checksum(frame, at, bytes);
+        write_at(frame, at, bytes);
+        self.write_header_checksum(frame, header);
     }
 
     // The checksum of an IPv4 header after these bytes are written; 0 for IPv6.

@@ -11,7 +11,7 @@ returns-clause-places c =
     let xs = c.args.frame.now in
     let p = c.in-Some.places in
     let n = c.args.dscp in
-    let is : places_of xs ≡ Some p = sym c.of.ensures.value ∙ c.in-Some.is in
+    let is : places_of xs ≡ Some p = sym c.inlined.ensures.value ∙ c.in-Some.is in
     let written : c.write_dscp.new.bytes ≡ with_dscp p.version (slice_range xs 14 16) n = search rules in
-    ap places_of (c.replace.ensures ∙ ap (λ bytes. edited Complete p xs 14 bytes) written)
-    ∙ dscp-places Complete p xs n (found c.of.result xs p c.of.ensures.value c.of.ensures.holds is) is c.bytes_fit.ensures ∙ sym is
+    ap places_of (c.replace_before_addresses.ensures ∙ ap (λ bytes. edited Complete p xs 14 bytes) written)
+    ∙ dscp-places Complete p xs n (found c.inlined.result xs p c.inlined.ensures.value c.inlined.ensures.holds is) is c.bytes_fit.ensures ∙ sym is

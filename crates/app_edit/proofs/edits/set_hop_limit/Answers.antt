@@ -11,6 +11,6 @@ returns-clause-places c =
     let xs = c.args.frame.now in
     let p = c.in-Some.places in
     let n = c.args.hop_limit in
-    let is : places_of xs ≡ Some p = sym c.of.ensures.value ∙ c.in-Some.is in
-    ap places_of (c.replace.ensures ∙ ap (λ at. edited Complete p xs at (n ∷ [])) c.hop_limit_place-at.ensures)
-    ∙ hop_limit-places Complete p xs n (found c.of.result xs p c.of.ensures.value c.of.ensures.holds is) is ∙ sym is
+    let is : places_of xs ≡ Some p = sym c.inlined.ensures.value ∙ c.in-Some.is in
+    ap places_of (c.replace_before_addresses.ensures ∙ ap (λ at. edited Complete p xs at (n ∷ [])) c.hop_limit_place-at.ensures.value)
+    ∙ hop_limit-places Complete p xs n (found c.inlined.result xs p c.inlined.ensures.value c.inlined.ensures.holds is) is ∙ sym is
