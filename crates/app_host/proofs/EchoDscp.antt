@@ -9,18 +9,17 @@ use Rattle.app_host.specs.Neighbour.{AdvertisesFrame}
 use Rattle.app_host.specs.ParameterProblem.{ProblemFrame}
 use Rattle.app_host.specs.Interface.{header_back}
 use Rattle.app_host.specs.Message as message
-use Rattle.app_host.specs.Message.{HasClass, HasDscp, IsMarked, IsReplyMarked, dscp_of, values_of}
+use Rattle.app_host.specs.Message.{HasClass, IsMarked, dscp_of, values_of}
 use Rattle.app_host.specs.declared.host.Host.{Host}
 use Rattle.app_host.specs.declared.interface.Interface.{Interface}
 use Rattle.app_host.specs.declared.message.MessageFrame.{MessageFrame}
-use Rattle.app_host.specs.declared.message.Reply.TheVariants as reply
 use Rattle.ip_wire.proofs.Parsed.{IsParsed}
 use Rattle.ip_wire.specs.Frame as frame
 use Rattle.ip_wire.specs.Frame.{IsReadWhole, ReadsPacket, all_checked}
 use Rattle.ip_wire.specs.FrameValue.{carried_of}
 use Rattle.ip_wire.specs.Ip.{dst_addr_of, header_before, src_addr_of, version_of}
 use Rattle.ip_wire.specs.IpAddress as address
-use Rattle.ip_wire.specs.Reply.{Gives}
+use Rattle.ip_wire.specs.Reply.{Gives, HasValues}
 use Rattle.ip_wire.specs.Types.{EthernetRepr, IpAddress, IpRepr, IpVersion, Ipv4, Ipv6}
 use Rattle.ip_wire.specs.declared.IpVersion.TheVariants as version
 use Rattle.ip_wire.specs.declared.Carried.{Carried}
@@ -133,8 +132,9 @@ frame-values host bytes asked_header header asked c (inl e) = sym (ap (reply_dsc
 frame-values host bytes asked_header header asked c (inr (inl e)) = sym (ap (reply_dscp bytes) e.echoes)
 frame-values host bytes asked_header header asked c (inr (inr e)) = sym (ap (reply_dscp bytes) e.carries)
 
-pub frame-marked : (host : Host) (request f : Frame) (bytes : List ℕ) → Gives (RepliesFrame host request) (Some f) → HasDscp (reply.Frame f) (reply_dscp bytes)
-frame-marked host request f bytes (sendable, (h, c, values, (asked, is, r))) = λ k d others.
+pub frame-marked : (host : Host) (request f : Frame) (bytes : List ℕ) → Gives (RepliesFrame host request) (Some f)
+    → (k : EthernetRepr) (d : frame.Carried) → HasValues f k d → 0 ≡ reply_dscp bytes d
+frame-marked host request f bytes (sendable, (h, c, values, (asked, is, r))) k d others =
     let same : c ≡ d = cc in frame-values host bytes request.header h asked c r ∙ ap (reply_dscp bytes) same
 
 -- ---- bytes
@@ -156,10 +156,9 @@ long-asked host bytes asked_header header asked c reads (inr (inr (inl e))) = lo
 long-asked host bytes asked_header header asked c reads (inr (inr (inr e))) = long-frame bytes asked_header (Ipv6 e.ip) _ (subst (IsReadWhole bytes asked_header) e.asks reads)
 
 pub message-marked : (host : Host) (request : Frame) (bytes : List ℕ) (f : MessageFrame) → IsParsed request bytes → message.Gives (RepliesMessage host bytes request) (Some f)
-    → (16 ≤ length bytes → f.dscp ≡ reply_dscp bytes (values_of f)) → HasDscp (reply.Message f) (reply_dscp bytes)
-message-marked host request bytes f parsed (sendable, (asked, is, r)) marked = λ header carried values.
-    let reads = (parsed request.header asked).0 (refl, is) in
-    marked (long-asked host bytes request.header f.header asked (values_of f) reads r) ∙ ap (reply_dscp bytes) values.1
+    → (16 ≤ length bytes → f.dscp ≡ reply_dscp bytes (values_of f)) → f.dscp ≡ reply_dscp bytes (values_of f)
+message-marked host request bytes f parsed (sendable, (asked, is, r)) marked =
+    let reads = (parsed request.header asked).0 (refl, is) in marked (long-asked host bytes request.header f.header asked (values_of f) reads r)
 
 pub keeps-dscp : (ours : Interface) (request : Frame) (bytes new : List ℕ) (f : MessageFrame) → IsParsed request bytes → HasDscpOf ours request bytes f → IsMarked f new → KeepsDscp ours bytes new
 keeps-dscp ours request bytes new f parsed has marked = λ asked_header header asked carried reads e.

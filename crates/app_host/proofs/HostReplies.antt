@@ -1,7 +1,7 @@
--- The reply of a host is one of the seven kinds of replies.
+-- Each kind of reply is a reply of a host, and what is sent of it is what a host sends.
 use Rattle.std.proofs.Common.{ℕ, ◌≡◌, ◌∙◌, ◌++◌, inl, inr, List, Option, Some, None, arith, ap, drop, refl, subst, sym}
 use Rattle.std.specs.Prelude.{IfSome}
-use Rattle.app_host.specs.Host.{Answers, IsMessageReply, IsReply, IsServed, IsUnread, RepliesBytes, RepliesFrame, RepliesMessage, UnreachableFrame}
+use Rattle.app_host.specs.Host.{Answers, IsServed, IsUnread, RepliesBytes, RepliesFrame, RepliesMessage, UnreachableFrame}
 use Rattle.app_host.specs.declared.host.Host.{Host}
 use Rattle.app_host.proofs.RepliesOnce.{IsOne}
 use Rattle.app_host.specs.Arp.{ArpRepliesFrame}
@@ -9,19 +9,16 @@ use Rattle.app_host.specs.IcmpEcho.{RepliesEchoFrame, reply_dscp}
 use Rattle.app_host.specs.IcmpError.{IsError}
 use Rattle.app_host.specs.Interface.{IsForUs}
 use Rattle.app_host.specs.Message as message
-use Rattle.app_host.specs.Message.{GivesReply, HasDscp, IsReplySent, values_of}
+use Rattle.app_host.specs.Message.{values_of}
 use Rattle.app_host.specs.Neighbour.{AdvertisesFrame}
 use Rattle.app_host.specs.ParameterProblem.{ProblemFrame}
 use Rattle.app_host.specs.TcpReply.{TcpRepliesFrame}
 use Rattle.app_host.specs.UdpEcho.{EchoesFrame}
 use Rattle.app_host.specs.declared.message.MessageFrame.{MessageFrame}
-use Rattle.app_host.specs.declared.message.Reply.{Reply}
-use Rattle.app_host.specs.declared.message.Reply.TheVariants as reply
-use Rattle.ip_wire.proofs.Parsed.{IsParsed}
 use Rattle.ip_wire.proofs.Sent as wire
 use Rattle.ip_wire.specs.Frame.{Carried, datagram, packet}
 use Rattle.ip_wire.specs.FrameValue.{carried_of}
-use Rattle.ip_wire.specs.Reply.{Gives, Sends, reply_bytes, reply_len, unmarked}
+use Rattle.ip_wire.specs.Reply.{Gives, HasValues, IsSendable, IsSent, Sends, reply_bytes, reply_len, unmarked}
 use Rattle.ip_wire.specs.Types.{EthernetRepr, IpRepr, UdpRepr}
 use Rattle.ip_wire.specs.declared.Carried.TheVariants as carried
 use Rattle.ip_wire.specs.declared.Frame.{Frame}
@@ -35,23 +32,17 @@ use Rattle.wire_icmp.specs.declared.Unreachable.TheVariants as unreachable
 given : (P Q : EthernetRepr → Carried → Type 0) (f : Frame) → ((h : EthernetRepr) (c : Carried) → P h c → Q h c) → Gives P (Some f) → Gives Q (Some f)
 given P Q f to (sendable, (h, c, values, p)) = (sendable, (h, c, values, to h c p))
 
-by_none : (host : Host) (request : Frame) → Gives (ArpRepliesFrame host.interface request) None → Gives (EchoesFrame host.interface host.echo_port request) None
-    → Gives (TcpRepliesFrame host.interface host.open_ports.now host.offer request) None
-    → (h : EthernetRepr) (c : Carried) → ¬ RepliesFrame host request h c
-by_none host request no_arp no_echo no_tcp h c (asked, is, inl e) = no_arp h c (asked, is, e)
-by_none host request no_arp no_echo no_tcp h c (asked, is, inr (inl e)) = no_echo h c (asked, is, e)
-by_none host request no_arp no_echo no_tcp h c (asked, is, inr (inr e)) = no_tcp h c (asked, is, e)
+-- an ARP reply is a reply
+pub by_arp : (host : Host) (request f : Frame) → Gives (ArpRepliesFrame host.interface request) (Some f) → Gives (RepliesFrame host request) (Some f)
+by_arp host request f gives = given (ArpRepliesFrame host.interface request) (RepliesFrame host request) f (λ h c (asked, is, e). (asked, is, inl e)) gives
 
 -- an echo is a reply
 pub by_echo : (host : Host) (request f : Frame) → Gives (EchoesFrame host.interface host.echo_port request) (Some f) → Gives (RepliesFrame host request) (Some f)
 by_echo host request f gives = given (EchoesFrame host.interface host.echo_port request) (RepliesFrame host request) f (λ h c (asked, is, e). (asked, is, inr (inl e))) gives
 
--- if there is no reply of the first two kinds, it is the reply of TCP
-pub by_tcp : (host : Host) (request : Frame) (result : Option Frame) → Gives (ArpRepliesFrame host.interface request) None
-    → Gives (EchoesFrame host.interface host.echo_port request) None
-    → Gives (TcpRepliesFrame host.interface host.open_ports.now host.offer request) result → Gives (RepliesFrame host request) result
-by_tcp host request None no_arp no_echo no_tcp = by_none host request no_arp no_echo no_tcp
-by_tcp host request (Some f) no_arp no_echo gives =
+-- a reply of TCP is a reply
+pub by_tcp : (host : Host) (request f : Frame) → Gives (TcpRepliesFrame host.interface host.open_ports.now host.offer request) (Some f) → Gives (RepliesFrame host request) (Some f)
+by_tcp host request f gives =
     given (TcpRepliesFrame host.interface host.open_ports.now host.offer request) (RepliesFrame host request) f (λ h c (asked, is, e). (asked, is, inr (inr e))) gives
 
 -- ---- with a message
@@ -68,18 +59,9 @@ pub by_port : (host : Host) (bytes : List ℕ) (request : Frame) (f : MessageFra
     → message.Gives (RepliesMessage host bytes request) (Some f)
 by_port host bytes request f (sendable, (asked, is, e)) = (sendable, (asked, is, inr (inr (inl e))))
 
--- if there is no reply of the first three kinds, it is the error about an extension header
-pub by_problem : (host : Host) (bytes : List ℕ) (request : Frame) (result : Option MessageFrame) → message.Gives (RepliesEchoFrame host.interface request) None
-    → message.Gives (AdvertisesFrame host.interface request) None → message.Gives (UnreachableFrame host bytes request) None
-    → message.Gives (ProblemFrame host.interface bytes request) result → message.Gives (RepliesMessage host bytes request) result
-by_problem host bytes request None no_echo no_advert no_error no_problem = λ h c (asked, is, r). no_kind h c asked is r
-  where
-    no_kind : (h : EthernetRepr) (c : Carried) (asked : Carried) → carried_of request.carried ≡ Some asked → ¬ IsMessageReply host bytes request.header asked h c
-    no_kind h c asked is (inl e) = no_echo h c (asked, is, e)
-    no_kind h c asked is (inr (inl e)) = no_advert h c (asked, is, e)
-    no_kind h c asked is (inr (inr (inl e))) = no_error h c (asked, is, e)
-    no_kind h c asked is (inr (inr (inr e))) = no_problem h c (asked, is, e)
-by_problem host bytes request (Some f) no_echo no_advert no_error (sendable, (asked, is, e)) = (sendable, (asked, is, inr (inr (inr e))))
+pub by_problem : (host : Host) (bytes : List ℕ) (request : Frame) (f : MessageFrame) → message.Gives (ProblemFrame host.interface bytes request) (Some f)
+    → message.Gives (RepliesMessage host bytes request) (Some f)
+by_problem host bytes request f (sendable, (asked, is, e)) = (sendable, (asked, is, inr (inr (inr e))))
 
 -- ---- errors about UDP packets
 
@@ -97,29 +79,10 @@ told host bytes request v u payload (Some f) is for_us closed (sendable, e) = (
   ),
 )
 
--- ---- both
-
-pub as_frame : (host : Host) (bytes : List ℕ) (request f : Frame) → IsParsed request bytes → Gives (RepliesFrame host request) (Some f) → GivesReply (RepliesBytes host bytes) (Some (reply.Frame f))
-as_frame host bytes request f parsed (sendable, (h, c, values, (asked, is, e))) =
-    (sendable, (h, c, values, (request.header, asked, (parsed request.header asked).0 (refl, is), inl e)))
-
-pub as_message : (host : Host) (bytes : List ℕ) (request : Frame) (f : MessageFrame) → IsParsed request bytes → message.Gives (RepliesMessage host bytes request) (Some f)
-    → GivesReply (RepliesBytes host bytes) (Some (reply.Message f))
-as_message host bytes request f parsed (sendable, (asked, is, e)) =
-    (sendable, (f.header, values_of f, (refl, refl), (request.header, asked, (parsed request.header asked).0 (refl, is), inr e)))
-
-pub no_reply : (host : Host) (bytes : List ℕ) (request : Frame) → IsParsed request bytes → Gives (RepliesFrame host request) None → message.Gives (RepliesMessage host bytes request) None
-    → GivesReply (RepliesBytes host bytes) None
-no_reply host bytes request parsed no_frame no_message = λ h c (header, asked, reads, r). let same = (parsed header asked).1 reads in neither h c asked same.1 (subst (λ x. IsReply host bytes x asked h c) (sym same.0) r)
-  where
-    neither : (h : EthernetRepr) (c asked : Carried) → carried_of request.carried ≡ Some asked → ¬ IsReply host bytes request.header asked h c
-    neither h c asked is (inl e) = no_frame h c (asked, is, e)
-    neither h c asked is (inr e) = no_message h c (asked, is, e)
-
 -- ---- bytes
 
 -- a reply with a message is sent
-message-sent : (dscp : Carried → ℕ) (P : EthernetRepr → Carried → Type 0) (f : MessageFrame) (old new : List ℕ) (result : Option ℕ) → P f.header (values_of f)
+pub message-sent : (dscp : Carried → ℕ) (P : EthernetRepr → Carried → Type 0) (f : MessageFrame) (old new : List ℕ) (result : Option ℕ) → P f.header (values_of f)
     → f.dscp ≡ dscp (values_of f) → message.IsSent f old new result → IsOne P → Sends dscp P old new result
 message-sent dscp P f old new None p marked (short, stays) one = (stays, λ k d q. let same = (one f.header k (values_of f) d p q).1 in omega (arith, short, ap reply_len same))
 message-sent dscp P f old new (Some n) p marked (len, fits, rest, reads, is) one =
@@ -150,14 +113,12 @@ sends-marked dscp P old new (Some n) zero w =
       bytes = w.bytes ∙ ap (λ m. reply_bytes w.header w.carried m ++ drop n old) (zero w.header w.carried w.replies);
     }
 
--- a reply is sent
-pub reply-sent : (dscp : Carried → ℕ) (P : EthernetRepr → Carried → Type 0) (r : Reply) (old new : List ℕ) (result : Option ℕ) → GivesReply P (Some r) → HasDscp r dscp
-    → IsReplySent r old new result → IsOne P → Sends dscp P old new result
-reply-sent dscp P (reply.Frame f) old new result (sendable, (h, c, values, p)) marked sent one =
-    sends-marked dscp P old new result (λ k d q. marked h c values ∙ ap dscp (one h k c d p q).1)
+-- a reply without a message is sent
+pub frame-sent : (dscp : Carried → ℕ) (P : EthernetRepr → Carried → Type 0) (f : Frame) (h : EthernetRepr) (c : Carried) (old new : List ℕ) (result : Option ℕ) → IsSendable f → HasValues f h c → P h c
+    → 0 ≡ dscp c → IsSent f old new result → IsOne P → Sends dscp P old new result
+frame-sent dscp P f h c old new result sendable values p marked sent one =
+    sends-marked dscp P old new result (λ k d q. marked ∙ ap dscp (one h k c d p q).1)
     (wire.sends P P f old new result (sendable, (h, c, values, p)) sent (λ h c p. p) (λ h c p. p) (λ h k c d p q. (one h k c d p q).1))
-reply-sent dscp P (reply.Message f) old new result (sendable, (h, c, (is, same), p)) marked sent one =
-    message-sent dscp P f old new result (subst (λ x. P x (values_of f)) (sym is) (subst (P h) (sym same) p)) (marked f.header (values_of f) (refl, refl)) sent one
 
 -- bytes that do not parse with valid checksums get no reply
 pub unanswered : (host : Host) (bytes old new : List ℕ) (result : Option ℕ) → Sends (reply_dscp bytes) (RepliesBytes host bytes) old new result → IsUnread bytes → result ≡ None

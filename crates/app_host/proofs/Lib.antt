@@ -9,6 +9,7 @@ pub mod Ipv6Chains
 mod Ipv6ChainsWorked
 pub mod Ipv6Faults
 mod Ipv6FaultsWorked
+pub mod KindReplies
 pub mod Marked
 pub mod MessageEnds
 pub mod Messages

@@ -5,6 +5,7 @@ pub mod IcmpError
 pub mod Interface
 pub mod Ipv6Chain
 pub mod Ipv6Fault
+pub mod Kinds
 pub mod Message
 pub mod Neighbour
 pub mod ParameterProblem

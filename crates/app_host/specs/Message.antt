@@ -1,4 +1,4 @@
--- Frames with a message of ICMP or of neighbour discovery, and replies of every kind.
+-- Frames with a message of ICMP or of neighbour discovery.
 -- Pinned by: `worked/hosts`, `worked/icmp`, `calls/host`
 use Rattle.std.specs.Prelude.{ℕ, ⊤, ◌≡◌, ◌<◌, ◌≤◌, ◌+◌, ◌/◌, ◌%◌, ◌++◌, List, Option, Some, None, drop, length, true}
 use Rattle.ip_wire.specs.Ethernet as ethernet
@@ -7,7 +7,6 @@ use Rattle.ip_wire.specs.Frame.{Carried, IsReadWhole, ReadsPacket, all_checked, 
 use Rattle.ip_wire.specs.Ip as ip
 use Rattle.ip_wire.specs.Ip.{dst_addr_of, header_before, max_payload_len, next_header_of, payload_len_of, src_addr_of, version_of}
 use Rattle.ip_wire.specs.IpAddress.{address_bytes}
-use Rattle.ip_wire.specs.Reply as frame
 use Rattle.ip_wire.specs.Reply.{header_bytes, reply_bytes, reply_len}
 use Rattle.ip_wire.specs.Types.{EthernetAddress, EthernetRepr, IpRepr, IpVersion}
 use Rattle.ip_wire.specs.declared.IpVersion.TheVariants as version
@@ -17,8 +16,6 @@ use Rattle.wire_icmp.specs.Ndisc as ndisc
 use Rattle.app_host.specs.declared.message.Message.{Message}
 use Rattle.app_host.specs.declared.message.Message.TheVariants.{Icmp, Ndisc}
 use Rattle.app_host.specs.declared.message.MessageFrame.{MessageFrame}
-use Rattle.app_host.specs.declared.message.Reply.{Reply}
-use Rattle.app_host.specs.declared.message.Reply.TheVariants as reply
 
 -- the bytes of a message in a packet with this header, with its checksum
 abbrev pub message_bytes : IpRepr → Message → List ℕ
@@ -109,43 +106,6 @@ pub record IsFrameRemarked (f : MessageFrame) (old new : List ℕ) : Type 0 wher
   pub reads : IsReadWhole new f.header (values_of f)
   pub rest : drop (14 + ip.header_len_of f.ip) new ≡ drop (14 + ip.header_len_of f.ip) old
   pub bytes : (rest : List ℕ) → old ≡ frame_bytes f ++ rest → new ≡ reply_bytes f.header (values_of f) f.dscp ++ rest
-
--- ---- replies of both kinds
-
--- the reply has this Ethernet header and carries these values
-abbrev pub HasValues : Reply → EthernetRepr → Carried → Type 0
-HasValues (reply.Frame f) header carried = frame.HasValues f header carried
-HasValues (reply.Message f) header carried = (f.header ≡ header) × (values_of f ≡ carried)
-
--- the DSCP of the packet of a reply
-abbrev pub dscp_in : Reply → ℕ
-dscp_in (reply.Frame f) = 0
-dscp_in (reply.Message f) = f.dscp
-
--- the reply has the DSCP of replies with its values
-abbrev pub HasDscp : Reply → (Carried → ℕ) → Type 0
-HasDscp r dscp = (header : EthernetRepr) (carried : Carried) → HasValues r header carried → dscp_in r ≡ dscp carried
-
--- the reply can be emitted
-abbrev pub IsSendableReply : Reply → Type 0
-IsSendableReply (reply.Frame f) = frame.IsSendable f
-IsSendableReply (reply.Message f) = IsSendable f
-
--- the result is a reply with these values that can be emitted, or there is no reply
-abbrev pub GivesReply : (EthernetRepr → Carried → Type 0) → Option Reply → Type 0
-GivesReply IsReply None = (header : EthernetRepr) (carried : Carried) → ¬ IsReply header carried
-GivesReply IsReply (Some r) = IsSendableReply r × ((header : EthernetRepr) × (carried : Carried) × HasValues r header carried × IsReply header carried)
-
--- The reply is at the front of the buffer and parses there, and the other bytes are unchanged. If it does not fit,
--- the whole buffer is unchanged.
-abbrev pub IsReplySent : Reply → List ℕ → List ℕ → Option ℕ → Type 0
-IsReplySent (reply.Frame f) old new result = frame.IsSent f old new result
-IsReplySent (reply.Message f) old new result = IsSent f old new result
-
--- the packet of a reply with a message has its DSCP, and ECN 0
-abbrev pub IsReplyMarked : Reply → List ℕ → Type 0
-IsReplyMarked (reply.Frame f) bytes = ⊤
-IsReplyMarked (reply.Message f) bytes = IsMarked f bytes
 
 -- ---- frames that are put together
 

@@ -13,6 +13,7 @@ use ip_wire::{
 
 /// The reply to a request for the IPv4 address, sent to the host that asks. `None` for any other frame,
 /// if the hardware address of the sender is not unicast, and if its IPv4 address is neither a valid source nor 0.0.0.0.
+#[inline(always)]
 pub fn reply<'a>(request: &Frame<'_>, ours: &Interface) -> Option<Frame<'a>>
     ensures { Gives (ArpRepliesFrame ours.now request.now) result }
 {
@@ -26,6 +27,7 @@ pub fn reply<'a>(request: &Frame<'_>, ours: &Interface) -> Option<Frame<'a>>
 }
 
 // The reply to a message, and the Ethernet address of the host that asks.
+#[inline(always)]
 fn reply_to(message: &ArpRepr, ours: &Interface) -> Option<(EthernetAddress, ArpRepr)>
     ensures { (asker : EthernetAddress) (reply : ArpRepr) → (result ≡ Some (asker, reply)) ↔ IsArpReply ours.now message.now asker reply }
 {

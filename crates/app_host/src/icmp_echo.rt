@@ -13,6 +13,7 @@ use wire_icmp::{IcmpPacket, IcmpRepr, protocol_of};
 /// The reply to an echo request for this interface, with the same identifier, sequence number and data.
 /// `None` for any other frame, also for a request to a group. The DSCP of the request is that of the reply too
 /// (RFC 1812, section 4.3.2.5); a `Frame` has none.
+#[inline(always)]
 pub fn reply<'a>(request: &Frame<'a>, dscp: u8, ours: &Interface) -> Option<MessageFrame<'a>>
     requires { dscp < 64 }
     ensures reply { Gives (RepliesEchoFrame ours.now request.now) result }
@@ -31,6 +32,7 @@ pub fn reply<'a>(request: &Frame<'a>, dscp: u8, ours: &Interface) -> Option<Mess
 }
 
 // The reply to the payload of a packet with these headers.
+#[inline(always)]
 fn reply_to<'a>(
     link: &EthernetRepr,
     header: &IpRepr,

@@ -55,6 +55,20 @@ pub(crate) fn error_to<'a>(
     ensures error { Gives (IsErrorTo to_groups ours.now frame.now message) result }
     ensures unmarked { IfSome result (λ error. error.dscp ≡ 0) }
 {
+    error_inlined(frame, ours, message, to_groups)
+}
+
+/// As `error_to`, for a caller that sends the error itself: its parts need not be in memory then.
+#[inline(always)]
+pub(crate) fn error_inlined<'a>(
+    frame: &'a [u8],
+    ours: &Interface,
+    message: IcmpRepr,
+    to_groups: bool,
+) -> Option<MessageFrame<'a>>
+    ensures error { Gives (IsErrorTo to_groups ours.now frame.now message) result }
+    ensures unmarked { IfSome result (λ error. error.dscp ≡ 0) }
+{
     let view = EthernetFrame::new_unchecked(frame);
     let Ok(link) = EthernetRepr::parse(&view) else {
         return None;

@@ -25,6 +25,7 @@ pub struct Interface {
 
 impl Interface {
     /// Returns `true` if the interface has this address. It has none that no single host may have, as 0.0.0.0 or `::`.
+    #[inline(always)]
     pub fn has_addr(&self, addr: &IpAddress) -> bool
         ensures { IsTrue result ↔ IsOurs self.now addr.now }
     {
@@ -32,6 +33,7 @@ impl Interface {
     }
 
     // Whether the address is in the field for its version.
+    #[inline(always)]
     fn has_in_field(&self, addr: &IpAddress) -> bool
         ensures { IsTrue result ↔ IsInField self.now addr.now }
     {
@@ -43,6 +45,7 @@ impl Interface {
 
     /// Returns `true` if no packet of another host has this source address (RFC 1122, section 3.2.1.3).
     /// Among them are the addresses of the interface.
+    #[inline(always)]
     pub fn is_invalid_source(&self, addr: &IpAddress) -> bool
         ensures { IsTrue result ↔ IsInvalidSource self.now addr.now }
     {
@@ -51,6 +54,7 @@ impl Interface {
 
     /// Returns `true` if an ARP request may come from this Ethernet and IPv4 address: the first is unicast, and
     /// the second is a valid source, or 0.0.0.0 as in a probe (RFC 5227, section 2.1.1).
+    #[inline(always)]
     pub fn may_ask(&self, hardware: &EthernetAddress, addr: &Ipv4Address) -> bool
         ensures { IsTrue result ↔ IsAsker self.now hardware.now addr.now }
     {
@@ -60,6 +64,7 @@ impl Interface {
 
     /// Returns `true` if a packet may get a reply: it goes from one other host to this interface only.
     /// Broadcast and multicast packets get no reply, in either direction (RFC 1122, sections 3.2.1.3 and 3.3.6).
+    #[inline(always)]
     pub fn accepts(&self, link: &EthernetRepr, header: &IpRepr) -> bool
         ensures { IsTrue result ↔ IsForUs self.now link.now header.now }
     {
@@ -72,6 +77,7 @@ impl Interface {
 
 /// Returns `true` for an address by which a host means itself: in 0.0.0.0/8 or 127.0.0.0/8 (RFC 1122,
 /// section 3.2.1.3), `::` or `::1` (RFC 4291, sections 2.5.2 and 2.5.3).
+#[inline(always)]
 pub fn is_this_host(addr: &IpAddress) -> bool
     ensures { IsTrue result ↔ IsThisHost addr.now }
 {
@@ -83,6 +89,7 @@ pub fn is_this_host(addr: &IpAddress) -> bool
 
 /// Returns `true` for an address that no host has: in 224.0.0.0/4 or 240.0.0.0/4 (RFC 1122, section
 /// 3.2.1.3), ff00::/8 or ::ffff:0:0/96 (RFC 4291, sections 2.7 and 2.5.5.2).
+#[inline(always)]
 pub fn is_no_host(addr: &IpAddress) -> bool
     ensures { IsTrue result ↔ IsNoHost addr.now }
 {
@@ -93,6 +100,7 @@ pub fn is_no_host(addr: &IpAddress) -> bool
 }
 
 /// Returns `true` for an address that one host may have: neither of `is_this_host` nor of `is_no_host`.
+#[inline(always)]
 pub fn is_host_addr(addr: &IpAddress) -> bool
     ensures { IsTrue result ↔ IsHostAddr addr.now }
 {
@@ -100,6 +108,7 @@ pub fn is_host_addr(addr: &IpAddress) -> bool
 }
 
 // Whether the address is in 0.0.0.0/8.
+#[inline(always)]
 fn is_this_network(addr: &Ipv4Address) -> bool
     ensures { IsTrue result ↔ IsIn ipv4_this_network addr.now }
 {
@@ -107,6 +116,7 @@ fn is_this_network(addr: &Ipv4Address) -> bool
 }
 
 // Whether the address is in 240.0.0.0/4.
+#[inline(always)]
 fn is_reserved(addr: &Ipv4Address) -> bool
     ensures { IsTrue result ↔ IsIn ipv4_reserved addr.now }
 {
@@ -114,6 +124,7 @@ fn is_reserved(addr: &Ipv4Address) -> bool
 }
 
 // Whether the address is in ::ffff:0:0/96.
+#[inline(always)]
 fn is_mapped(addr: &Ipv6Address) -> bool
     ensures { IsTrue result ↔ IsIn ipv6_mapped addr.now }
 {
@@ -121,6 +132,7 @@ fn is_mapped(addr: &Ipv6Address) -> bool
 }
 
 /// The header of a packet in the other direction, with hop limit 64.
+#[inline(always)]
 pub fn header_back(header: &IpRepr) -> IpRepr
     ensures { result ≡ header_back header.now }
 {

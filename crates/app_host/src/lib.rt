@@ -10,6 +10,7 @@ pub mod icmp_error;
 mod interface;
 mod ipv6_chain;
 pub mod ipv6_fault;
+mod kinds;
 pub mod laws;
 mod message;
 pub mod neighbour;
@@ -18,6 +19,6 @@ pub mod tcp_answer;
 pub mod tcp_reply;
 pub mod udp_echo;
 
-pub use host::{Host, answer, reply};
+pub use host::{Host, answer, try_answer};
 pub use interface::{HOP_LIMIT, Interface, is_host_addr, is_no_host, is_this_host};
-pub use message::{Message, MessageFrame, Reply};
+pub use message::{Message, MessageFrame};

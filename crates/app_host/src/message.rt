@@ -2,7 +2,7 @@
 //! frame is sent, so no frame borrows them.
 
 ghost use Rattle.std.specs.Prelude.{◌≡◌, ◌≤◌, ◌<◌, ◌+◌, ◌^◌, ◌++◌, IfSome, drop, length, true};
-ghost use Rattle.app_host.specs.Message.{Composes, HasClass, IsFrameRemarked, IsMarked, IsOfVersion, IsRemarked, IsReplyMarked, IsReplySent, IsSendable, IsSendableReply, IsSent, frame_bytes, message_bytes, message_frame, message_len, values_of};
+ghost use Rattle.app_host.specs.Message.{Composes, HasClass, IsFrameRemarked, IsMarked, IsOfVersion, IsRemarked, IsSendable, IsSent, frame_bytes, message_bytes, message_frame, message_len, values_of};
 ghost use Rattle.app_host.specs.declared.message.Message.TheVariants.{Icmp, Ndisc};
 ghost use Rattle.ip_wire.specs.Ethernet as ethernet;
 ghost use Rattle.ip_wire.specs.Frame.{IsReadWhole, ReadsPacket, all_checked, type_of, type_of_version};
@@ -14,7 +14,7 @@ ghost use Rattle.wire_icmp.specs.Ndisc as ndisc;
 use ip_wire::laws::field::bytes_fit;
 use ip_wire::{
     ChecksumCapabilities, ETHERNET_HEADER_LEN, EthernetAddress, EthernetFrameMut, EthernetProtocol,
-    EthernetRepr, Frame, IpRepr, IpVersion, Ipv4PacketMut, Ipv6PacketMut, Ipv6Repr, send,
+    EthernetRepr, IpRepr, IpVersion, Ipv4PacketMut, Ipv6PacketMut, Ipv6Repr,
 };
 use wire_icmp::{ICMP_HEADER_LEN, IcmpRepr, NdiscRepr, protocol_of};
 
@@ -38,15 +38,9 @@ pub struct MessageFrame<'a> {
     pub message: Message<'a>,
 }
 
-/// A reply of either kind.
-#[derive(Debug, Clone, Copy, PartialEq, Eq)]
-pub enum Reply<'a> {
-    Frame(Frame<'a>),
-    Message(MessageFrame<'a>),
-}
-
 impl<'a> Message<'a> {
     /// The length of the message in bytes.
+    #[inline(always)]
     pub fn buffer_len(&self) -> usize
         ensures { result ≡ message_len self.now }
     {
@@ -58,6 +52,7 @@ impl<'a> Message<'a> {
 
     // Writes the message with its checksum to the front of `out`, and returns its length. `None` if it
     // does not fit; then `out` is unchanged.
+    #[inline(always)]
     fn try_emit(&self, ip: &IpRepr, out: &mut [u8]) -> Option<usize>
         requires { IsOfVersion self.now ip.now }
         ensures { Fills (message_bytes ip.now self.now) (message_len self.now) out.old out.new result }
@@ -72,6 +67,7 @@ impl<'a> Message<'a> {
     }
 }
 
+#[inline(always)]
 fn emit_icmp(value: &IcmpRepr, payload: &[u8], ip: &IpRepr, out: &mut [u8]) -> Option<usize>
     ensures { Fills (icmp.bytes_of value.now payload.now (src_addr_of ip.now) (dst_addr_of ip.now) true) (8 + length payload.now) out.old out.new result }
 {
@@ -80,6 +76,7 @@ fn emit_icmp(value: &IcmpRepr, payload: &[u8], ip: &IpRepr, out: &mut [u8]) -> O
     value.try_emit(out, &src_addr, &dst_addr, payload, &caps)
 }
 
+#[inline(always)]
 fn emit_ndisc(value: &NdiscRepr, ip: &Ipv6Repr, out: &mut [u8]) -> Option<usize>
     ensures { Fills (ndisc.bytes_of value.now ip.now.src_addr ip.now.dst_addr true) (ndisc.len_of value.now) out.old out.new result }
 {
@@ -90,6 +87,7 @@ fn emit_ndisc(value: &NdiscRepr, ip: &Ipv6Repr, out: &mut [u8]) -> Option<usize>
 impl<'a> MessageFrame<'a> {
     // The frame between two hosts with an ICMP message, in a packet with the addresses and the hop
     // limit of a header, and with DSCP 0.
+    #[inline(always)]
     pub(crate) fn icmp(
         src_addr: EthernetAddress,
         dst_addr: EthernetAddress,
@@ -108,6 +106,7 @@ impl<'a> MessageFrame<'a> {
     }
 
     // The same with a message of neighbour discovery.
+    #[inline(always)]
     pub(crate) fn ndisc(
         src_addr: EthernetAddress,
         dst_addr: EthernetAddress,
@@ -126,6 +125,7 @@ impl<'a> MessageFrame<'a> {
     }
 
     /// The length of the frame in bytes.
+    #[inline(always)]
     pub fn buffer_len(&self) -> usize
         requires { IsSendable self.now }
         ensures { result ≡ 14 + (header_len_of self.now.ip + message_len self.now.message) }
@@ -135,6 +135,7 @@ impl<'a> MessageFrame<'a> {
 
     /// Writes the frame with its checksums to the front of `out`, and returns its length. `None` if it
     /// does not fit; then `out` is unchanged.
+    #[inline(always)]
     pub fn send(&self, out: &mut [u8]) -> Option<usize>
         requires { IsSendable self.now }
         ensures sends { IsSent self.now out.old out.new result }
@@ -151,6 +152,7 @@ impl<'a> MessageFrame<'a> {
     }
 
     // Writes the DSCP into the emitted frame.
+    #[inline(always)]
     fn mark(&self, out: &mut [u8])
         requires fits { self.now.dscp < 64 }
         requires reads { IsReadWhole out.old self.now.header (values_of self.now) }
@@ -164,6 +166,7 @@ impl<'a> MessageFrame<'a> {
         set_dscp(&self.ip, packet, self.dscp);
     }
 
+    #[inline(always)]
     fn try_emit(&self, out: &mut [u8]) -> Option<usize>
         requires { IsSendable self.now }
         ensures { Fills (frame_bytes self.now) (14 + (header_len_of self.now.ip + message_len self.now.message)) out.old out.new result }
@@ -183,6 +186,7 @@ impl<'a> MessageFrame<'a> {
     }
 
     // Writes both headers.
+    #[inline(always)]
     fn emit_headers(&self, out: &mut [u8])
         requires sendable { IsSendable self.now }
         requires room { length out.old ≡ 14 + header_len_of self.now.ip }
@@ -194,22 +198,8 @@ impl<'a> MessageFrame<'a> {
     }
 }
 
-impl Reply<'_> {
-    /// Writes the reply with its checksums to the front of `out`, and returns its length. `None` if it
-    /// does not fit; then `out` is unchanged.
-    pub fn send(&self, out: &mut [u8]) -> Option<usize>
-        requires { IsSendableReply self.now }
-        ensures sends { IsReplySent self.now out.old out.new result }
-        ensures marked { IfSome result (λ len. IsReplyMarked self.now out.new) }
-    {
-        match self {
-            Reply::Frame(frame) => send(frame, out),
-            Reply::Message(frame) => frame.send(out),
-        }
-    }
-}
-
 // Writes the DSCP of a packet with this header, in which DSCP and ECN are 0.
+#[inline(always)]
 fn set_dscp(ip: &IpRepr, packet: &mut [u8], dscp: u8)
     requires fits { dscp < 64 }
     requires reads { ReadsPacket all_checked packet.old ip.now }
@@ -236,6 +226,7 @@ fn message_composes(header: EthernetRepr, ip: IpRepr)
 {}
 
 // The header of a frame between two hosts with a packet of this header.
+#[inline(always)]
 fn header_before(src_addr: EthernetAddress, dst_addr: EthernetAddress, ip: &IpRepr) -> EthernetRepr
     ensures { result ≡ record { src_addr = src_addr; dst_addr = dst_addr; ethertype = type_of ip.now } }
 {
@@ -247,6 +238,7 @@ fn header_before(src_addr: EthernetAddress, dst_addr: EthernetAddress, ip: &IpRe
 }
 
 // The EtherType of a frame with a packet of this version.
+#[inline(always)]
 pub(crate) fn ethertype_of(version: IpVersion) -> EthernetProtocol
     ensures { result ≡ type_of_version version }
 {

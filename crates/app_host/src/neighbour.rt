@@ -22,6 +22,7 @@ use wire_icmp::{IcmpPacket, NDISC_HOP_LIMIT, NdiscNeighborFlags, NdiscRepr};
 /// goes to the address or to its solicited-node group, and the frame to the hardware address or to that of the
 /// group (RFC 6085). `None` for any other frame, if the Ethernet address of its sender or the one that it names
 /// is not unicast, and if its source is neither valid nor `::`.
+#[inline(always)]
 pub fn reply<'a>(request: &Frame<'_>, ours: &Interface) -> Option<MessageFrame<'a>>
     ensures reply { Gives (AdvertisesFrame ours.now request.now) result }
     ensures unmarked { IfSome result (λ advert. advert.dscp ≡ 0) }
@@ -39,6 +40,7 @@ pub fn reply<'a>(request: &Frame<'_>, ours: &Interface) -> Option<MessageFrame<'
 }
 
 // The reply to the payload of a packet with these headers.
+#[inline(always)]
 fn reply_to<'a>(
     link: &EthernetRepr,
     header: &Ipv6Repr,
@@ -75,6 +77,7 @@ fn reply_to<'a>(
 }
 
 // Whether a packet with these headers may ask for our address.
+#[inline(always)]
 fn is_solicited(ours: &Interface, link: &EthernetRepr, header: &Ipv6Repr) -> bool
     ensures { IsTrue result ↔ IsSolicited ours.now link.now header.now }
 {
@@ -85,6 +88,7 @@ fn is_solicited(ours: &Interface, link: &EthernetRepr, header: &Ipv6Repr) -> boo
 }
 
 // Whether a frame to this Ethernet address with a packet to this IPv6 address is for us as a target.
+#[inline(always)]
 fn is_for_target(ours: &Interface, hardware: &EthernetAddress, dst_addr: &Ipv6Address) -> bool
     requires { IsHostAddr (address.Ipv6 ours.now.ipv6_addr) }
     ensures { IsTrue result ↔ IsForTarget ours.now hardware.now dst_addr.now }
@@ -96,6 +100,7 @@ fn is_for_target(ours: &Interface, hardware: &EthernetAddress, dst_addr: &Ipv6Ad
 }
 
 // The Ethernet and the IPv6 address that get the advertisement, and whether it is solicited.
+#[inline(always)]
 fn answered_to(
     ours: &Interface,
     link: &EthernetRepr,
@@ -120,6 +125,7 @@ fn answered_to(
 }
 
 // The Ethernet address of a sender: the one that it names, if any.
+#[inline(always)]
 fn hardware_of(named: Option<EthernetAddress>, hardware: EthernetAddress) -> EthernetAddress
     ensures { result ≡ hardware_of named hardware }
 {
@@ -130,6 +136,7 @@ fn hardware_of(named: Option<EthernetAddress>, hardware: EthernetAddress) -> Eth
 }
 
 // The hardware address of a multicast group (RFC 2464, section 7).
+#[inline(always)]
 pub(crate) fn group_hardware(group: &Ipv6Address) -> EthernetAddress
     ensures { result.0 ≡ group_hardware group.now }
 {
@@ -139,6 +146,7 @@ pub(crate) fn group_hardware(group: &Ipv6Address) -> EthernetAddress
 }
 
 // The frame with the advertisement.
+#[inline(always)]
 fn advert<'a>(
     ours: &Interface,
     hardware: EthernetAddress,

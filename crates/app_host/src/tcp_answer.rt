@@ -10,6 +10,7 @@ use ip_wire::{Carried, ChecksumCapabilities, Frame, Transport, send_reply};
 
 /// The reply to a TCP segment for this interface, if these ports are open: SYN and ACK, or RST. `None`
 /// for any other frame, and if `reply_to` returns `None`.
+#[inline(always)]
 pub fn reply<'a>(
     request: &Frame<'a>,
     ours: &Interface,

@@ -26,6 +26,7 @@ pub struct Offer {
 }
 
 /// The reply of a closed port (RFC 9293, section 3.10.7.1): RST, or `None` to a RST.
+#[inline(always)]
 pub fn closed<'a>(segment: &TcpRepr<'a>) -> Option<TcpRepr<'a>>
     requires { length segment.now.payload.now < 2 ^ 31 - 1 }
     ensures value { option_map header_of result ≡ closed_reply (header_of segment.now) (length segment.now.payload.now) }
@@ -50,6 +51,7 @@ pub fn closed<'a>(segment: &TcpRepr<'a>) -> Option<TcpRepr<'a>>
 
 /// The reply of an open port (RFC 9293, section 3.10.7.2): SYN and ACK to a SYN, with those options that
 /// the SYN has too, and RST to an acknowledgement. `None` to a RST, and to a segment with none of the three.
+#[inline(always)]
 pub fn listening<'a>(segment: &TcpRepr<'a>, offer: &Offer) -> Option<TcpRepr<'a>>
     requires { length segment.now.payload.now < 2 ^ 31 - 1 }
     ensures value { option_map header_of result ≡ listen_reply offer.now (header_of segment.now) }
@@ -78,6 +80,7 @@ pub fn listening<'a>(segment: &TcpRepr<'a>, offer: &Offer) -> Option<TcpRepr<'a>
 }
 
 /// The reply to a segment, if these ports are open.
+#[inline(always)]
 pub fn reply_to<'a>(segment: &TcpRepr<'a>, ports: &[u16], offer: &Offer) -> Option<TcpRepr<'a>>
     requires { length segment.now.payload.now < 2 ^ 31 - 1 }
     ensures value { (reply : TcpHeader) → (option_map header_of result ≡ Some reply)
@@ -92,6 +95,7 @@ pub fn reply_to<'a>(segment: &TcpRepr<'a>, ports: &[u16], offer: &Offer) -> Opti
 }
 
 // A segment back to the sender of this one, without numbers, options and payload.
+#[inline(always)]
 fn plain<'a>(segment: &TcpRepr<'a>, control: TcpControl) -> TcpRepr<'a>
     ensures value { header_of result ≡ back (header_of segment.now) control (seq_of 0) None }
     ensures payload { result.payload.now ≡ [] }

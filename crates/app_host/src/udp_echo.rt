@@ -12,6 +12,7 @@ const FIRST_USER_PORT: u16 = 1024;
 /// The reply to a UDP packet for this port: the same payload, with addresses and ports exchanged. `None`
 /// for any other frame, and for a source port below 1024 or not above this port: such a packet may be the
 /// answer of a service or an echo, and the replies would never end.
+#[inline(always)]
 pub fn echo<'a>(request: &Frame<'a>, ours: &Interface, port: u16) -> Option<Frame<'a>>
     ensures { Gives (EchoesFrame ours.now port request.now) result }
 {

@@ -7,11 +7,11 @@ ghost use Rattle.c_icmp.specs.HostFields.{WritesAnswer, host_of, offer_of};
 ghost use Rattle.c_icmp.specs.Interfaces.{WritesReply};
 ghost use Rattle.c_structs.specs.Written.{max_len};
 
-use crate::interfaces::{interface, write_reply};
+use crate::interfaces::{interface, returned};
 use crate::types::HostFields;
 use app_host::tcp_reply::Offer;
-use app_host::{Host, reply};
-use c_structs::{Failure, MAX_LEN};
+use app_host::{Host, try_answer};
+use c_structs::{Failure, MAX_LEN, usable};
 use ip_wire::TcpSeqNumber;
 
 impl<'a> HostFields<'a> {
@@ -19,6 +19,7 @@ impl<'a> HostFields<'a> {
     /// `NoVersion` if the struct lacks an IPv4 or an IPv6 address, with `NoHeader` if the frame is longer than
     /// `MAX_LEN`, and with `NoRoom`.
     #[tactic(auto, using(crate::proofs::FrameReplies::rejected))]
+    #[inline(always)]
     pub fn answer(&self, frame: &[u8], out: &mut [u8]) -> isize
         ensures answers { WritesAnswer (host_of self.now) frame.now out.old out.new result }
         ensures unread { IsSome (host_of self.now) → length frame.now ≤ max_len → IsUnread frame.now → result ≡ pos 0 }
@@ -35,6 +36,7 @@ impl<'a> HostFields<'a> {
     }
 
     // The host. `None` if `ipv4` is no IPv4 address, or `ipv6` no IPv6 address.
+    #[inline(always)]
     fn value(&self) -> Option<Host<'a>>
         ensures { result ≡ host_of self.now }
     {
@@ -50,6 +52,7 @@ impl<'a> HostFields<'a> {
     }
 
     // What the open ports offer.
+    #[inline(always)]
     fn offer(&self) -> Offer
         ensures { result ≡ offer_of self.now }
     {
@@ -64,12 +67,14 @@ impl<'a> HostFields<'a> {
 }
 
 // Writes the answer of a host to a frame, and returns its length; 0 if there is none. Fails with `NoRoom`.
+#[inline(always)]
 fn answer(host: &Host<'_>, frame: &[u8], out: &mut [u8]) -> isize
     ensures answers { WritesReply (reply_dscp frame.now) (RepliesBytes host.now frame.now) out.old out.new result }
     ensures unread { IsUnread frame.now → result ≡ pos 0 }
 {
-    match reply(host, frame) {
-        Some(reply) => write_reply(&reply, out),
+    let (front, _) = out.split_at_mut(usable(out.len()));
+    match try_answer(host, frame, front) {
+        Some(sent) => returned(sent),
         None => 0,
     }
 }

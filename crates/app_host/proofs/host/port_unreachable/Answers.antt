@@ -12,4 +12,4 @@ returns-else-serves-clause-error c =
     let v = c.in-Packet.header in
     let for_us : IsForUs host.interface request.header v = search rules in
     let closed : ¬ IsServed host c.in-Udp.ports.dst_port = λ served. let on : c.serves.result ≡ true = c.serves.ensures.1 served in let off = c.if-serves.false in cc in
-    told host c.args.frame.now request v c.in-Udp.ports c.in-Udp.field-1 c.error.result (c.in-Packet.is ∙ ap (carried.Packet v) c.in-Udp.is) for_us closed c.error.ensures.error
+    told host c.args.frame.now request v c.in-Udp.ports c.in-Udp.field-1 c.error_inlined.result (c.in-Packet.is ∙ ap (carried.Packet v) c.in-Udp.is) for_us closed c.error_inlined.ensures.error

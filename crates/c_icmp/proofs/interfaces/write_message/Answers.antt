@@ -4,5 +4,5 @@ use Rattle.c_icmp.proofs.interfaces.write_message.Goals as goal
 
 pub returns : goal.returns
 returns c =
-    let fits : SFits w64 c.sent.result = search rules in
-    written c.args.frame.now _ _ _ _ c.send_message.ensures.beyond c.send_message.ensures.within c.sent.ensures fits
+    let fits : SFits w64 c.returned.result = search rules in
+    written c.args.frame.now _ _ _ _ c.send_message.ensures.beyond c.send_message.ensures.within c.returned.ensures fits

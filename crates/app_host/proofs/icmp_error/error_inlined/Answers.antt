@@ -5,7 +5,7 @@ use Rattle.ip_wire.specs.Checksum.{verifies}
 use Rattle.app_host.proofs.IcmpErrors.{no_header, no_link, told, untold}
 use Rattle.app_host.specs.IcmpError.{IsErrorTo, IsToReceiver, IsToldOf, header_from, quoted}
 use Rattle.app_host.specs.Message.{Gives}
-use Rattle.app_host.proofs.icmp_error.error_to.Goals as goal
+use Rattle.app_host.proofs.icmp_error.error_inlined.Goals as goal
 
 pub returns-in_default-clause-error : goal.returns-in_default-clause-error
 returns-in_default-clause-error c =
