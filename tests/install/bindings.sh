@@ -67,9 +67,9 @@ packs_a_wheel() {
     PYTHON=$(packer)
     wheel=$(bindings/python/make-wheel "$room/wheel") && (umask 077 && bindings/python/make-wheel "$room/again") &&
         diff -r "$room/wheel" "$room/again" && "$PYTHON" -m zipfile -e "$wheel" "$room/unpacked" &&
-        [ "$(find "$room/unpacked" -name LICENSE -exec cat {} +)" = "$(< LICENSE)" ] && mkdir "$room/page" &&
-        sed '1,/^$/d' "$room/unpacked"/*.dist-info/METADATA > "$room/page/README.md" && [ -s "$room/page/README.md" ] &&
-        tests/docs/markdown.py --links "$room/page" || return 1
+        [ "$(find "$room/unpacked" -name LICENSE -exec cat {} +)" = "$(< LICENSE)" ] && mkdir "$room/described" &&
+        sed '1,/^$/d' "$room/unpacked"/*.dist-info/METADATA > "$room/described/README.md" && [ -s "$room/described/README.md" ] &&
+        tests/docs/markdown.py --links "$room/described" || return 1
     glibc=$(objdump -T out/lib/libip_wire.so | grep -o 'GLIBC_[0-9.]*' | sort -Vu | tail -n 1)
     [[ $wheel == "$room/wheel/ip_wire-$(c/version)-py3-none-manylinux_2_"*"_x86_64.whl" ]] &&
         printf '%s\n' "${glibc#GLIBC_}" "$(sed 's/.*manylinux_\([0-9]*\)_\([0-9]*\)_.*/\1.\2/' <<< "$wheel")" | sort -CV &&
