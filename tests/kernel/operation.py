@@ -96,7 +96,7 @@ BAD_INTERFACES = (
 # Arguments of a program; its standard error, or the begin of it; the status.
 BAD_ARGUMENTS = (
     ("router", [], "usage: router [-k] [-n] FILE INTERFACE..\n", 2), ("router", ["-x", "f", "tap:a"], "usage: router", 2),
-    ("router", ["f"], "usage: router", 2), ("nat", ["f", "tap:a"], "usage: nat [-k] [-m COUNT] FILE OUTSIDE INSIDE..\n", 2),
+    ("router", ["f"], "usage: router", 2), ("nat", ["f", "tap:a"], "usage: nat [-k] [-m COUNT] [-f PROTOCOL:ADDRESS:PORT].. FILE OUTSIDE INSIDE..\n", 2),
     ("nat", ["-m", "0", "f", "tap:a", "tap:b"], "nat: 0: not a count from 1 to 193536\n", 2),
     ("nat", ["-m", "9x", "f", "tap:a", "tap:b"], "nat: 9x: not a count from 1 to 193536\n", 2),
     ("nat", ["-m", "193537", "f", "tap:a", "tap:b"], "nat: 193537: not a count from 1 to 193536\n", 2),
