@@ -2,7 +2,7 @@
 
 enum { NAT_UDP, NAT_TCP, NAT_ICMP, NAT_PROTOCOLS };
 enum { OPENING, ESTABLISHED, CLOSING };
-enum { MOST_CANDIDATES = 63 };
+enum { MOST_CANDIDATES = 63, STEPS = 32 };
 
 /* The mappings of a NAT. */
 struct table {
@@ -74,6 +74,9 @@ INLINE int is_of(const struct lk_mapping *mapping, uint64_t now, uint32_t addr, 
     return mapping && mapping->inside_port == port && load_32(mapping->inside) == addr && now < mapping->expires;
 }
 
+/* The index of the port that is a step after that of this index. */
+INLINE size_t next(size_t at, size_t step, size_t ports) { return at + step < ports ? at + step : at + step - ports; }
+
 /* The mapping of an inside endpoint, or a free one. NULL if there is neither; `is_kept` says which. */
 INLINE struct lk_mapping *choose(const struct table *table, int protocol, uint32_t addr, uint16_t port, int *is_kept)
 {
@@ -81,18 +84,20 @@ INLINE struct lk_mapping *choose(const struct table *table, int protocol, uint32
     *is_kept = 1;
     if (is_of(own, table->now, addr, port))
         return own;
-    size_t count = table->ports < MOST_CANDIDATES ? table->ports : MOST_CANDIDATES;
-    size_t first = count ? hash_of(table->nat, addr, port) % (table->ports - count + 1) : 0;
-    struct lk_mapping *run = &table->mappings[(size_t)protocol * table->part + first];
-    for (size_t i = 0; i < count; i++)
-        if (is_of(&run[i], table->now, addr, port))
-            return &run[i];
+    size_t ports = table->ports, count = ports < MOST_CANDIDATES ? ports : MOST_CANDIDATES;
+    size_t widest = ports / MOST_CANDIDATES ? ports / MOST_CANDIDATES : 1;
+    uint64_t hash = hash_of(table->nat, addr, port);
+    size_t start = ports ? hash % ports : 0, step = widest - (hash >> 32) % (widest / STEPS + 1);
+    struct lk_mapping *part = &table->mappings[(size_t)protocol * table->part];
+    for (size_t i = 0, at = start; i < count; i++, at = next(at, step, ports))
+        if (is_of(&part[at], table->now, addr, port))
+            return &part[at];
     *is_kept = 0;
     if (own && own->expires <= table->now)
         return own;
-    for (size_t i = 0; i < count; i++)
-        if (run[i].expires <= table->now)
-            return &run[i];
+    for (size_t i = 0, at = start; i < count; i++, at = next(at, step, ports))
+        if (part[at].expires <= table->now)
+            return &part[at];
     return NULL;
 }
 
@@ -108,7 +113,7 @@ INLINE uint8_t next_state(uint8_t state, int is_shared, uint8_t flags)
     if (flags & LK_SYN)
         return is_shared && state == ESTABLISHED ? ESTABLISHED : OPENING;
     if (flags & (LK_FIN | LK_RST))
-        return is_shared ? state : CLOSING;
+        return is_shared ? state : flags & LK_FIN || state == CLOSING ? CLOSING : OPENING;
     return !is_shared && state == CLOSING ? CLOSING : ESTABLISHED;
 }
 
@@ -326,7 +331,7 @@ int lk_translate_in(const struct lk_nat *nat, struct lk_mapping *mappings, size_
     if (flow.protocol == NAT_TCP && flow.flags & (LK_FIN | LK_RST) && !is_shared(mapping, flow.src, flow.src_port)) {
         uint64_t closes = expiry(now, nat->tcp_transitory_timeout);
         mapping->expires = mapping->expires < closes ? mapping->expires : closes;
-        mapping->state = CLOSING;
+        mapping->state = next_state(mapping->state, 0, flow.flags);
     }
     write_end(frame, &flow.packet, LK_DESTINATION, load_32(mapping->inside), mapping->inside_port);
     return LK_NOT_REJECTED;

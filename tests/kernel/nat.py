@@ -122,7 +122,9 @@ class Nat(Router):
         return packet.is_fragment and (packet.dst in self.own or (came_in == "left" and route is not None and route[2] == "right"))
 
     def is_from_router(self, frame):
-        return frame[12:14] == ARP or frame[20:21] == b"\x3a" and frame[54:55] in (b"\x87", b"\x88")
+        """Whether it is of ARP or neighbour discovery, or an MLD report after a hop-by-hop header."""
+        return (frame[12:14] == ARP or frame[20:21] == b"\x3a" and frame[54:55] in (b"\x87", b"\x88")
+                or frame[20:21] == b"\0" and frame[62:63] == b"\x83")
 
     def error(self, frame, came_in, why):
         """A host inside that wrote to the outside address is told by this address."""
