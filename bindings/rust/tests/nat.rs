@@ -59,7 +59,7 @@ fn some_packets_are_not_translated() {
 
 /// With two outside ports, 39999 and 40000, which the inside ports of the frames are not.
 fn nat() -> Nat<[Mapping; Mapping::count(2)]> {
-    Nat::new(&NatConfig::new([1, 2], OUTSIDE, 39999), [Mapping::FREE; Mapping::count(2)])
+    Nat::new(&NatConfig::new([1, 1], OUTSIDE, 39999), [Mapping::FREE; Mapping::count(2)])
 }
 
 enum Way {
@@ -107,7 +107,7 @@ fn a_table_translates_udp() {
     // A new NAT has no mapping of the old one.
     let mut old = nat();
     run(&mut old, &steps[1..5]);
-    let config = NatConfig::new([1, 2], OUTSIDE, 39999);
+    let config = NatConfig::new([1, 1], OUTSIDE, 39999);
     run(&mut Nat::new(&config, old.into_mappings()), &[(In, 3, &response_in, Err(Rejection::NoMapping))]);
 }
 
@@ -131,7 +131,7 @@ fn a_table_translates_echoes() {
 #[test]
 fn a_table_may_have_no_port() {
     let query = frame("query");
-    let config = NatConfig::new([1, 2], OUTSIDE, 39999);
+    let config = NatConfig::new([1, 1], OUTSIDE, 39999);
     run(&mut Nat::new(&config, []), &[(Out, 0, &query, Err(Rejection::NoFreePort))]);
     let config = NatConfig { first_port: 0, udp_timeout: Duration::MAX, ..config };
     let mut none = Nat::new(&config, vec![Mapping::FREE; Mapping::count(1)]);
