@@ -25,7 +25,7 @@ TOOLS = ("ping", "curl", "dnsmasq", "udhcpc", "busybox")
 def sections(path):
     """The headings, each with its commands, and those with the lines that the page shows."""
     sections, found, shown, is_console = [], [], [], False
-    with open(path, encoding="ascii") as page:
+    with open(path, encoding="utf-8") as page:
         for line in map(str.rstrip, page):
             if line.startswith("```"):
                 is_console = line == "```console"
