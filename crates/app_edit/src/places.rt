@@ -118,7 +118,6 @@ fn checksum_offset(protocol: IpProtocol) -> usize
 }
 
 // The places of a frame with the EtherType of IPv4.
-#[inline(always)]
 fn ipv4_places(frame: &[u8]) -> Option<Places>
     requires { 14 ≤ length frame.now }
     ensures value { result ≡ place.ipv4_places frame.now }
@@ -143,7 +142,6 @@ fn ipv4_places(frame: &[u8]) -> Option<Places>
 }
 
 // What an IPv4 packet carries from `start` up to `end`.
-#[inline(always)]
 fn ipv4_carried(frame: &[u8], start: usize, end: usize) -> Carried
     requires begins { 34 ≤ start }
     requires even { start % 2 ≡ 0 }
@@ -169,7 +167,6 @@ fn ipv4_carried(frame: &[u8], start: usize, end: usize) -> Carried
 }
 
 // The places of a frame with the EtherType of IPv6.
-#[inline(always)]
 fn ipv6_places(frame: &[u8]) -> Option<Places>
     requires { 14 ≤ length frame.now }
     ensures value { result ≡ place.ipv6_places frame.now }
@@ -373,7 +370,6 @@ fn is_ipv4(version: IpVersion) -> bool
 }
 
 // The transport packet with a checksum from `start` up to `end`.
-#[inline(always)]
 fn segment_at(
     frame: &[u8],
     version: IpVersion,
@@ -404,7 +400,6 @@ fn segment_at(
 }
 
 // The UDP packet from `start` on. Its checksum covers as many bytes as its length field says.
-#[inline(always)]
 fn datagram_at(
     frame: &[u8],
     version: IpVersion,
