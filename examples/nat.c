@@ -1,10 +1,10 @@
 /* A NAT on TAP devices and on interfaces of the kernel (Linux). docs/ROUTER.md shows how to start it.
  *     nat [-k] [-m COUNT] [-f PROTOCOL:ADDRESS:PORT].. FILE OUTSIDE INSIDE..
- * The interfaces and FILE are those of router.c. Packets to OUTSIDE get its first IPv4 address, and ports of this
- * address lead back to the hosts inside. Between inside interfaces packets are routed as they are. Only UDP, TCP, ping
- * and ICMP errors over IPv4 pass OUTSIDE: other ICMP messages and IPv6 are dropped. Fragments are put together, in any
- * order, and the packet leaves in fragments again. -k: the kernel has the addresses of the inside interfaces too, and
- * answers for them. It must not have the outside one: it would reset connections that it does not know. -m: the most
+ * The interfaces and FILE are those of router.c. IPv4 packets to OUTSIDE get its first IPv4 address, and ports of this
+ * address lead back to the hosts inside. Of IPv4 only UDP, TCP, ping and ICMP errors pass OUTSIDE: other ICMP messages
+ * are dropped. Fragments are put together, in any order, and the packet leaves in fragments again. Between inside
+ * interfaces packets are routed as they are, and IPv6 between all. -k: the kernel has the inside and IPv6 addresses too,
+ * and answers for them. It must not have the outside one: it would reset connections that it does not know. -m: the most
  * ports and echo identifiers that one inside address has at a time (RFC 6888, REQ-4). -f: this port outside leads to
  * the same port of a host inside, also before the host has sent anything. */
 #define _GNU_SOURCE
@@ -19,8 +19,8 @@ enum { MOST_FORWARDS = 64, BETWEEN_USES = 60000 }; /* in milliseconds */
 
 static const char help[] =
     "usage: nat [-k] [-m COUNT] [-f PROTOCOL:ADDRESS:PORT].. FILE OUTSIDE INSIDE..\n"
-    "Gives packets to the interface OUTSIDE its IPv4 address, and forwards them.\n"
-    "  -k        leaves packets to the inside addresses to the kernel, which has them\n"
+    "Forwards IPv4 and IPv6 packets. IPv4 packets to the interface OUTSIDE get its address.\n"
+    "  -k        leaves packets to the inside and IPv6 addresses to the kernel, which has them\n"
     "  -m COUNT  the most ports that one inside address has at a time, 16128 by default\n"
     "  -f WORD   udp:ADDRESS:PORT or tcp:ADDRESS:PORT: the port outside that leads there\n"
     "  FILE      has addresses, routes and neighbours: docs/ROUTER.md\n"
@@ -142,7 +142,7 @@ static int before_error(struct router *router, uint16_t to, struct packet *error
 {
     struct lk_addr dst;
     store_dst(error, &dst);
-    int is_hairpin = error->frame[ETHERNET_LEN] >> 4 == 4 && is_outside_address(&dst);
+    int is_hairpin = is_outside_address(&dst);
     if (to != OUTSIDE && !is_hairpin)
         return LK_NOT_REJECTED;
     int rejection = translated(lk_translate_out, router, error);
@@ -222,6 +222,6 @@ int main(int argc, char **argv)
     if (!start(&router, argv[optind], argv + optind + 1, (size_t)(argc - optind - 1)))
         return 1;
     router.interfaces[OUTSIDE].renumbers = 1;
-    router.interfaces[OUTSIDE].kernel_answers = 0;
+    router.interfaces[OUTSIDE].kernel_ipv4 = 0;
     return serve(&router);
 }

@@ -37,7 +37,8 @@ void send_error(struct router *router, uint16_t from, enum lk_problem problem, s
                                        packet->len, error.frame, sizeof error.frame);
     error.len = len > 0 ? (size_t)len : 0;
     error.offload = no_offload;
-    if (len > 0 && (router->before_error == NULL || router->before_error(router, from, &error) == LK_NOT_REJECTED))
+    int is_translated = len > 0 && router->before_error != NULL && is_over_ipv4(&error);
+    if (len > 0 && (!is_translated || router->before_error(router, from, &error) == LK_NOT_REJECTED))
         send_own(router, from, error.frame, error.len);
     else
         router->untold++;

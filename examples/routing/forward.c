@@ -14,6 +14,11 @@ void drop(struct router *router, int why)
     router->drops[why]++;
 }
 
+int is_over_ipv4(const struct packet *packet)
+{
+    return packet->frame[ETHERNET_LEN] >> 4 == 4;
+}
+
 int is_link_local(const struct lk_addr *addr)
 {
     const uint8_t *octets = addr->octets;
@@ -101,8 +106,8 @@ static size_t longest_len(const struct packet *packet)
  * not cut here. */
 static int may_fragment(const struct packet *packet)
 {
-    const uint8_t *header = packet->frame + ETHERNET_LEN;
-    return header[0] >> 4 == 4 && (header[6] & 0x40) == 0 && packet->offload.gso_type == VIRTIO_NET_HDR_GSO_NONE;
+    int has_df = (packet->frame[ETHERNET_LEN + 6] & 0x40) != 0;
+    return is_over_ipv4(packet) && !has_df && packet->offload.gso_type == VIRTIO_NET_HDR_GSO_NONE;
 }
 
 /* Sends a packet in fragments, after the packets that wait in the queues. */
@@ -115,8 +120,7 @@ static void send_cut(struct router *router, struct interface *interface, struct 
 
 static int hop_limit(const struct packet *packet)
 {
-    const uint8_t *header = packet->frame + ETHERNET_LEN;
-    return header[header[0] >> 4 == 4 ? 8 : 7];
+    return packet->frame[ETHERNET_LEN + (is_over_ipv4(packet) ? 8 : 7)];
 }
 
 /* Sends a packet by a route. A packet whose hop limit has expired waits for no neighbour. */
@@ -139,7 +143,7 @@ static void send_by(struct router *router, uint16_t from, const struct lk_route 
     int rejection = lk_forward(packet->frame, packet->len, interface->own.hardware, hardware ? hardware : no_hardware);
     if (rejection == LK_EXPIRED)
         send_error(router, from, LK_HOP_LIMIT_EXPIRED, packet, 0);
-    else if (rejection == LK_NOT_REJECTED && router->before_send != NULL)
+    else if (rejection == LK_NOT_REJECTED && router->before_send != NULL && is_over_ipv4(packet))
         rejection = router->before_send(router, from, route->interface, packet);
     if (rejection != LK_NOT_REJECTED) {
         drop(router, rejection);
@@ -208,7 +212,7 @@ static void on_packet(struct router *router, uint16_t from, struct lk_frame *in,
         return;
     if (table != NO_TABLE)
         read_headers(packet, in);
-    if (router->before_route != NULL)
+    if (router->before_route != NULL && is_over_ipv4(packet))
         rejection = router->before_route(router, from, in, packet, &dst);
     if (rejection != LK_NOT_REJECTED)
         drop(router, rejection);

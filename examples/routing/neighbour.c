@@ -358,7 +358,7 @@ void on_arp(struct router *router, uint16_t from, const struct lk_frame *in, str
     hear(router, from, &in->src.addr, in->arp.src_hardware, is_for_us, 1);
     if (claimed != NULL)
         defend(router, claimed, in->arp.src_hardware);
-    if (is_for_us && !router->interfaces[from].kernel_answers)
+    if (is_for_us && !router->interfaces[from].kernel_ipv4)
         answer(router, from, &in->dst.addr, packet);
 }
 
@@ -389,7 +389,7 @@ int on_ndisc(struct router *router, uint16_t from, const struct lk_frame *in, st
     } else if (own != NULL) {
         if (ndisc.has_hardware)
             hear(router, from, &in->src.addr, ndisc.hardware, 1, 0);
-        if (!router->interfaces[from].kernel_answers)
+        if (!router->interfaces[from].kernel_ipv6)
             answer(router, from, &ndisc.target, packet);
     }
     return 1;

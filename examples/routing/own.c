@@ -11,6 +11,13 @@ enum { PROBE, ANNOUNCE, INTRODUCED };
 enum { BETWEEN_CONFLICTS = 10000, BETWEEN_CALLS = 1000 }; /* in milliseconds */
 enum { ADVERT_LEN = ETHERNET_LEN + 72 };
 
+/* Whether the kernel has this address of the router, and answers for it. */
+static int kernel_has(const struct router *router, const struct address *own)
+{
+    const struct interface *interface = &router->interfaces[own->interface];
+    return own->block.addr.version == 4 ? interface->kernel_ipv4 : interface->kernel_ipv6;
+}
+
 /* Tells all hosts the Ethernet address: an ARP announcement (RFC 5227, section 3), or an unsolicited advertisement (RFC
  * 4861, section 7.2.6). */
 static void announce(struct router *router, const struct address *own)
@@ -61,7 +68,7 @@ int on_query(struct router *router, uint16_t from, const struct packet *packet)
 {
     struct interface *interface = &router->interfaces[from];
     int is_heard = 0;
-    for (size_t i = 0; !is_heard && !interface->kernel_answers && i < router->config.address_count; i++) {
+    for (size_t i = 0; !is_heard && !interface->kernel_ipv6 && i < router->config.address_count; i++) {
         const struct address *own = &router->config.addresses[i];
         is_heard = own->interface == from && hear_query(&interface->listener, router->now, &own->block.addr, BETWEEN_CALLS,
                                                         packet->frame, packet->len);
@@ -74,14 +81,14 @@ void introduce(struct router *router)
 {
     for (uint16_t i = 0; i < router->interface_count; i++) {
         struct interface *interface = &router->interfaces[i];
-        if (interface->is_up && interface->introduced < INTRODUCED && !interface->kernel_answers)
+        if (interface->is_up && interface->introduced < INTRODUCED && !interface->kernel_ipv6)
             interface->listener.report_at = router->now;
         report_groups(router, i);
     }
     for (size_t i = 0; i < router->config.address_count; i++) {
         const struct address *own = &router->config.addresses[i];
         const struct interface *interface = &router->interfaces[own->interface];
-        if (interface->is_up && interface->introduced < INTRODUCED && !interface->kernel_answers)
+        if (interface->is_up && interface->introduced < INTRODUCED && !kernel_has(router, own))
             (interface->introduced == PROBE ? probe : announce)(router, own);
     }
     for (struct interface *one = router->interfaces; one < router->interfaces + router->interface_count; one++)
@@ -99,7 +106,7 @@ void defend(struct router *router, const struct address *own, const uint8_t *har
     lk_print_ethernet(hardware, other, sizeof other);
     lk_print_addr(&own->block.addr, addr, sizeof addr);
     print(&router->errors, "%s: %s: %s uses the router's address %s\n", router->name, interface->name, other, addr);
-    if (!interface->kernel_answers)
+    if (!kernel_has(router, own))
         announce(router, own);
 }
 
@@ -110,7 +117,7 @@ int is_of_kernel(const struct router *router, const struct lk_addr *own)
     for (size_t i = 0; i < router->config.address_count; i++) {
         const struct address *one = &router->config.addresses[i];
         if (memcmp(&one->block.addr, own, sizeof *own) == 0)
-            return router->interfaces[one->interface].kernel_answers;
+            return kernel_has(router, one);
     }
     return 0;
 }
@@ -141,7 +148,7 @@ void compare_with_kernel(struct router *router)
         const struct interface *interface = &router->interfaces[own->interface];
         char addr[LK_ADDR_TEXT];
         lk_print_addr(&own->block.addr, addr, sizeof addr);
-        if (interface->kernel_answers && !is_in(list, interface->name, &own->block.addr))
+        if (kernel_has(router, own) && !is_in(list, interface->name, &own->block.addr))
             print(&router->errors, "%s: %s: the kernel does not have %s\n", router->name, interface->name, addr);
     }
     freeifaddrs(list);

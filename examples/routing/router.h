@@ -28,7 +28,7 @@ struct interface {
     unsigned index;      /* of the kernel's interface */
     size_t mtu;          /* in bytes */
     int is_up;           /* at the last look: a frame can be sent */
-    int kernel_answers;  /* the kernel has its addresses, and answers for them */
+    int kernel_ipv4, kernel_ipv6; /* the kernel has its addresses of this version, and answers for them */
     int introduced;      /* steps of `introduce` that its addresses have had */
     struct listener listener;
     int64_t defended_at; /* when a conflict of addresses was reported last, in milliseconds; 0: never */
@@ -120,13 +120,13 @@ struct router {
     unsigned long withheld; /* ICMP errors above the limit */
     unsigned long untold;   /* packets that are dropped, but may get no ICMP error */
     unsigned long drops[DROPS];
-    /* Steps of a NAT; null: none. Each returns why the packet is dropped, or LK_NOT_REJECTED. `in` is the packet as it
-     * was read. */
+    /* Steps of a NAT, for packets over IPv4; null: none. Each returns why the packet is dropped, or LK_NOT_REJECTED. `in`
+     * is the packet as it was read. */
     int (*before_route)(struct router *router, uint16_t from, const struct lk_frame *in, struct packet *packet,
                         struct lk_addr *dst);
     int (*before_send)(struct router *router, uint16_t from, uint16_t to, struct packet *packet);
     int (*before_error)(struct router *router, uint16_t to, struct packet *error);
-    /* The table for the fragments of a packet over IPv4 whose route leads to the interface `to`. */
+    /* The table for the fragments of a packet whose route leads to the interface `to`. */
     enum table (*table_of)(uint16_t from, uint16_t to, const struct lk_addr *dst);
     /* Takes a file that is right otherwise. Returns what is wrong with it, or null. */
     const char *(*on_config)(const struct router *router, const struct config *config);
@@ -192,6 +192,7 @@ void on_frame(struct router *router, uint16_t from, struct packet *packet);
 void send_on(struct router *router, uint16_t from, struct packet *packet, const struct lk_addr *dst);
 /* Counts a packet that is dropped: `why` is an `lk_rejection` or a `drop`. */
 void drop(struct router *router, int why);
+int is_over_ipv4(const struct packet *packet);
 int is_link_local(const struct lk_addr *addr);
 /* 0.0.0.0/8, 127.0.0.0/8, 240.0.0.0/4, ::, ::1: to these no router forwards (RFC 1812, section 5.3.7; RFC 4291, section
  * 2.5). */

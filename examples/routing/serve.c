@@ -33,7 +33,7 @@ int start(struct router *router, const char *path, char **words, size_t count)
         struct interface *interface = &router->interfaces[router->interface_count];
         if (!open_interface(router, words[router->interface_count], interface))
             return 0;
-        interface->kernel_answers = router->kernel_answers && !interface->is_tap;
+        interface->kernel_ipv4 = interface->kernel_ipv6 = router->kernel_answers && !interface->is_tap;
     }
     return read_config(router, 0);
 }

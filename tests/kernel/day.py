@@ -1,10 +1,10 @@
 #!/usr/bin/env python3
 """A day of a host behind the home router of docs/ROUTER.md. page.py runs this in the host's network namespace.
 
-tests/kernel/day.py    in the folder of nat.conf and router.conf, which the web server serves too
+tests/kernel/day.py    in the folder of nat.conf, which the web server serves too
 
 The host has an address by DHCP, and one that it made from the router's advertisement. It asks for names, fetches files,
-also while the programs read their files again, and sends pings of all sizes. The status is 1 if something was wrong.
+also while the program reads its file again, and sends pings of all sizes. The status is 1 if something was wrong.
 """
 import ipaddress
 import os
@@ -74,13 +74,13 @@ def rest_of(sock):
 
 
 def reloads():
-    """The programs of the router that read a file of this folder."""
+    """The programs of the home router that read nat.conf again: one that translates IPv4 and forwards IPv6."""
+    with open("nat.conf", "a", encoding="ascii") as config:
+        config.write("clamp dev wan\n")
     for process in output("ip netns pids router").split():
         with open(f"/proc/{process}/comm", encoding="ascii") as file:
             name = file.read().strip()
         if name in ("nat", "router"):
-            with open(f"{name}.conf", "a", encoding="ascii") as config:
-                config.write("clamp dev wan\n")
             os.kill(int(process), signal.SIGHUP)
             yield name
 
@@ -91,15 +91,15 @@ def web():
         file.write(data)
     for addr in SERVER:
         for n in range(PAGES):
-            check("page", b" 200 OK\r\n" in rest_of(connection(addr, "router.conf")), (addr, n))
+            check("page", b" 200 OK\r\n" in rest_of(connection(addr, "nat.conf")), (addr, n))
     begun = [(addr, connection(addr, "web")) for addr in SERVER]
     parts = [sock.recv(1000) for _, sock in begun]
-    check("restart", sorted(reloads()) == ["nat", "router"])
+    check("restart", list(reloads()) == ["nat"])
     for part, (addr, sock) in zip(parts, begun):
         whole = part + rest_of(sock)
         check("file during a restart", whole.endswith(b"\r\n\r\n" + data), (addr, len(whole)))
     for addr in SERVER:
-        check("page after a restart", b" 200 OK\r\n" in rest_of(connection(addr, "router.conf")), addr)
+        check("page after a restart", b" 200 OK\r\n" in rest_of(connection(addr, "nat.conf")), addr)
 
 
 def pings():

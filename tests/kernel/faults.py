@@ -168,11 +168,11 @@ def with_taps(program):
 def with_flood(program):
     room, there = Namespace(), Namespace()
     nat = kernel_nat.start_on_taps(room, there, program)
-    server = there.serve(*kernel_nat.SERVERS)
+    server = there.serve(*(address for _, address in SERVERS))
     flood({"left": WideSide(SELF, "left"), "right": WideSide(there.process, "right")})
-    for address in kernel_nat.SERVERS:
-        check("after a flood", udp_echo(socket.AF_INET, (address, 7), b"data") == b"data", address)
-        check("after a flood", echoed(socket.AF_INET, address, bytes(100_000)) == bytes(100_000), address)
+    for family, address in SERVERS:
+        check("after a flood", udp_echo(family, (address, 7), b"data") == b"data", address)
+        check("after a flood", echoed(family, address, bytes(100_000)) == bytes(100_000), address)
     check("hostile frames", nat.counters()["frames"] > FLOOD * 0.5, nat.counters())
     nat.ends("after a flood")
     server.kill()

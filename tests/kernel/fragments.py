@@ -295,11 +295,14 @@ def incomplete(nat, sides):
 def through_nat(program, start=start_nat):
     room, there = Namespace(), Namespace()
     nat = start(room, there, program)
-    server = there.serve(*SERVERS)
+    server = there.serve(*SERVERS, "fd02::2")
     sides = {"left": WideSide(SELF, "left"), "right": WideSide(there.process, "right")}
     settle(*sides.values())
+    from_kernel(socket.AF_INET6, "fd02::2", (1453, 8000, 60_000, 65_487), True)
+    check("fragments over IPv6", "fragments" not in nat.counters(), nat.counters())
     from_kernel(socket.AF_INET, SERVERS[0], (1473, 1806, 8000, 60_000, 65_507), True)
     from_kernel(socket.AF_INET, OUTSIDE, (1473, 60_000), False)
+    from_kernel(socket.AF_INET6, "fd02::1", (1, 1453, 60_000), False)
     with bound(socket.SOCK_DGRAM, (INSIDE[0], 5600)) as sock, there.entered(), bound(socket.SOCK_DGRAM, (SERVERS[1], 5555)) as other:
         check("port that is kept", seen_by(sock, SERVERS[0]) == (OUTSIDE, 5600))
         check("ping of the NAT in fragments", ping(socket.AF_INET, OUTSIDE, random.randbytes(60_000), 1))

@@ -452,7 +452,7 @@ def errors_come_in():
 
 
 def errors_leave(there):
-    """A host outside sees an error of a host inside, and of the NAT, from the outside address."""
+    """A host outside sees an error of a host inside, and of the NAT, from the outside address of this version of IP."""
     with bound(socket.SOCK_DGRAM, (INSIDE[0], 5600)) as sock:
         check("port that is kept", seen_by(sock, "10.2.0.2") == (OUTSIDE, 5600))
     with there.entered():
@@ -460,6 +460,8 @@ def errors_leave(there):
         check("closed port inside", found == (3, 3, 0, OUTSIDE), found)
         found = udp_error(socket.AF_INET, (OUTSIDE, 5600), b"late", 1)
         check("the NAT as a hop", found == (11, 0, 0, OUTSIDE), found)
+        found = udp_error(socket.AF_INET6, ("fd01::2", 7), b"early", 1)
+        check("the NAT as a hop", found == (3, 0, 0, "fd02::1"), found)
         check("ping of the NAT", ping(socket.AF_INET, OUTSIDE, b"data", 1))
 
 
@@ -477,14 +479,16 @@ def with_nat(program):
     room, there = Namespace(), Namespace()
     nat = kernel_nat.start_on_pairs(room, there, program, "route 10.3.0.0/24 via 10.2.0.2 dev right\n")
     far = add_far(there)
-    servers = [there.serve("10.2.0.2"), far.serve(FAR)]
+    servers = [there.serve("10.2.0.2", "fd02::2"), far.serve(FAR)]
     pings_out()
     for options in ((), ("-I",)):
         for source in INSIDE:
             traces(FAR, ["10.1.0.1", "10.2.0.2", FAR], "-s", source, *options)
+        traces("fd02::2", ["fd01::1", "fd02::2"], "-6", *options)
     errors_come_in()
     errors_leave(there)
     hairpin_errors()
+    smaller_link(room, there)
     no_errors(far)
     nat.ends("of a NAT with ICMP")
     for server in servers:

@@ -4,8 +4,8 @@
 tests/kernel/nat.py taps PROGRAM     exchanges packets through a NAT on TAP devices, and compares all frames
 tests/kernel/nat.py sockets PROGRAM  through a NAT on packet sockets, with the offloads of the kernel
 
-This process is two hosts inside, and a namespace of its own is two servers outside. Prints how many exchanges were right.
-The status is 1 if one was wrong, or if a kernel counted an error.
+This process is two hosts inside, and a namespace of its own is two servers outside. Over IPv4 the packets are translated,
+over IPv6 only routed. Prints how many exchanges were right. The status is 1 if one was wrong, or if a kernel counted an error.
 """
 import ast
 import copy
@@ -42,18 +42,19 @@ route 0.0.0.0/0 via 10.2.0.9 dev right
     ("10.1.0.9", "left"), ("10.2.0.9", "right"), ("fd01::9", "left"), ("fd02::9", "right")))
 OF_TAPS = CONFIG + "".join(f"lladdr {addr.hex(':')} dev {name}\n" for name, addr in HARDWARE.items())
 SERVERS = ("10.2.0.2", "10.2.0.3")
+OUTSIDE_ENDS = ((socket.AF_INET, SERVERS), (socket.AF_INET6, ("fd02::2",)))
 
 
 class Nat(Router):
     """The router with an outside address on the right. It learns outside ports from what comes out."""
 
     def __init__(self):
+        hosts = {"left": (*INSIDE, "fd01::2"), "right": (*SERVERS, "fd02::2")}
         super().__init__(
-            HARDWARE,
-            [("10.1.0.1/24", "left"), ("fd01::1/64", "left"), ("10.2.0.1/24", "right"), ("fd02::1/64", "right")],
+            HARDWARE, [("10.1.0.1/24", "left"), ("fd01::1/64", "left"), ("10.2.0.1/24", "right"), ("fd02::1/64", "right")],
             [("203.0.113.0/24", ELSEWHERE, "left"), ("0.0.0.0/0", ELSEWHERE, "right"),
              ("3fff::/20", ELSEWHERE, "left"), ("2001:db8::/32", ELSEWHERE, "right")],
-            {ipaddress.ip_address(addr): HOSTS[name] for addrs, name in ((INSIDE, "left"), (SERVERS, "right")) for addr in addrs})
+            {ipaddress.ip_address(addr): HOSTS[name] for name, addrs in hosts.items() for addr in addrs})
         self.outside = ipaddress.ip_address(OUTSIDE)
         self.ports, self.inside, self.is_complete = {}, {}, True
 
@@ -82,7 +83,7 @@ class Nat(Router):
 
     def leaves(self, frame):
         packet = Packet(frame)
-        why = "LK_NOT_IP" if packet.version == 6 else has_ports(packet)
+        why = has_ports(packet)
         if not why and is_icmp_error(packet):
             return self.error_passes(frame, packet, DESTINATION)
         if not why and packet.protocol == ICMP:
@@ -93,7 +94,7 @@ class Nat(Router):
 
     def comes_in(self, frame):
         packet = Packet(frame)
-        why = "LK_NOT_IP" if packet.version == 6 else has_ports(packet)
+        why = has_ports(packet)
         if not why and is_icmp_error(packet):
             return self.error_passes(frame, packet, SOURCE)
         if not why and packet.protocol == ICMP and packet.payload[0] != 0:
@@ -122,9 +123,8 @@ class Nat(Router):
         return packet.is_fragment and (packet.dst in self.own or (came_in == "left" and route is not None and route[2] == "right"))
 
     def is_from_router(self, frame):
-        """Whether it is of ARP or neighbour discovery, or an MLD report after a hop-by-hop header."""
-        return (frame[12:14] == ARP or frame[20:21] == b"\x3a" and frame[54:55] in (b"\x87", b"\x88")
-                or frame[20:21] == b"\0" and frame[62:63] == b"\x83")
+        """Over IPv4 the packets of hosts inside have its address too."""
+        return Packet(frame).version != 4 and super().is_from_router(frame)
 
     def error(self, frame, came_in, why):
         """A host inside that wrote to the outside address is told by this address."""
@@ -155,6 +155,8 @@ class Nat(Router):
 
     def fate(self, frame, came_in):
         """As that of a router. If the outside port is not known yet, the frame is a function of what came out."""
+        if Packet(frame).version == 6:
+            return super().fate(frame, came_in)
         self.unknown = None
         to, out = self.known_fate(frame, came_in)
         key = self.unknown
@@ -179,8 +181,8 @@ def is_answered(packet):
     return icmp.is_valid(packet.payload, *packet.ends) and packet.payload[1] == 0 and not packet.frame[6] & 1
 
 
-def start_on_taps(room, there, program, lines="", **words):
-    nat = Program(room, program, OF_TAPS + lines, ["tap:right", "tap:left"], **words)
+def start_on_taps(room, there, program, lines="", config=OF_TAPS, **words):
+    nat = Program(room, program, config + lines, ["tap:right", "tap:left"], **words)
     room.run(f"ip link set left netns {SELF} && ip link set right netns {there.process}")
     set_hosts(there)
     return nat
@@ -340,7 +342,8 @@ def seen_connection(source, server):
 
 
 def udp(sides, model):
-    udp_lengths(socket.AF_INET, SERVERS[0])
+    for family, servers in OUTSIDE_ENDS:
+        udp_lengths(family, servers[0])
     model.is_complete &= compare_sides("frame of the kernel", sides, model)
     for n in range(64):
         for option in ((socket.SOL_SOCKET, 11, 1), (socket.IPPROTO_IP, socket.IP_TOS, 4 * n + n % 4),
@@ -351,14 +354,15 @@ def udp(sides, model):
 
 
 def tcp(sides, model):
-    for length in [0, 1, 1460, 1461] + [random.randrange(5000) for _ in range(10)]:
-        data = random.randbytes(length)
-        check("TCP", echoed(socket.AF_INET, SERVERS[0], data) == data, length)
-        model.is_complete &= compare_sides("frame of the kernel", sides, model)
-    data = random.randbytes(4 << 20)
-    check("TCP", echoed(socket.AF_INET, SERVERS[0], data) == data, len(data))
-    tcp_turns(socket.AF_INET, SERVERS[1])
-    tcp_at_once(socket.AF_INET, SERVERS[1])
+    for family, servers in OUTSIDE_ENDS:
+        for length in [0, 1, 1440, 1441, 1460, 1461] + [random.randrange(5000) for _ in range(10)]:
+            data = random.randbytes(length)
+            check("TCP", echoed(family, servers[0], data) == data, (servers[0], length))
+            model.is_complete &= compare_sides("frame of the kernel", sides, model)
+        data = random.randbytes(4 << 20)
+        check("TCP", echoed(family, servers[0], data) == data, (servers[0], len(data)))
+        tcp_turns(family, servers[-1])
+        tcp_at_once(family, servers[-1])
     learn_from(model, sides)
 
 
@@ -424,7 +428,7 @@ def not_translated(nat):
 def on_taps(program):
     room, there, model = Namespace(), Namespace(), Nat()
     nat = start_on_taps(room, there, program)
-    server = there.serve(*SERVERS)
+    server = there.serve(*SERVERS, "fd02::2")
     sides = {"left": WideSide(SELF, "left"), "right": WideSide(there.process, "right")}
     udp(sides, model)
     tcp(sides, model)
@@ -438,6 +442,7 @@ def on_taps(program):
     no_errors(there)
     nat.ends("of a NAT")
     clamps(room, there, program)
+    only_ipv4(room, there, program)
     server.kill()
 
 
@@ -447,30 +452,42 @@ def clamps(room, there, program):
     sides = {"left": WideSide(SELF, "left"), "right": WideSide(there.process, "right")}
     longer_hosts(there)
     data = random.randbytes(300_000)
-    check("TCP of longer hosts", echoed(socket.AF_INET, SERVERS[0], data) == data)
+    for family, servers in OUTSIDE_ENDS:
+        check("TCP of longer hosts", echoed(family, servers[0], data) == data, family)
     check("too long", "too long" not in nat.counters())
     model.is_complete &= compare_sides("clamped frame", sides, model)
     compare_random(nat, sides, RANDOM_FRAMES // 4, model)
     nat.ends("of a NAT that clamps")
 
 
+def only_ipv4(room, there, program):
+    """Without addresses over IPv6 none of its packets passes."""
+    nat = start_on_taps(room, there, program, config="".join(line for line in OF_TAPS.splitlines(True) if "::" not in line))
+    sides, model = {"left": WideSide(SELF, "left"), "right": WideSide(there.process, "right")}, Nat()
+    model.own, model.routes = {addr for addr in model.own if addr.version == 4}, {
+        block: route for block, route in model.routes.items() if block.version == 4}
+    compare_random(nat, sides, RANDOM_FRAMES // 4, model)
+    nat.ends("of a NAT without IPv6")
+
+
 def on_sockets(program):
     """Large frames of the kernel, whose checksums are left to the device."""
     room, there, model = Namespace(), Namespace(), Nat()
     nat = start_on_pairs(room, there, program)
-    server = there.serve(*SERVERS)
+    server = there.serve(*SERVERS, "fd02::2")
     sides = {"left": WideSide(SELF, "left"), "right": WideSide(there.process, "right")}
-    for length in range(0, 1473, 7):
-        data = random.randbytes(length)
-        check("UDP", udp_echo(socket.AF_INET, (SERVERS[0], 7), data) == data, length)
-    longest = 0
-    for length in (1, 5000, 1 << 20, 8 << 20):
-        data = random.randbytes(length)
-        check("TCP", echoed(socket.AF_INET, SERVERS[0], data) == data, length)
-        longest = max(longest, longest_handed(sides["left"]))
-    check("frames of 64 KB", longest > 60_000, longest)
-    tcp_at_once(socket.AF_INET, SERVERS[1])
-    learn_from(model, sides)
+    for family, servers in OUTSIDE_ENDS:
+        for length in range(0, 1453, 7):
+            data = random.randbytes(length)
+            check("UDP", udp_echo(family, (servers[0], 7), data) == data, (servers[0], length))
+        longest = 0
+        for length in (1, 5000, 1 << 20, 8 << 20):
+            data = random.randbytes(length)
+            check("TCP", echoed(family, servers[0], data) == data, (servers[0], length))
+            longest = max(longest, longest_handed(sides["left"]))
+        check("frames of 64 KB", longest > 60_000, (servers[0], longest))
+        tcp_at_once(family, servers[-1])
+        learn_from(model, sides)
     compare_random(nat, sides, RANDOM_FRAMES // 4, model.but(least=60))
     hairpin(free_ports(model)[:3])
     no_errors(there)

@@ -168,11 +168,11 @@ def asked(side):
     compare_lists("advertisement of the kernel", [advert], [frame for frame in sent_by_router(side, "left") if frame[54] == icmp.ADVERTISEMENT])
 
 
-def errors(side, room):
+def errors(side, room, fronts=((socket.AF_INET, "10.%d.0."), (socket.AF_INET6, "fd0%d::"))):
     """One error for each packet, of the router or of the kernel. The link on the right has an MTU of 1300."""
     room.run("ip link set right mtu 1300")
     time.sleep(READS_MTU)
-    for family, front in ((socket.AF_INET, "10.%d.0."), (socket.AF_INET6, "fd0%d::")):
+    for family, front in fronts:
         version, own, host, nobody = 4 if family == socket.AF_INET else 6, front % 1 + "1", front % 2 + "2", front % 9 + "9"
         for what, kind, place, hop_limit, length in (
                 ("time exceeded", icmp.EXPIRED, (host, 7), 1, 1), ("no route", icmp.NO_ROUTE, (nobody, 7), 64, 1),
@@ -214,30 +214,33 @@ def kernel_answers(program):
 
 
 def kernel_inside(program):
-    """A NAT whose inside address the kernel has. The kernel's own packets leave by a TAP device through the NAT."""
+    """A NAT whose inside and IPv6 addresses the kernel has. The kernel's own packets over IPv4 leave by a TAP device through
+    the NAT."""
     room, there = Namespace(), Namespace()
     make_pairs(room, there)
     room.run(KERNEL + """
-        ip address add 10.1.0.1/24 dev left && ip address add fd01::1/64 dev left nodad
+        ip address add 10.1.0.1/24 dev left && ip address add fd01::1/64 dev left nodad && ip address add fd02::1/64 dev right nodad
         ip tuntap add self mode tap && ip address add 10.3.0.2/30 dev self && ip link set self up && ip route add default via 10.3.0.1
     """)
     there.run("ip route delete default")
     side, outside = WideSide(SELF, "left"), WideSide(there.process, "right")
     router = Program(room, program, nat.CONFIG + "address 10.3.0.1/30 dev self\n", [*reversed(PAIRS), "tap:self"], options=["-k"])
-    server = there.serve("10.2.0.2")
+    server = there.serve("10.2.0.2", "fd02::2")
     for addr, what in (("10.1.0.1", "the kernel"), ("fd01::1", "the kernel"), ("10.2.0.1", "the NAT"), ("10.2.0.2", "a host behind"),
-                       ("10.3.0.1", "the NAT"), ("10.3.0.2", "the kernel")):
+                       ("10.3.0.1", "the NAT"), ("10.3.0.2", "the kernel"), ("fd02::1", "the kernel"), ("fd02::2", "a host behind")):
         pings(side, addr, what)
     outside.forget()
     for namespace, who in ((Here(), "a host"), (room, "the kernel")):
         with namespace.entered():
-            check(f"UDP of {who} inside", udp_echo(socket.AF_INET, ("10.2.0.2", 7), b"data") == b"data")
-            check(f"TCP of {who} inside", echoed(socket.AF_INET, "10.2.0.2", bytes(100_000)) == bytes(100_000))
+            for addr in ("10.2.0.2", "fd02::2"):
+                check(f"UDP of {who} inside", udp_echo(families(addr), (addr, 7), b"data") == b"data", addr)
+                check(f"TCP of {who} inside", echoed(families(addr), addr, bytes(100_000)) == bytes(100_000), addr)
     outside.take()
     sources = {frame[26:30] for frame in outside.came_out if frame[12:14] == b"\x08\0"}
     check("sources outside", sources == {socket.inet_aton("10.2.0.1")}, sources)
     resets = [frame for frame in outside.came_out if frame[12:14] == b"\x08\0" and frame[23] == 6 and frame[47] & 4]
     check("resets", resets == [], resets)
+    errors(side, room, [(socket.AF_INET6, "fd0%d::")])
     check("conflicts", router.messages() == "", router.messages())
     router.ends("beside the kernel")
     server.kill()

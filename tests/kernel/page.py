@@ -55,7 +55,7 @@ def commands(path):
         if "dnsmasq" in words and not may_set_groups():
             lacking.append("dnsmasq cannot set its groups")
         if heading == "A home router":
-            found.insert(-1, (DAY, ["day: .., 0 wrong, ..", "nat: nat.conf: read again", "router: router.conf: read again"]))
+            found.insert(-1, (DAY, ["day: .., 0 wrong, ..", "nat: nat.conf: read again"]))
         if lacking:
             print(f'tests/kernel: skipped: docs/ROUTER.md, "{heading}": {lacking[0]}')
         else:
