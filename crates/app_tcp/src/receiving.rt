@@ -1,4 +1,5 @@
-//! The receiving half: what came in order and the application did not read yet (RFC 9293, section 3.3.1).
+//! The receiving half: what came in order and the application did not read yet, and a piece that came after a gap (RFC 9293,
+//! sections 3.3.1 and 3.10.7.4).
 
 ghost use Rattle.std.specs.Prelude.{◌≡◌, ◌+◌, ◌-◌, ◌%◌, [], ◌≤◌, ◌<◌, ◌++◌, ◌∷◌, ◌==◌, ◌&&◌, if◌then◌else◌, IfSome, Some, None, ℕ, List, length, take, true, false};
 ghost use Rattle.tcp_model.specs.Endpoint.{Item, Syn, distance};
@@ -19,7 +20,7 @@ pub struct Receiving {
     // Where the bytes begin in the ring, and how many they are.
     start: usize,
     len: usize,
-    // How many bytes are missing after them, and how many are kept after these.
+    // How many bytes are missing after them, and how many are kept after the gap.
     gap: usize,
     kept: usize,
     // Whether the SYN and the FIN came.
@@ -58,9 +59,11 @@ impl Receiving {
         }
     }
 
-    /// Takes what is new of a segment and in order, as far as there is room, and keeps one piece after a gap. `number` is that
-    /// of its first byte (SEG.SEQ, or the next number if it has a SYN). A FIN is taken after all its bytes; after a gap it is
-    /// dropped, as a segment that does not adjoin what is kept.
+    /// Takes what is new of a segment and in order, as far as there is room. `number` is that of its first byte (SEG.SEQ, or
+    /// the next number if it has a SYN). A FIN is taken after all bytes before it.
+    ///
+    /// After a gap it keeps the bytes if nothing is kept yet, or if they adjoin what is kept or overlap it. It takes them when
+    /// the gap is closed. Other segments after a gap are dropped, and a FIN there.
     pub fn on_segment(&mut self, ring: &mut [u8], number: u32, payload: &[u8], fin: bool)
         requires begin { self.old.start < length ring.old }
         requires len { reach self.old ≤ length ring.old }
@@ -109,7 +112,6 @@ impl Receiving {
         requires len { reach self.old ≤ length ring.old }
         requires small { length ring.old < 1073741824 }
         requires ahead { 0 < ahead }
-        requires most { ahead ≤ 2147483648 }
         requires is_open { self.old.is_open ≡ true }
         ensures same { self.new ≡ record self.old { gap = self.new.gap; kept = self.new.kept } }
         ensures len { reach self.new ≤ length ring.old }
@@ -179,11 +181,13 @@ impl Receiving {
         if self.is_open { Some(self.next) } else { None }
     }
 
-    /// The numbers of the bytes that are kept after a gap: the first, and the one after the last (a block of RFC 2018).
+    /// The numbers of the bytes that are kept after a gap: the first, and the one after the last, as in a SACK block (RFC 2018,
+    /// section 3).
     pub fn kept(&self) -> Option<(u32, u32)>
         requires { reach self.now < 1073741824 }
         ensures some { 0 < self.now.kept → result ≡ Some ((self.now.next + self.now.gap) % 4294967296, (self.now.next + self.now.gap + self.now.kept) % 4294967296) }
         ensures none { self.now.kept ≡ 0 → result ≡ None }
+        ensures legal { (w : World) (consumed buffer : List ℕ) → self.now.start < length buffer → reach self.now ≤ length buffer → Stands w consumed self.now buffer → IfSome result (λ range. (range.0 ≡ w.later.number) × (range.1 ≡ (w.later.number + length w.later.items) % 4294967296)) }
     {
         if self.kept == 0 {
             return None;
