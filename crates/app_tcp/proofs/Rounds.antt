@@ -4,8 +4,8 @@ use Rattle.std.specs.Prelude.{Option, Some, None, slice_get}
 use Rattle.std.proofs.lemmas.Bool.{cond_both, cond-true}
 use Rattle.std.proofs.lemmas.Bool.Decides.{nat_tests}
 use Rattle.std.proofs.lemmas.List.{length-drop, length-append, length-map}
-use Rattle.tcp_model.specs.Endpoint.{Item, Byte, Receiver, accepted, received, fresh}
-use Rattle.tcp_model.specs.Network.{World, Segment, Ack, Event, Send, Segment_comes, Answer, Ack_comes, happens, segment_comes, keep, merge, ack_comes, run, start, stream, number_at, end_of, is_ended, is_alive}
+use Rattle.tcp_model.specs.Endpoint.{Item, Byte, Receiver, accepted, fresh}
+use Rattle.tcp_model.specs.Network.{World, Segment, Ack, Event, Send, Segment_comes, Join, Answer, Ack_comes, happens, segment_comes, keep, merge, ack_comes, run, start, stream, end_of, is_ended, is_alive}
 use Rattle.tcp_model.proofs.Kept.{Good, good_start, run_good}
 use Rattle.tcp_model.proofs.Parts.{part_first}
 use Rattle.tcp_model.proofs.Streams.{end_all}
@@ -19,97 +19,71 @@ use Rattle.app_tcp.proofs.Standing.{stands_still}
 use Rattle.app_tcp.specs.declared.receiving.Receiving.{Receiving}
 use Rattle.app_tcp.specs.declared.sending.Sending.{Sending}
 
--- a step of one half leaves what the other one stands for
-pub send_receiver : (w : World) (offset count : ℕ) → (happens w (Send offset count)).receiver ≡ w.receiver
-send_receiver w offset count =
+-- a step of the sender leaves the receiver, and what it keeps
+record Still (w v : World) : Type 0 where
+  receiver : v.receiver ≡ w.receiver
+  later : v.later ≡ w.later
+
+send_still : (w : World) (offset count : ℕ) → Still w (happens w (Send offset count))
+send_still w offset count =
     let items = take count (drop (w.acked + offset) (stream w.written w.closed)) in
-    cond_both (nat_lt (length (stream w.written w.closed)) (w.acked + offset)) _ _ (λ (v : World). v.receiver ≡ w.receiver) (λ past. refl)
-    (λ within. cond_both (nat_lt (w.acked + 2147483648) (w.acked + offset + length items)) _ _ (λ (v : World). v.receiver ≡ w.receiver) (λ far. refl) (λ near. refl))
+    cond_both (nat_lt (length (stream w.written w.closed)) (w.acked + offset)) _ _ (Still w) (λ past. record { receiver = refl; later = refl })
+    (λ within. cond_both (nat_lt (w.acked + 2147483648) (w.acked + offset + length items)) _ _ (Still w) (λ far. record { receiver = refl; later = refl }) (λ near. record { receiver = refl; later = refl }))
 
-send_later : (w : World) (offset count : ℕ) → (happens w (Send offset count)).later ≡ w.later
-send_later w offset count =
-    let items = take count (drop (w.acked + offset) (stream w.written w.closed)) in
-    cond_both (nat_lt (length (stream w.written w.closed)) (w.acked + offset)) _ _ (λ (v : World). v.later ≡ w.later) (λ past. refl)
-    (λ within. cond_both (nat_lt (w.acked + 2147483648) (w.acked + offset + length items)) _ _ (λ (v : World). v.later ≡ w.later) (λ far. refl) (λ near. refl))
+answer_still : (w : World) → Still w (happens w Answer)
+answer_still w = cond_both w.receiver.is_open _ _ (Still w) (λ yes. record { receiver = refl; later = refl }) (λ no. record { receiver = refl; later = refl })
 
-answer_later : (w : World) → (happens w Answer).later ≡ w.later
-answer_later w = cond_both w.receiver.is_open _ _ (λ (v : World). v.later ≡ w.later) (λ yes. refl) (λ no. refl)
+ack_still : (w : World) (o : Option Ack) → Still w (ack_comes w o)
+ack_still w None = record { receiver = refl; later = refl }
+ack_still w (Some a) = cond_both (is_alive w.acked a.place) _ _ (Still w) (λ yes. record { receiver = refl; later = refl }) (λ no. record { receiver = refl; later = refl })
 
-ack_later : (w : World) (o : Option Ack) → (ack_comes w o).later ≡ w.later
-ack_later w None = refl
-ack_later w (Some a) = cond_both (is_alive w.acked a.place) _ _ (λ (v : World). v.later ≡ w.later) (λ yes. refl) (λ no. refl)
-
-pub answer_receiver : (w : World) → (happens w Answer).receiver ≡ w.receiver
-answer_receiver w = cond_both w.receiver.is_open _ _ (λ (v : World). v.receiver ≡ w.receiver) (λ yes. refl) (λ no. refl)
-
-pub ack_receiver : (w : World) (o : Option Ack) → (ack_comes w o).receiver ≡ w.receiver
-ack_receiver w None = refl
-ack_receiver w (Some a) = cond_both (is_alive w.acked a.place) _ _ (λ (v : World). v.receiver ≡ w.receiver) (λ yes. refl) (λ no. refl)
-
--- what the sender stands for
-same_sender : (w v : World) (c : Sending) (b : List ℕ) → v.initial ≡ w.initial → v.acked ≡ w.acked → v.sent ≡ w.sent → v.written ≡ w.written → v.closed ≡ w.closed → Waits w c b → Waits v c b
-same_sender w v c b initial acked sent written closed waits = record {
-  una = (let e : number_at w.initial w.acked ≡ number_at v.initial v.acked = cc in waits.una ∙ e);
-  flight = omega (arith, waits.flight);
-  within = subst (λ (n : ℕ). n ≤ length (stream v.written v.closed)) (sym sent) (subst (λ (l : List ℕ). w.sent ≤ length (stream l v.closed)) (sym written) (subst (λ (f : Bool). w.sent ≤ length (stream w.written f)) (sym closed) waits.within));
-  closed = waits.closed ∙ sym closed;
-  still = waits.still;
-  held = (let e : drop v.acked (stream v.written v.closed) ≡ drop w.acked (stream w.written w.closed) = cc in e ∙ waits.held);
-}
+-- a step of the receiver leaves what the sender stands for
+same_sender : (w : World) (receiver : Receiver) (acks : List Ack) (later : Segment) (c : Sending) (b : List ℕ) → Waits w c b → Waits (record w { receiver = receiver; acks = acks; later = later }) c b
+same_sender w receiver acks later c b waits = record { una = waits.una; flight = waits.flight; within = waits.within; closed = waits.closed; still = waits.still; held = waits.held }
 
 segment_sender : (w : World) (room : ℕ) (o : Option Segment) (c : Sending) (b : List ℕ) → Waits w c b → Waits (segment_comes w room o) c b
 segment_sender w room None c b waits = waits
-segment_sender w room (Some s) c b waits = cond_both (is_alive (length w.receiver.got) s.place) _ _ (λ (v : World). Waits v c b) (λ yes. same_sender w _ c b refl refl refl refl refl waits) (λ no. waits)
+segment_sender w room (Some s) c b waits = cond_both (is_alive (length w.receiver.got) s.place) _ _ (λ (v : World). Waits v c b) (λ yes. same_sender w _ w.acks w.later c b waits) (λ no. waits)
 
 answer_sender : (w : World) (c : Sending) (b : List ℕ) → Waits w c b → Waits (happens w Answer) c b
-answer_sender w c b waits = cond_both w.receiver.is_open _ _ (λ (v : World). Waits v c b) (λ yes. same_sender w _ c b refl refl refl refl refl waits) (λ no. waits)
+answer_sender w c b waits = cond_both w.receiver.is_open _ _ (λ (v : World). Waits v c b) (λ yes. same_sender w w.receiver _ w.later c b waits) (λ no. waits)
 
 -- what the receiver does with a segment leaves the sender, and takes no less
-keep_sender : (w : World) (count : ℕ) (o : Option Segment) (c : Sending) (b : List ℕ) → Waits w c b → Waits (keep w count o) c b
-keep_sender w count None c b waits = waits
-keep_sender w count (Some s) c b waits = same_sender w _ c b refl refl refl refl refl waits
-
-merge_sender : (w : World) (count : ℕ) (o : Option Segment) (c : Sending) (b : List ℕ) → Waits w c b → Waits (merge w count o) c b
-merge_sender w count None c b waits = waits
-merge_sender w count (Some s) c b waits =
-    cond_both (is_alive (length w.receiver.got) s.place) _ _ (λ (v : World). Waits v c b)
-    (λ yes. cond_both (is_alive (length w.receiver.got) w.later.place) _ _ (λ (v : World). Waits v c b) (λ kept. same_sender w _ c b refl refl refl refl refl waits) (λ dead. waits)) (λ no. waits)
-
-use_sender : (w : World) (which : ℕ) (u : Use) (c : Sending) (b : List ℕ) → Waits w c b → Waits (run (events_of which u) w) c b
-use_sender w which Nothing c b waits = waits
-use_sender w which (Keeping count) c b waits = keep_sender w count (slice_get w.segments which) c b waits
-use_sender w which (Merging count) c b waits = merge_sender w count (slice_get w.segments which) c b waits
-use_sender w which (Joining count) c b waits = segment_sender w count (Some w.later) c b waits
-
 record Takes (w v : World) : Type 0 where
+  sender : (c : Sending) (b : List ℕ) → Waits w c b → Waits v c b
   is_open : v.receiver.is_open ≡ true
   more : length w.receiver.got ≤ length v.receiver.got
 
-takes_same : (w v : World) → w.receiver.is_open ≡ true → v.receiver ≡ w.receiver → Takes w v
-takes_same w v is_open same = record { is_open = ap (λ (r : Receiver). r.is_open) same ∙ is_open; more = omega (arith, ap (λ (r : Receiver). length r.got) same) }
+takes_none : (w : World) → w.receiver.is_open ≡ true → Takes w w
+takes_none w is_open = record { sender = λ c b waits. waits; is_open = is_open; more = omega arith }
 
-keep_receiver : (w : World) (count : ℕ) (o : Option Segment) → (keep w count o).receiver ≡ w.receiver
-keep_receiver w count None = refl
-keep_receiver w count (Some s) = refl
+takes_later : (w : World) (later : Segment) → w.receiver.is_open ≡ true → Takes w (record w { later = later })
+takes_later w later is_open = record { sender = λ c b. same_sender w w.receiver w.acks later c b; is_open = is_open; more = omega arith }
 
-merge_receiver : (w : World) (count : ℕ) (o : Option Segment) → (merge w count o).receiver ≡ w.receiver
-merge_receiver w count None = refl
-merge_receiver w count (Some s) =
-    cond_both (is_alive (length w.receiver.got) s.place) _ _ (λ (v : World). v.receiver ≡ w.receiver)
-    (λ yes. cond_both (is_alive (length w.receiver.got) w.later.place) _ _ (λ (v : World). v.receiver ≡ w.receiver) (λ kept. refl) (λ dead. refl)) (λ no. refl)
+keep_takes : (w : World) (count : ℕ) (o : Option Segment) → w.receiver.is_open ≡ true → Takes w (keep w count o)
+keep_takes w count None is_open = takes_none w is_open
+keep_takes w count (Some s) is_open = takes_later w _ is_open
 
-use_takes : (w : World) (which : ℕ) (u : Use) → w.receiver.is_open ≡ true → Takes w (run (events_of which u) w)
-use_takes w which Nothing is_open = takes_same w w is_open refl
-use_takes w which (Keeping count) is_open = takes_same w _ is_open (keep_receiver w count (slice_get w.segments which))
-use_takes w which (Merging count) is_open = takes_same w _ is_open (merge_receiver w count (slice_get w.segments which))
-use_takes w which (Joining count) is_open =
-    cond_both (is_alive (length w.receiver.got) w.later.place) _ _ (Takes w) (λ yes. taken) (λ no. takes_same w w is_open refl)
+merge_takes : (w : World) (count : ℕ) (o : Option Segment) → w.receiver.is_open ≡ true → Takes w (merge w count o)
+merge_takes w count None is_open = takes_none w is_open
+merge_takes w count (Some s) is_open =
+    cond_both (is_alive (length w.receiver.got) s.place) _ _ (Takes w)
+    (λ yes. cond_both (is_alive (length w.receiver.got) w.later.place) _ _ (Takes w) (λ kept. takes_later w _ is_open) (λ dead. takes_none w is_open)) (λ no. takes_none w is_open)
+
+join_takes : (w : World) (count : ℕ) → w.receiver.is_open ≡ true → Takes w (happens w (Join count))
+join_takes w count is_open = cond_both (is_alive (length w.receiver.got) w.later.place) _ _ (Takes w) (λ yes. subst (λ (r : Receiver). Takes w (record w { receiver = r })) (sym (cond-true w.receiver.is_open (accepted w.receiver.next w.receiver.got new) _ is_open)) taken) (λ no. takes_none w is_open)
   where
     new : List Item
     new = fresh w.receiver.next w.later.number w.later.items count
 
-    taken : Takes w (record w { receiver = received w.receiver w.later.number w.later.items count })
-    taken = subst (λ (r : Receiver). Takes w (record w { receiver = r })) (sym (cond-true w.receiver.is_open (accepted w.receiver.next w.receiver.got new) _ is_open)) (record { is_open = refl; more = omega (arith, length-append w.receiver.got new) })
+    taken : Takes w (record w { receiver = accepted w.receiver.next w.receiver.got new })
+    taken = record { sender = λ c b. same_sender w _ w.acks w.later c b; is_open = refl; more = omega (arith, length-append w.receiver.got new) }
+
+use_takes : (w : World) (which : ℕ) (u : Use) → w.receiver.is_open ≡ true → Takes w (run (events_of which u) w)
+use_takes w which Nothing is_open = takes_none w is_open
+use_takes w which (Keeping count) is_open = keep_takes w count (slice_get w.segments which) is_open
+use_takes w which (Merging count) is_open = merge_takes w count (slice_get w.segments which) is_open
+use_takes w which (Joining count) is_open = join_takes w count is_open
 
 use_first : (w : World) (which : ℕ) (u : Use) (events : List Event) → run (events_of which u ++ events) w ≡ run events (run (events_of which u) w)
 use_first w which Nothing events = refl
@@ -157,9 +131,9 @@ round_goes initial events consumed o i0 i1 s0 s1 s2 r0 r1 number next room items
     let n = length items in
     let w1 : World = happens w (Send 0 n) in
     let came : World = happens w1 (Segment_comes 0 room) in
-    let same1 : w1.receiver ≡ w.receiver = send_receiver w 0 n in
+    let still1 : Still w w1 = send_still w 0 n in
     let left : length (stream w.written w.closed) - w.acked ≡ length (pending s0 o) = sym (length-drop w.acked (stream w.written w.closed)) ∙ ap length waits0.held in
-    let near : length w1.receiver.got < w.acked + 0 + 2147483648 = omega (arith, ap (λ (r : Receiver). length r.got) same1, good.behind, waits0.within, waits0.flight, left, short_pending s0 o start0 len0) in
+    let near : length w1.receiver.got < w.acked + 0 + 2147483648 = omega (arith, ap (λ (r : Receiver). length r.got) still1.receiver, good.behind, waits0.within, waits0.flight, left, short_pending s0 o start0 len0) in
     let segment : Segment = record { place = w.acked + 0; number = number; items = items } in
     let it : SegmentComes w1 0 number items = record {
       segment = segment;
@@ -168,7 +142,7 @@ round_goes initial events consumed o i0 i1 s0 s1 s2 r0 r1 number next room items
       brings = refl;
       alive = true_test _ _ near;
     } in
-    let used : Uses came 0 consumed r1 i1 = takes w1 it (stands_still w (Send 0 n) consumed r0 i0 same1 (send_later w 0 n) stands0) in
+    let used : Uses came 0 consumed r1 i1 = takes w1 it (stands_still w (Send 0 n) consumed r0 i0 still1.receiver still1.later stands0) in
     let w2 : World = run (events_of 0 used.how) came in
     let w3 : World = happens w2 Answer in
     let ahead : (0 < room) ⊎ (w.acked < length w.receiver.got) = elim space [
@@ -178,7 +152,7 @@ round_goes initial events consumed o i0 i1 s0 s1 s2 r0 r1 number next room items
     let brings : Came w came = brought w n room good (stands0.holds.is_open ∙ is_open) less some few ahead in
     let good2 : Good w2 = run_good (events_of 0 used.how) came brings.good in
     let taken : Takes came w2 = use_takes came 0 used.how brings.is_open in
-    let waits2 : Waits w2 s1 o = use_sender came 0 used.how s1 o (segment_sender w1 room (slice_get w1.segments 0) s1 o waits1) in
+    let waits2 : Waits w2 s1 o = taken.sender s1 o (segment_sender w1 room (slice_get w1.segments 0) s1 o waits1) in
     let said : IsAnswer w2 next = says w2 used.stands in
     let ack : Ack = record { place = length w2.receiver.got; number = next } in
     let young : w3.acked < length w2.receiver.got + 2147483648 = omega (arith, answer_acked w2, good2.counted) in
@@ -188,8 +162,8 @@ round_goes initial events consumed o i0 i1 s0 s1 s2 r0 r1 number next room items
       same = refl;
       alive = true_test _ _ young;
     } in
-    let stands3 : Stands w3 consumed r1 i1 = stands_still w2 Answer consumed r1 i1 (answer_receiver w2) (answer_later w2) used.stands in
-    let stands4 : Stands (happens w3 (Ack_comes 0)) consumed r1 i1 = stands_still w3 (Ack_comes 0) consumed r1 i1 (ack_receiver w3 (slice_get w3.acks 0)) (ack_later w3 (slice_get w3.acks 0)) stands3 in
+    let stands3 : Stands w3 consumed r1 i1 = stands_still w2 Answer consumed r1 i1 (answer_still w2).receiver (answer_still w2).later used.stands in
+    let stands4 : Stands (happens w3 (Ack_comes 0)) consumed r1 i1 = stands_still w3 (Ack_comes 0) consumed r1 i1 (ack_still w3 (slice_get w3.acks 0)).receiver (ack_still w3 (slice_get w3.acks 0)).later stands3 in
     let all : (happens w3 (Ack_comes 0)).acked ≡ length w2.receiver.got = answered w2 good2 taken.is_open in
     finish w consumed s2 o r1 i1 (Send 0 n ∷ Segment_comes 0 room ∷ (events_of 0 used.how ++ (Answer ∷ Ack_comes 0 ∷ []))) (happens w3 (Ack_comes 0)) (sym (use_first came 0 used.how (Answer ∷ Ack_comes 0 ∷ [])))
     (acks w3 answer (answer_sender w2 s1 o waits2)) stands4 (omega (arith, all, brings.more, taken.more))
