@@ -1,4 +1,8 @@
 pub mod Places
 pub mod Pending
 pub mod Received
+pub mod Gaps
+pub mod Standing
+pub mod Keeping
+pub mod Taking
 pub mod Rounds

@@ -5,17 +5,16 @@ use Rattle.std.proofs.lemmas.List.{drop_all, length-append, length-map, length-d
 use Rattle.std.proofs.lemmas.Bool.{cond_both, cond-true, cond-false, false≢true}
 use Rattle.std.proofs.lemmas.Bool.Decides.{nat_tests}
 use Rattle.tcp_model.specs.Endpoint.{Item, Syn, Byte, Fin, Receiver, distance, fresh, accepted, opened, received}
-use Rattle.tcp_model.specs.Network.{World, Event, happens, run, start, end_of, bytes_of, is_ended, is_alive, IsPrefixOf}
-use Rattle.tcp_model.proofs.Kept.{run_delivers}
+use Rattle.tcp_model.specs.Network.{end_of, bytes_of, is_ended}
 use Rattle.tcp_model.proofs.Streams.{bytes_of_part}
-use Rattle.app_tcp.specs.Stands.{Stands, SegmentComes, IsAnswer, room_of}
+use Rattle.app_tcp.specs.Stands.{Holds, room_of}
 use Rattle.app_tcp.specs.Items.{items_of}
 use Rattle.app_tcp.specs.Ring.{ring, placed}
 use Rattle.app_tcp.proofs.Pending.{cut_front, placed_front, short_end}
 use Rattle.app_tcp.proofs.Places.{ring_drop, ring_front, length-ring}
 use Rattle.app_tcp.specs.declared.receiving.Receiving.{Receiving}
 
-bytes-append : (xs ys : List Item) → bytes_of (xs ++ ys) ≡ bytes_of xs ++ bytes_of ys
+pub bytes-append : (xs ys : List Item) → bytes_of (xs ++ ys) ≡ bytes_of xs ++ bytes_of ys
 bytes-append [] ys = refl
 bytes-append (Byte b ∷ xs) ys = ap (λ (l : List ℕ). b ∷ l) (bytes-append xs ys)
 bytes-append (Syn ∷ xs) ys = bytes-append xs ys
@@ -27,7 +26,7 @@ ended_more (Byte b ∷ xs) ys ended = ended_more xs ys ended
 ended_more (Syn ∷ xs) ys ended = ended_more xs ys ended
 ended_more (Fin ∷ xs) ys ended = refl
 
-ended_same : (xs ys : List Item) → is_ended ys ≡ false → is_ended (xs ++ ys) ≡ is_ended xs
+pub ended_same : (xs ys : List Item) → is_ended ys ≡ false → is_ended (xs ++ ys) ≡ is_ended xs
 ended_same [] ys still = still
 ended_same (Byte b ∷ xs) ys still = ended_same xs ys still
 ended_same (Syn ∷ xs) ys still = ended_same xs ys still
@@ -77,11 +76,11 @@ held_after c old new payload skip n start few fits is =
     ∙ placed_front c.len (take n (drop skip payload)) (ring c.start old) (omega (arith, length-ring c.start old (omega arith)))
 
 -- what stays the same of a step that takes the items xs
-module _ (r : Receiver) (consumed : List ℕ) (c : Receiving) (old : List ℕ) (stands : Stands r consumed c old) (is_open : c.is_open ≡ true) where
+module _ (r : Receiver) (consumed : List ℕ) (c : Receiving) (old : List ℕ) (stands : Holds r consumed c old) (is_open : c.is_open ≡ true) where
   pub step : (number : ℕ) (items xs : List Item) (room : ℕ) (d : Receiving) (new : List ℕ) → fresh r.next number items room ≡ xs
-      → d.next ≡ (c.next + length xs) % 4294967296 → take d.len (ring d.start new) ≡ take c.len (ring c.start old) ++ bytes_of xs → is_ended (r.got ++ xs) ≡ d.has_fin → d.is_open ≡ true → Stands (received r number items room) consumed d new
+      → d.next ≡ (c.next + length xs) % 4294967296 → take d.len (ring d.start new) ≡ take c.len (ring c.start old) ++ bytes_of xs → is_ended (r.got ++ xs) ≡ d.has_fin → d.is_open ≡ true → Holds (received r number items room) consumed d new
   step number items xs room d new is next held ended still =
-      subst (λ (m : Receiver). Stands m consumed d new) (sym (cond-true r.is_open _ _ (stands.is_open ∙ is_open))) (subst (λ (l : List Item). Stands (accepted r.next r.got l) consumed d new) (sym is) (record {
+      subst (λ (m : Receiver). Holds m consumed d new) (sym (cond-true r.is_open _ _ (stands.is_open ∙ is_open))) (subst (λ (l : List Item). Holds (accepted r.next r.got l) consumed d new) (sym is) (record {
         is_open = sym still;
         next = λ now. next ∙ ap (λ (n : ℕ). (n + length xs) % 4294967296) (stands.next is_open);
         held = bytes-append r.got xs ∙ ap (λ (l : List ℕ). l ++ bytes_of xs) stands.held ∙ append_assoc consumed (take c.len (ring c.start old)) (bytes_of xs) ∙ ap (λ (l : List ℕ). consumed ++ l) (sym held);
@@ -99,7 +98,7 @@ module _ (r : Receiver) (consumed : List ℕ) (c : Receiving) (old : List ℕ) (
   -- bytes alone
   pub bytes_stand : (number : ℕ) (payload : List ℕ) (fin : Bool) (skip room n : ℕ) (d : Receiving) (new : List ℕ) → distance c.next number ≡ skip → skip < 2147483648 → skip ≤ length payload
       → n ≡ min (length payload - skip) room → (fin ≡ false) ⊎ (room ≤ length payload - skip)
-      → d.next ≡ (c.next + n) % 4294967296 → take d.len (ring d.start new) ≡ take c.len (ring c.start old) ++ take n (drop skip payload) → d.has_fin ≡ c.has_fin → d.is_open ≡ true → Stands (received r number (items_of false payload fin) room) consumed d new
+      → d.next ≡ (c.next + n) % 4294967296 → take d.len (ring d.start new) ≡ take c.len (ring c.start old) ++ take n (drop skip payload) → d.has_fin ≡ c.has_fin → d.is_open ≡ true → Holds (received r number (items_of false payload fin) room) consumed d new
   bytes_stand number payload fin skip room n d new is near le size why next held flag still =
       let q = drop skip payload in
       let rest : length q ≡ length payload - skip = length-drop skip payload in
@@ -112,10 +111,20 @@ module _ (r : Receiver) (consumed : List ℕ) (c : Receiving) (old : List ℕ) (
       (held ∙ ap (λ (l : List ℕ). take c.len (ring c.start old) ++ l) same)
       (ended_same r.got _ taken.still ∙ stands.ended ∙ sym flag) still
 
+  -- how many they are
+  pub bytes_grow : (number : ℕ) (payload : List ℕ) (fin : Bool) (skip room n : ℕ) → distance c.next number ≡ skip → skip < 2147483648 → skip ≤ length payload
+      → n ≡ min (length payload - skip) room → (fin ≡ false) ⊎ (room ≤ length payload - skip) → length (received r number (items_of false payload fin) room).got ≡ length r.got + n
+  bytes_grow number payload fin skip room n is near le size why =
+      let q = drop skip payload in
+      let rest : length q ≡ length payload - skip = length-drop skip payload in
+      let taken = bytes q room fin (subst (λ (k : ℕ). (fin ≡ false) ⊎ (room ≤ k)) (sym rest) why) in
+      ap (λ (m : Receiver). length m.got) (cond-true r.is_open _ _ (stands.is_open ∙ is_open)) ∙ ap (λ (l : List Item). length (r.got ++ l)) (from number payload fin skip room is near le)
+      ∙ length-append r.got (take room (map Byte q ++ end_of fin)) ∙ (let e : length r.got + length (take room (map Byte q ++ end_of fin)) ≡ length r.got + n = omega (arith, taken.long) in e)
+
   -- all bytes, and the end
   pub end_stands : (number : ℕ) (payload : List ℕ) (skip room n : ℕ) (d : Receiving) (new : List ℕ) → distance c.next number ≡ skip → skip < 2147483648 → skip ≤ length payload
       → n ≡ length payload - skip → n < room
-      → d.next ≡ (c.next + n + 1) % 4294967296 → take d.len (ring d.start new) ≡ take c.len (ring c.start old) ++ take n (drop skip payload) → d.has_fin ≡ true → d.is_open ≡ true → Stands (received r number (items_of false payload true) room) consumed d new
+      → d.next ≡ (c.next + n + 1) % 4294967296 → take d.len (ring d.start new) ≡ take c.len (ring c.start old) ++ take n (drop skip payload) → d.has_fin ≡ true → d.is_open ≡ true → Holds (received r number (items_of false payload true) room) consumed d new
   end_stands number payload skip room n d new is near le size fits next held flag still =
       let q = drop skip payload in
       let rest : length q ≡ length payload - skip = length-drop skip payload in
@@ -128,56 +137,41 @@ module _ (r : Receiver) (consumed : List ℕ) (c : Receiving) (old : List ℕ) (
       (held ∙ ap (λ (l : List ℕ). take c.len (ring c.start old) ++ l) same)
       (ended_more r.got _ taken.ended ∙ sym flag) still
 
--- the event
-pub comes : (w : World) (event : ℕ → Event) (number room : ℕ) (items : List Item) → SegmentComes w event number items → (happens w (event room)).receiver ≡ received w.receiver number items room
-comes w event number room items it =
-    ap (λ (v : World). v.receiver) (it.comes room)
-    ∙ ap (λ (v : World). v.receiver) (cond-true (is_alive (length w.receiver.got) it.segment.place) _ _ it.alive)
-    ∙ ap (λ (n : ℕ). received w.receiver n it.segment.items room) it.same
-    ∙ ap (λ (l : List Item). received w.receiver number l room) it.brings
-
--- a segment before the SYN
-pub early_stands : (r : Receiver) (consumed : List ℕ) (c : Receiving) (buffer : List ℕ) (number : ℕ) (payload : List ℕ) (fin : Bool) (room : ℕ) → Stands r consumed c buffer → c.is_open ≡ false
-    → Stands (received r number (items_of false payload fin) room) consumed c buffer
-early_stands r consumed c buffer number payload fin room stands shut =
-    subst (λ (m : Receiver). Stands m consumed c buffer) (sym (cond-false r.is_open _ _ (stands.is_open ∙ shut) ∙ not_opened payload fin)) stands
+-- a segment before the SYN brings nothing
+pub early : (r : Receiver) (number : ℕ) (payload : List ℕ) (fin : Bool) (room : ℕ) → r.is_open ≡ false → received r number (items_of false payload fin) room ≡ r
+early r number payload fin room shut = cond-false r.is_open _ _ shut ∙ not_opened payload fin
   where
     not_opened : (p : List ℕ) (f : Bool) → opened r number (items_of false p f) room ≡ r
     not_opened [] true = refl
     not_opened [] false = refl
     not_opened (b ∷ p) f = refl
 
--- a segment after a gap, or with nothing new
-pub no_news_stands : (r : Receiver) (consumed : List ℕ) (c : Receiving) (buffer : List ℕ) (number : ℕ) (payload : List ℕ) (fin : Bool) (room : ℕ) → c.next < 4294967296 → c.is_open ≡ true
-    → Stands r consumed c buffer → (2147483648 ≤ distance c.next number) ⊎ (length payload < distance c.next number) → Stands (received r number (items_of false payload fin) room) consumed c buffer
-no_news_stands r consumed c buffer number payload fin room fits is_open stands why =
-    subst (λ (m : Receiver). Stands m consumed c buffer) (sym (cond-true r.is_open _ _ (stands.is_open ∙ is_open) ∙ ap (λ (l : List Item). accepted r.next r.got l) none)) (record {
-      is_open = sym is_open;
-      next = λ now. (let e : c.next ≡ r.next = stands.next now in omega arith);
-      held = ap bytes_of (append-nil r.got) ∙ stands.held;
-      ended = ap is_ended (append-nil r.got) ∙ stands.ended;
-    })
+-- nor does one after a gap, or with nothing new
+pub no_news : (r : Receiver) (number : ℕ) (payload : List ℕ) (fin : Bool) (room : ℕ) → r.next < 4294967296 → r.is_open ≡ true → (2147483648 ≤ distance r.next number) ⊎ (length payload < distance r.next number)
+    → received r number (items_of false payload fin) room ≡ r
+no_news r number payload fin room fits is_open why =
+    let e : (r.next + 0) % 4294967296 ≡ r.next = omega arith in
+    cond-true r.is_open _ _ is_open ∙ ap (λ (l : List Item). accepted r.next r.got l) (none why)
+    ∙ ap (λ (n : ℕ). record { is_open = true; next = n; got = r.got ++ [] }) e ∙ ap (λ (l : List Item). record { is_open = true; next = r.next; got = l }) (append-nil r.got)
+    ∙ ap (λ (f : Bool). record { is_open = f; next = r.next; got = r.got }) (sym is_open)
   where
     long : length (items_of false payload fin) ≤ length payload + 1
     long = omega (arith, length-append (map Byte payload) (end_of fin), length-map payload Byte, short_end fin)
 
-    old : (2147483648 ≤ distance c.next number) ⊎ (length payload < distance c.next number) → fresh c.next number (items_of false payload fin) room ≡ []
-    old (inl gap) = cond-false _ _ _ (let t : nat_lt (distance c.next number) 2147483648 ≡ false = grind (arith, nat_tests) in t)
-    old (inr past) = cond_both (nat_lt (distance c.next number) 2147483648) _ _ (λ (l : List Item). l ≡ [])
-        (λ near. ap (λ (l : List Item). take room l) (drop_all (distance c.next number) (items_of false payload fin) (omega (arith, long))) ∙ take-nil room) (λ gap. refl)
-
-    none : fresh r.next number (items_of false payload fin) room ≡ []
-    none = ap (λ (n : ℕ). fresh n number (items_of false payload fin) room) (sym (stands.next is_open)) ∙ old why
+    none : (2147483648 ≤ distance r.next number) ⊎ (length payload < distance r.next number) → fresh r.next number (items_of false payload fin) room ≡ []
+    none (inl gap) = cond-false _ _ _ (let t : nat_lt (distance r.next number) 2147483648 ≡ false = grind (arith, nat_tests) in t)
+    none (inr past) = cond_both (nat_lt (distance r.next number) 2147483648) _ _ (λ (l : List Item). l ≡ [])
+        (λ near. ap (λ (l : List Item). take room l) (drop_all (distance r.next number) (items_of false payload fin) (omega (arith, long))) ∙ take-nil room) (λ gap. refl)
 
 -- the SYN that opens
-pub opened_stands : (r : Receiver) (consumed : List ℕ) (c d : Receiving) (buffer : List ℕ) (number : ℕ) (rest : List Item) → number < 4294967296 → Stands r consumed c buffer → c.is_open ≡ false
-    → d ≡ record c { next = (number + 1) % 4294967296; is_open = true } → Stands (received r number (Syn ∷ rest) 1) consumed d buffer
+pub opened_stands : (r : Receiver) (consumed : List ℕ) (c d : Receiving) (buffer : List ℕ) (number : ℕ) (rest : List Item) → number < 4294967296 → Holds r consumed c buffer → c.is_open ≡ false
+    → d ≡ record c { next = (number + 1) % 4294967296; is_open = true } → Holds (received r number (Syn ∷ rest) 1) consumed d buffer
 opened_stands r consumed c d buffer number rest small stands shut is =
     let none : distance number number ≡ 0 = omega arith in
     let near : nat_lt (distance number number) 2147483648 ≡ true = grind (arith, nat_tests) in
     let new : fresh number number (Syn ∷ rest) 1 ≡ Syn ∷ [] = cond-true _ _ _ near ∙ ap (λ (n : ℕ). take 1 (drop n (Syn ∷ rest))) none in
     let opens : received r number (Syn ∷ rest) 1 ≡ accepted number r.got (Syn ∷ []) = cond-false r.is_open _ _ (stands.is_open ∙ shut) ∙ ap (λ (l : List Item). accepted number r.got l) new in
-    subst (λ (m : Receiver). Stands m consumed d buffer) (sym opens) (subst (λ (e : Receiving). Stands (accepted number r.got (Syn ∷ [])) consumed e buffer) (sym is) (record {
+    subst (λ (m : Receiver). Holds m consumed d buffer) (sym opens) (subst (λ (e : Receiving). Holds (accepted number r.got (Syn ∷ [])) consumed e buffer) (sym is) (record {
       is_open = refl;
       next = λ now. refl;
       held = bytes-append r.got (Syn ∷ []) ∙ append-nil (bytes_of r.got) ∙ stands.held;
@@ -185,9 +179,9 @@ opened_stands r consumed c d buffer number rest small stands shut is =
     }))
 
 -- what is read, and what is left
-pub read_stands : (r : Receiver) (consumed : List ℕ) (c d : Receiving) (b : List ℕ) (n t : ℕ) → Stands r consumed c b → c.start < length b → c.len ≤ length b → t < length b
-    → (t ≡ c.start + n) ⊎ (t + length b ≡ c.start + n) → n ≤ c.len → c.start + n ≤ length b → d ≡ record c { start = t; len = c.len - n } → Stands r (consumed ++ take n (drop c.start b)) d b
-read_stands r consumed c d b n t stands start len inside is le fits same = subst (λ (e : Receiving). Stands r (consumed ++ take n (drop c.start b)) e b) (sym same) (record {
+pub read_stands : (r : Receiver) (consumed : List ℕ) (c d : Receiving) (b : List ℕ) (n t : ℕ) → Holds r consumed c b → c.start < length b → c.len ≤ length b → t < length b
+    → (t ≡ c.start + n) ⊎ (t + length b ≡ c.start + n) → n ≤ c.len → c.start + n ≤ length b → d ≡ record c { start = t; len = c.len - n } → Holds r (consumed ++ take n (drop c.start b)) d b
+read_stands r consumed c d b n t stands start len inside is le fits same = subst (λ (e : Receiving). Holds r (consumed ++ take n (drop c.start b)) e b) (sym same) (record {
   is_open = stands.is_open;
   next = stands.next;
   held =
@@ -197,20 +191,3 @@ read_stands r consumed c d b n t stands start len inside is le fits same = subst
       ∙ sym (append_assoc consumed (take n (drop c.start b)) (take (c.len - n) (ring t b)));
   ended = stands.ended;
 })
-
--- what a receiver holds begins what was written
-pub held_delivers : (initial : ℕ) (events : List Event) (consumed : List ℕ) (c : Receiving) (b : List ℕ) → Stands (run events (start initial)).receiver consumed c b → IsPrefixOf consumed (run events (start initial)).written
-held_delivers initial events consumed c b stands =
-    let prefix = (run_delivers initial events).prefix in
-    (take c.len (ring c.start b) ++ prefix.0, sym (append_assoc consumed (take c.len (ring c.start b)) prefix.0) ∙ ap (λ (l : List ℕ). l ++ prefix.0) (sym stands.held) ∙ prefix.1)
-
-pub end_delivers : (initial : ℕ) (events : List Event) (consumed : List ℕ) (c : Receiving) (b : List ℕ) → c.has_fin ≡ true → c.len ≡ 0 → Stands (run events (start initial)).receiver consumed c b
-    → ((run events (start initial)).closed ≡ true) × (consumed ≡ (run events (start initial)).written)
-end_delivers initial events consumed c b fin none stands =
-    let whole = (run_delivers initial events).whole (stands.ended ∙ fin) in
-    (whole.0, sym (stands.held ∙ ap (λ (n : ℕ). consumed ++ take n (ring c.start b)) none ∙ append-nil consumed) ∙ whole.1)
-
-pub answers : (w : World) (consumed : List ℕ) (c : Receiving) (b : List ℕ) → c.is_open ≡ true → Stands w.receiver consumed c b → IsAnswer w c.next
-answers w consumed c b is_open stands = record {
-  last = ap (λ (v : World). v.acks) (cond-true w.receiver.is_open _ _ (stands.is_open ∙ is_open)) ∙ ap (λ (n : ℕ). record { place = length w.receiver.got; number = n } ∷ w.acks) (sym (stands.next is_open));
-}

@@ -1,54 +1,95 @@
 -- A round without loss.
-use Rattle.std.proofs.Common.{◌≡◌, ◌⊎◌, inl, inr, refl, ℕ, ◌+◌, ◌-◌, ◌≤◌, ◌<◌, List, Bool, true, false, length, map, take, drop, sym, ◌∙◌, ap, subst, arith, nat_lt}
+use Rattle.std.proofs.Common.{◌≡◌, ◌⊎◌, inl, inr, refl, ℕ, ◌+◌, ◌-◌, ◌≤◌, ◌<◌, List, [], ◌∷◌, ◌++◌, Bool, true, false, length, map, take, drop, sym, ◌∙◌, ap, subst, arith, nat_lt}
 use Rattle.std.specs.Prelude.{Option, Some, None, slice_get}
-use Rattle.std.proofs.lemmas.Bool.{cond_both}
+use Rattle.std.proofs.lemmas.Bool.{cond_both, cond-true}
 use Rattle.std.proofs.lemmas.Bool.Decides.{nat_tests}
 use Rattle.std.proofs.lemmas.List.{length-drop, length-append, length-map}
-use Rattle.tcp_model.specs.Endpoint.{Item, Byte, Receiver}
-use Rattle.tcp_model.specs.Network.{World, Segment, Ack, Event, Send, Segment_comes, Answer, Ack_comes, happens, segment_comes, ack_comes, run, start, round, stream, number_at, end_of, is_ended, is_alive}
-use Rattle.tcp_model.proofs.Kept.{Good, good_start, happens_good, run_good}
+use Rattle.tcp_model.specs.Endpoint.{Item, Byte, Receiver, accepted, fresh}
+use Rattle.tcp_model.specs.Network.{World, Segment, Ack, Event, Send, Segment_comes, Join, Answer, Ack_comes, happens, segment_comes, keep, merge, ack_comes, run, start, stream, end_of, is_ended, is_alive}
+use Rattle.tcp_model.proofs.Kept.{Good, good_start, run_good}
 use Rattle.tcp_model.proofs.Parts.{part_first}
 use Rattle.tcp_model.proofs.Streams.{end_all}
-use Rattle.tcp_model.proofs.Round.{goes_on}
-use Rattle.app_tcp.specs.Stands.{Stands, SegmentComes, IsAnswer}
+use Rattle.tcp_model.proofs.Round.{Came, brought, answered}
+use Rattle.app_tcp.specs.Stands.{Stands, SegmentComes, Uses, Use, Nothing, Keeping, Merging, Joining, events_of, IsAnswer}
 use Rattle.app_tcp.specs.Waits.{Waits, AckComes, IsSend, pending}
 use Rattle.app_tcp.specs.Round.{GoesOn}
 use Rattle.app_tcp.proofs.Pending.{short_pending, short_end}
 use Rattle.app_tcp.specs.Items.{items_of}
+use Rattle.app_tcp.proofs.Standing.{stands_still}
 use Rattle.app_tcp.specs.declared.receiving.Receiving.{Receiving}
 use Rattle.app_tcp.specs.declared.sending.Sending.{Sending}
 
--- a step of one half leaves what the other one stands for
-pub send_receiver : (w : World) (offset count : ℕ) → (happens w (Send offset count)).receiver ≡ w.receiver
-send_receiver w offset count =
+-- a step of the sender leaves the receiver, and what it keeps
+record Still (w v : World) : Type 0 where
+  receiver : v.receiver ≡ w.receiver
+  later : v.later ≡ w.later
+
+send_still : (w : World) (offset count : ℕ) → Still w (happens w (Send offset count))
+send_still w offset count =
     let items = take count (drop (w.acked + offset) (stream w.written w.closed)) in
-    cond_both (nat_lt (length (stream w.written w.closed)) (w.acked + offset)) _ _ (λ (v : World). v.receiver ≡ w.receiver) (λ past. refl)
-    (λ within. cond_both (nat_lt (w.acked + 2147483648) (w.acked + offset + length items)) _ _ (λ (v : World). v.receiver ≡ w.receiver) (λ far. refl) (λ near. refl))
+    cond_both (nat_lt (length (stream w.written w.closed)) (w.acked + offset)) _ _ (Still w) (λ past. record { receiver = refl; later = refl })
+    (λ within. cond_both (nat_lt (w.acked + 2147483648) (w.acked + offset + length items)) _ _ (Still w) (λ far. record { receiver = refl; later = refl }) (λ near. record { receiver = refl; later = refl }))
 
-pub answer_receiver : (w : World) → (happens w Answer).receiver ≡ w.receiver
-answer_receiver w = cond_both w.receiver.is_open _ _ (λ (v : World). v.receiver ≡ w.receiver) (λ yes. refl) (λ no. refl)
+answer_still : (w : World) → Still w (happens w Answer)
+answer_still w = cond_both w.receiver.is_open _ _ (Still w) (λ yes. record { receiver = refl; later = refl }) (λ no. record { receiver = refl; later = refl })
 
-pub ack_receiver : (w : World) (o : Option Ack) → (ack_comes w o).receiver ≡ w.receiver
-ack_receiver w None = refl
-ack_receiver w (Some a) = cond_both (is_alive w.acked a.place) _ _ (λ (v : World). v.receiver ≡ w.receiver) (λ yes. refl) (λ no. refl)
+ack_still : (w : World) (o : Option Ack) → Still w (ack_comes w o)
+ack_still w None = record { receiver = refl; later = refl }
+ack_still w (Some a) = cond_both (is_alive w.acked a.place) _ _ (Still w) (λ yes. record { receiver = refl; later = refl }) (λ no. record { receiver = refl; later = refl })
 
--- what the sender stands for
-same_sender : (w v : World) (c : Sending) (b : List ℕ) → v.initial ≡ w.initial → v.acked ≡ w.acked → v.sent ≡ w.sent → v.written ≡ w.written → v.closed ≡ w.closed → Waits w c b → Waits v c b
-same_sender w v c b initial acked sent written closed waits = record {
-  una = (let e : number_at w.initial w.acked ≡ number_at v.initial v.acked = cc in waits.una ∙ e);
-  flight = omega (arith, waits.flight);
-  within = subst (λ (n : ℕ). n ≤ length (stream v.written v.closed)) (sym sent) (subst (λ (l : List ℕ). w.sent ≤ length (stream l v.closed)) (sym written) (subst (λ (f : Bool). w.sent ≤ length (stream w.written f)) (sym closed) waits.within));
-  closed = waits.closed ∙ sym closed;
-  still = waits.still;
-  held = (let e : drop v.acked (stream v.written v.closed) ≡ drop w.acked (stream w.written w.closed) = cc in e ∙ waits.held);
-}
+-- a step of the receiver leaves what the sender stands for
+same_sender : (w : World) (receiver : Receiver) (acks : List Ack) (later : Segment) (c : Sending) (b : List ℕ) → Waits w c b → Waits (record w { receiver = receiver; acks = acks; later = later }) c b
+same_sender w receiver acks later c b waits = record { una = waits.una; flight = waits.flight; within = waits.within; closed = waits.closed; still = waits.still; held = waits.held }
 
 segment_sender : (w : World) (room : ℕ) (o : Option Segment) (c : Sending) (b : List ℕ) → Waits w c b → Waits (segment_comes w room o) c b
 segment_sender w room None c b waits = waits
-segment_sender w room (Some s) c b waits = cond_both (is_alive (length w.receiver.got) s.place) _ _ (λ (v : World). Waits v c b) (λ yes. same_sender w _ c b refl refl refl refl refl waits) (λ no. waits)
+segment_sender w room (Some s) c b waits = cond_both (is_alive (length w.receiver.got) s.place) _ _ (λ (v : World). Waits v c b) (λ yes. same_sender w _ w.acks w.later c b waits) (λ no. waits)
 
 answer_sender : (w : World) (c : Sending) (b : List ℕ) → Waits w c b → Waits (happens w Answer) c b
-answer_sender w c b waits = cond_both w.receiver.is_open _ _ (λ (v : World). Waits v c b) (λ yes. same_sender w _ c b refl refl refl refl refl waits) (λ no. waits)
+answer_sender w c b waits = cond_both w.receiver.is_open _ _ (λ (v : World). Waits v c b) (λ yes. same_sender w w.receiver _ w.later c b waits) (λ no. waits)
+
+-- what the receiver does with a segment leaves the sender, and takes no less
+record Takes (w v : World) : Type 0 where
+  sender : (c : Sending) (b : List ℕ) → Waits w c b → Waits v c b
+  is_open : v.receiver.is_open ≡ true
+  more : length w.receiver.got ≤ length v.receiver.got
+
+takes_none : (w : World) → w.receiver.is_open ≡ true → Takes w w
+takes_none w is_open = record { sender = λ c b waits. waits; is_open = is_open; more = omega arith }
+
+takes_later : (w : World) (later : Segment) → w.receiver.is_open ≡ true → Takes w (record w { later = later })
+takes_later w later is_open = record { sender = λ c b. same_sender w w.receiver w.acks later c b; is_open = is_open; more = omega arith }
+
+keep_takes : (w : World) (count : ℕ) (o : Option Segment) → w.receiver.is_open ≡ true → Takes w (keep w count o)
+keep_takes w count None is_open = takes_none w is_open
+keep_takes w count (Some s) is_open = takes_later w _ is_open
+
+merge_takes : (w : World) (count : ℕ) (o : Option Segment) → w.receiver.is_open ≡ true → Takes w (merge w count o)
+merge_takes w count None is_open = takes_none w is_open
+merge_takes w count (Some s) is_open =
+    cond_both (is_alive (length w.receiver.got) s.place) _ _ (Takes w)
+    (λ yes. cond_both (is_alive (length w.receiver.got) w.later.place) _ _ (Takes w) (λ kept. takes_later w _ is_open) (λ dead. takes_none w is_open)) (λ no. takes_none w is_open)
+
+join_takes : (w : World) (count : ℕ) → w.receiver.is_open ≡ true → Takes w (happens w (Join count))
+join_takes w count is_open = cond_both (is_alive (length w.receiver.got) w.later.place) _ _ (Takes w) (λ yes. subst (λ (r : Receiver). Takes w (record w { receiver = r })) (sym (cond-true w.receiver.is_open (accepted w.receiver.next w.receiver.got new) _ is_open)) taken) (λ no. takes_none w is_open)
+  where
+    new : List Item
+    new = fresh w.receiver.next w.later.number w.later.items count
+
+    taken : Takes w (record w { receiver = accepted w.receiver.next w.receiver.got new })
+    taken = record { sender = λ c b. same_sender w _ w.acks w.later c b; is_open = refl; more = omega (arith, length-append w.receiver.got new) }
+
+use_takes : (w : World) (which : ℕ) (u : Use) → w.receiver.is_open ≡ true → Takes w (run (events_of which u) w)
+use_takes w which Nothing is_open = takes_none w is_open
+use_takes w which (Keeping count) is_open = keep_takes w count (slice_get w.segments which) is_open
+use_takes w which (Merging count) is_open = merge_takes w count (slice_get w.segments which) is_open
+use_takes w which (Joining count) is_open = join_takes w count is_open
+
+use_first : (w : World) (which : ℕ) (u : Use) (events : List Event) → run (events_of which u ++ events) w ≡ run events (run (events_of which u) w)
+use_first w which Nothing events = refl
+use_first w which (Keeping count) events = refl
+use_first w which (Merging count) events = refl
+use_first w which (Joining count) events = refl
 
 send_acked : (w : World) (offset count : ℕ) → (happens w (Send offset count)).acked ≡ w.acked
 send_acked w offset count =
@@ -66,14 +107,22 @@ all_got w good ended = end_all w.written w.closed (length w.receiver.got) (subst
 answer_acked : (w : World) → (happens w Answer).acked ≡ w.acked
 answer_acked w = cond_both w.receiver.is_open _ _ (λ (v : World). v.acked ≡ w.acked) (λ yes. refl) (λ no. refl)
 
--- the round of the code is that of the model
+finish : (w : World) (consumed : List ℕ) (s : Sending) (o : List ℕ) (r : Receiving) (i : List ℕ) (events : List Event) (v : World) → v ≡ run events w → Waits v s o → Stands v consumed r i → w.acked < v.acked → GoesOn w consumed s o r i
+finish w consumed s o r i events v is waits stands more = record {
+  events = events;
+  waits = subst (λ (u : World). Waits u s o) is waits;
+  stands = subst (λ (u : World). Stands u consumed r i) is stands;
+  more = subst (λ (u : World). w.acked < u.acked) is more;
+}
+
+-- the round of the code is one of the model
 pub round_goes : (initial : ℕ) (events : List Event) (consumed o i0 i1 : List ℕ) (s0 s1 s2 : Sending) (r0 r1 : Receiving) (number next room : ℕ) (items : List Item)
-    → Waits (run events (start initial)) s0 o → Stands (run events (start initial)).receiver consumed r0 i0 → s0.start < length o → s0.len ≤ length o → length o < 1073741824
+    → Waits (run events (start initial)) s0 o → Stands (run events (start initial)) consumed r0 i0 → s0.start < length o → s0.len ≤ length o → length o < 1073741824
     → r0.is_open ≡ true → (0 < room) ⊎ (r0.has_fin ≡ true) → (run events (start initial)).acked < length (stream (run events (start initial)).written (run events (start initial)).closed)
     → 0 < length items → length items ≤ 2147483648
     → IsSend (run events (start initial)) 0 number items → Waits (happens (run events (start initial)) (Send 0 (length items))) s1 o
-    → ((v : World) → SegmentComes v (Segment_comes 0) number items → Stands v.receiver consumed r0 i0 → Stands (happens v (Segment_comes 0 room)).receiver consumed r1 i1)
-    → ((v : World) → Stands v.receiver consumed r1 i1 → IsAnswer v next)
+    → ((v : World) → SegmentComes v 0 number items → Stands v consumed r0 i0 → Uses (happens v (Segment_comes 0 room)) 0 consumed r1 i1)
+    → ((v : World) → Stands v consumed r1 i1 → IsAnswer v next)
     → ((v : World) → AckComes v 0 next → Waits v s1 o → Waits (happens v (Ack_comes 0)) s2 o)
     → GoesOn (run events (start initial)) consumed s2 o r1 i1
 round_goes initial events consumed o i0 i1 s0 s1 s2 r0 r1 number next room items waits0 stands0 start0 len0 small is_open space less some few legal waits1 takes says acks =
@@ -81,42 +130,43 @@ round_goes initial events consumed o i0 i1 s0 s1 s2 r0 r1 number next room items
     let good : Good w = run_good events (start initial) (good_start initial) in
     let n = length items in
     let w1 : World = happens w (Send 0 n) in
-    let w2 : World = happens w1 (Segment_comes 0 room) in
-    let w3 : World = happens w2 Answer in
-    let good2 : Good w2 = happens_good w1 (Segment_comes 0 room) (happens_good w (Send 0 n) good) in
-    let same1 : w1.receiver ≡ w.receiver = send_receiver w 0 n in
+    let came : World = happens w1 (Segment_comes 0 room) in
+    let still1 : Still w w1 = send_still w 0 n in
     let left : length (stream w.written w.closed) - w.acked ≡ length (pending s0 o) = sym (length-drop w.acked (stream w.written w.closed)) ∙ ap length waits0.held in
-    let near : length w1.receiver.got < w.acked + 0 + 2147483648 = omega (arith, ap (λ (r : Receiver). length r.got) same1, good.behind, waits0.within, waits0.flight, left, short_pending s0 o start0 len0) in
+    let near : length w1.receiver.got < w.acked + 0 + 2147483648 = omega (arith, ap (λ (r : Receiver). length r.got) still1.receiver, good.behind, waits0.within, waits0.flight, left, short_pending s0 o start0 len0) in
     let segment : Segment = record { place = w.acked + 0; number = number; items = items } in
-    let it : SegmentComes w1 (Segment_comes 0) number items = record {
+    let it : SegmentComes w1 0 number items = record {
       segment = segment;
-      comes = λ k. (let there : slice_get w1.segments 0 ≡ Some segment = subst (λ (l : List Segment). slice_get l 0 ≡ Some segment) (sym legal.last) refl in ap (λ (x : Option Segment). segment_comes w1 k x) there);
+      there = ap (λ (l : List Segment). slice_get l 0) legal.last;
       same = refl;
       brings = refl;
       alive = true_test _ _ near;
     } in
-    let stands2 : Stands w2.receiver consumed r1 i1 = takes w1 it (subst (λ (r : Receiver). Stands r consumed r0 i0) (sym same1) stands0) in
-    let waits2 : Waits w2 s1 o = segment_sender w1 room (slice_get w1.segments 0) s1 o waits1 in
-    let said : IsAnswer w2 next = says w2 stands2 in
+    let used : Uses came 0 consumed r1 i1 = takes w1 it (stands_still w (Send 0 n) consumed r0 i0 still1.receiver still1.later stands0) in
+    let w2 : World = run (events_of 0 used.how) came in
+    let w3 : World = happens w2 Answer in
+    let ahead : (0 < room) ⊎ (w.acked < length w.receiver.got) = elim space [
+      | inl wide ↦ inl wide
+      | inr fin ↦ inr (let all = all_got w good (stands0.holds.ended ∙ fin) in omega arith)
+    ] in
+    let brings : Came w came = brought w n room good (stands0.holds.is_open ∙ is_open) less some few ahead in
+    let good2 : Good w2 = run_good (events_of 0 used.how) came brings.good in
+    let taken : Takes came w2 = use_takes came 0 used.how brings.is_open in
+    let waits2 : Waits w2 s1 o = taken.sender s1 o (segment_sender w1 room (slice_get w1.segments 0) s1 o waits1) in
+    let said : IsAnswer w2 next = says w2 used.stands in
     let ack : Ack = record { place = length w2.receiver.got; number = next } in
     let young : w3.acked < length w2.receiver.got + 2147483648 = omega (arith, answer_acked w2, good2.counted) in
-    let answered : AckComes w3 0 next = record {
+    let answer : AckComes w3 0 next = record {
       ack = ack;
-      there = subst (λ (l : List Ack). slice_get l 0 ≡ Some ack) (sym said.last) refl;
+      there = ap (λ (l : List Ack). slice_get l 0) said.last;
       same = refl;
       alive = true_test _ _ young;
     } in
-    let same4 : (happens w3 (Ack_comes 0)).receiver ≡ w2.receiver = ack_receiver w3 (slice_get w3.acks 0) ∙ answer_receiver w2 in
-    let ahead : (0 < room) ⊎ (w.acked < length w.receiver.got) = elim space [
-      | inl wide ↦ inl wide
-      | inr fin ↦ inr (let all = all_got w good (stands0.ended ∙ fin) in omega arith)
-    ] in
-    record {
-      events = round n room;
-      waits = acks w3 answered (answer_sender w2 s1 o waits2);
-      stands = subst (λ (r : Receiver). Stands r consumed r1 i1) (sym same4) stands2;
-      more = goes_on initial n room events (stands0.is_open ∙ is_open) less some few ahead;
-    }
+    let stands3 : Stands w3 consumed r1 i1 = stands_still w2 Answer consumed r1 i1 (answer_still w2).receiver (answer_still w2).later used.stands in
+    let stands4 : Stands (happens w3 (Ack_comes 0)) consumed r1 i1 = stands_still w3 (Ack_comes 0) consumed r1 i1 (ack_still w3 (slice_get w3.acks 0)).receiver (ack_still w3 (slice_get w3.acks 0)).later stands3 in
+    let all : (happens w3 (Ack_comes 0)).acked ≡ length w2.receiver.got = answered w2 good2 taken.is_open in
+    finish w consumed s2 o r1 i1 (Send 0 n ∷ Segment_comes 0 room ∷ (events_of 0 used.how ++ (Answer ∷ Ack_comes 0 ∷ []))) (happens w3 (Ack_comes 0)) (sym (use_first came 0 used.how (Answer ∷ Ack_comes 0 ∷ [])))
+    (acks w3 answer (answer_sender w2 s1 o waits2)) stands4 (omega (arith, all, brings.more, taken.more))
 
 pub pending_some : (w : World) (c : Sending) (b : List ℕ) → Waits w c b → w.acked < length (stream w.written w.closed) → 0 < length (pending c b)
 pending_some w c b waits less = omega (arith, length-drop w.acked (stream w.written w.closed), ap length waits.held)

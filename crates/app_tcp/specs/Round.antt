@@ -11,5 +11,5 @@ use Rattle.app_tcp.specs.declared.sending.Sending.{Sending}
 pub record GoesOn (w : World) (consumed : List ℕ) (s : Sending) (outgoing : List ℕ) (r : Receiving) (incoming : List ℕ) : Type 0 where
   pub events : List Event
   pub waits : Waits (run events w) s outgoing
-  pub stands : Stands (run events w).receiver consumed r incoming
+  pub stands : Stands (run events w) consumed r incoming
   pub more : w.acked < (run events w).acked

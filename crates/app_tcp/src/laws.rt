@@ -3,7 +3,7 @@
 ghost use Rattle.std.specs.Prelude.{◌≡◌, ◌≤◌, ◌<◌, ℕ, List, length, true, false};
 ghost use Rattle.tcp_model.specs.Network.{World, Event, run, start, stream};
 ghost use Rattle.app_tcp.specs.Round.{GoesOn};
-ghost use Rattle.app_tcp.specs.Stands.{Stands, room_of};
+ghost use Rattle.app_tcp.specs.Stands.{Stands, room_of, reach};
 ghost use Rattle.app_tcp.specs.Waits.{Waits};
 
 use crate::{Receiving, Sending};
@@ -20,13 +20,13 @@ pub fn goes_on(
     requires len { sending.old.len ≤ length outgoing.now }
     requires small { length outgoing.now < 1073741824 }
     requires begin { receiving.old.start < length incoming.old }
-    requires received { receiving.old.len ≤ length incoming.old }
+    requires received { reach receiving.old ≤ length incoming.old }
     requires few { length incoming.old < 1073741824 }
     requires established { sending.old.has_syn ≡ false }
     requires is_open { receiving.old.is_open ≡ true }
     requires count { 0 < count }
     requires room { receiving.old.has_fin ≡ false → 0 < room_of receiving.old (length incoming.old) }
-    ensures { (initial : ℕ) (events : List Event) (consumed : List ℕ) → let w : World = run events (start initial) in Waits w sending.old outgoing.now → Stands w.receiver consumed receiving.old incoming.old → w.acked < length (stream w.written w.closed) → GoesOn w consumed sending.new outgoing.now receiving.new incoming.new }
+    ensures { (initial : ℕ) (events : List Event) (consumed : List ℕ) → let w : World = run events (start initial) in Waits w sending.old outgoing.now → Stands w consumed receiving.old incoming.old → w.acked < length (stream w.written w.closed) → GoesOn w consumed sending.new outgoing.now receiving.new incoming.new }
 {
     let segment = sending.segment(outgoing, 0, count);
     receiving.on_segment(incoming, segment.number, segment.payload, segment.fin);

@@ -194,3 +194,53 @@ fn bytes_come_in_order(rt: HostRuntime) {
         assert_eq!(rt; there.read, WRITTEN, "seed {seed}");
     }
 }
+
+/// Four segments come with the first as the last one. What is kept after the gap, and how much is acknowledged at the end.
+fn first_comes_last(initial: u32, order: [usize; 3]) -> (Option<(u32, u32)>, Option<u32>, usize) {
+    let mut direction = Direction::new(initial);
+    direction.send(0, 0, 1);
+    direction.deliver(0);
+    direction.answer(0);
+    direction.acknowledge(0);
+    for _ in 0..SIZE {
+        direction.write();
+    }
+    for slot in 0..SLOTS {
+        direction.send(slot, slot * 4, 4);
+    }
+    for slot in order {
+        direction.deliver(slot);
+    }
+    let kept = if direction.receiving.fits(SIZE) {
+        direction.receiving.kept()
+    } else {
+        None
+    };
+    direction.deliver(0);
+    direction.read(SIZE);
+    direction.read(SIZE);
+    let read = if direction.is_right {
+        direction.read
+    } else {
+        0
+    };
+    (kept, direction.receiving.next(), read)
+}
+
+#[test]
+fn a_piece_after_a_gap_is_kept(rt: HostRuntime) {
+    // The SYN and 5 bytes have the numbers before 0.
+    let initial = 0u32.wrapping_sub(6);
+    let all = Some(11);
+    for order in [[1, 2, 3], [2, 1, 3], [3, 2, 1], [2, 3, 1]] {
+        let (kept, next, read) = first_comes_last(initial, order);
+        assert_eq!(rt; kept, Some((u32::MAX, 11)), "{order:?}");
+        assert_eq!(rt; next, all, "{order:?}");
+        assert_eq!(rt; read, SIZE, "{order:?}");
+    }
+    // One that does not adjoin what is kept is dropped.
+    let (kept, next, read) = first_comes_last(initial, [3, 1, 3]);
+    assert_eq!(rt; kept, Some((7, 11)));
+    assert_eq!(rt; next, Some(u32::MAX));
+    assert_eq!(rt; read, 4);
+}

@@ -1,6 +1,6 @@
 use Rattle.std.proofs.Common.{◌≡◌, ◌≤◌, ◌<◌, ap, subst, ℕ, Bool, false, List, length, arith}
 use Rattle.tcp_model.specs.Endpoint.{Item}
-use Rattle.tcp_model.specs.Network.{World, Send, Segment_comes, happens, run, start}
+use Rattle.tcp_model.specs.Network.{World, Send, happens, run, start}
 use Rattle.app_tcp.specs.Items.{items_of}
 use Rattle.app_tcp.specs.Stands.{room_of}
 use Rattle.app_tcp.specs.Waits.{Waits, IsSend, from_of}
@@ -24,5 +24,5 @@ returns-in-Some c = λ initial events consumed waits stands less.
     let some : 0 < length items = subst (λ (l : List Item). 0 < length l) same (c.segment-segment.ensures.some c.requires.count (pending_some w s o waits less)) in
     let few : length items ≤ 2147483648 = items_few it.payload.now it.fin (omega (arith, c.segment-segment.ensures.inner)) in
     round_goes initial events consumed o c.args.incoming.now c.on_segment.new.ring s sent c.on_ack.new.self r c.on_segment.new.self it.number c.in-Some.number (room_of r (length c.args.incoming.now)) items
-    waits stands c.requires.start c.requires.len c.requires.small c.requires.is_open (by_fin r.has_fin _ c.requires.room) less some few legal waits1 (λ v comes held. c.on_segment.ensures.stands v consumed (Segment_comes 0) comes held)
+    waits stands c.requires.start c.requires.len c.requires.small c.requires.is_open (by_fin r.has_fin _ c.requires.room) less some few legal waits1 (λ v comes held. c.on_segment.ensures.stands v consumed 0 comes held)
     (λ v held. c.in-Some.ensures.legal v consumed c.on_segment.new.ring held) (λ v ack held. c.on_ack.ensures.waits v 0 ack held)

@@ -1,4 +1,4 @@
-use Rattle.app_tcp.proofs.Received.{answers}
+use Rattle.app_tcp.proofs.Standing.{answers}
 use Rattle.app_tcp.proofs.receiving.Receiving.next.Goals as goal
 
 pub returns-then-self-clause-legal : goal.returns-then-self-clause-legal

@@ -1,51 +1,80 @@
-use Rattle.std.proofs.Common.{◌≡◌, ◌≤◌, ◌⊎◌, inl, inr, ◌∙◌, sym, ap, subst, refl, ℕ, length, take, drop, min, arith, ◌+◌, ◌-◌, ◌%◌, Bool, true, false}
-use Rattle.tcp_model.specs.Endpoint.{Receiver, received, distance}
-use Rattle.app_tcp.specs.Stands.{Stands, room_of}
-use Rattle.app_tcp.specs.Items.{items_of}
+use Rattle.std.proofs.Common.{◌≡◌, ◌≤◌, ◌<◌, ◌⊎◌, inl, inr, ◌∙◌, sym, ap, subst, ℕ, length, take, drop, min, arith, ◌+◌, ◌-◌, ◌%◌, false}
+use Rattle.tcp_model.specs.Endpoint.{distance}
+use Rattle.tcp_model.specs.Network.{World, Segment_comes, happens, end_of}
+use Rattle.app_tcp.specs.Stands.{Uses, room_of}
 use Rattle.app_tcp.specs.declared.receiving.Receiving.{Receiving}
-use Rattle.app_tcp.proofs.Received.{bytes_stand, end_stands, early_stands, length_rest, two_steps, comes, held_after, room_fits}
+use Rattle.app_tcp.proofs.Received.{length_rest, room_fits}
+use Rattle.app_tcp.proofs.Standing.{comes_early, comes_in_vain, nothing_used}
+use Rattle.app_tcp.proofs.Keeping.{comes_ahead}
+use Rattle.app_tcp.proofs.Taking.{ended, gap_left, joined}
 use Rattle.app_tcp.proofs.receiving.Receiving.on_segment.Goals as goal
 use Rattle.app_tcp.proofs.receiving.Receiving.on_segment.Goals.{else-fin-via-then-fin+else-n-room, else-fin-via-else-fin}
 
-pub returns-then-n-room-clause-stands : goal.returns-then-n-room-clause-stands
-returns-then-n-room-clause-stands c = λ w consumed event it stands.
-    let r = w.receiver in
-    let payload = c.args.payload.now in
-    let skip = (c.args.self.now.next + (4294967296 - c.args.number)) % 4294967296 in
-    let skip_is : distance c.args.self.now.next c.args.number ≡ skip = omega arith in
-    let rest : length (take (length payload - skip) (drop skip payload)) ≡ length payload - skip = length_rest payload skip in
-    let all : c.min-n.result ≡ length payload - skip = (omega (arith, c.min-n.ensures, c.if-n-room.true, rest)) in
-    let d : Receiving = record c.args.self.now { next = ((c.args.self.now.next + c.min-n.result) % 4294967296 + 1) % 4294967296; len = c.args.self.now.len + c.min-n.result; has_fin = true } in
-    let new = c.put.new.buffer in
-    let held = held_after c.args.self.now c.args.ring.now new payload skip c.min-n.result c.requires.begin (omega arith) (omega (arith, c.room-room.ensures, room_fits c.args.self.now (length c.args.ring.now))) c.put.ensures in
-    let next : ((c.args.self.now.next + c.min-n.result) % 4294967296 + 1) % 4294967296 ≡ (c.args.self.now.next + c.min-n.result + 1) % 4294967296 = two_steps _ _ in
-    subst (λ (m : Receiver). Stands m consumed d new) (sym (comes w event c.args.number (room_of c.args.self.now (length c.args.ring.now)) (items_of false payload c.args.fin) it))
-    (subst (λ (k : ℕ). Stands (received r c.args.number (items_of false payload c.args.fin) k) consumed d new) c.room-room.ensures
-    (subst (λ (f : Bool). Stands (received r c.args.number (items_of false payload f) c.room-room.result) consumed d new) (sym c.if-fin.true)
-    (end_stands r consumed c.args.self.now c.args.ring.now stands c.if-not-self.false c.args.number payload skip c.room-room.result c.min-n.result d new skip_is (omega arith) (omega arith) all c.if-n-room.true
-    next held refl c.if-not-self.false)))
-
-pub returns-else-fin-clause-stands : goal.returns-else-fin-clause-stands
-returns-else-fin-clause-stands c = λ w consumed event it stands.
-    let r = w.receiver in
-    let payload = c.args.payload.now in
-    let skip = (c.args.self.now.next + (4294967296 - c.args.number)) % 4294967296 in
-    let skip_is : distance c.args.self.now.next c.args.number ≡ skip = omega arith in
-    let rest : length (take (length payload - skip) (drop skip payload)) ≡ length payload - skip = length_rest payload skip in
-    let n_is : c.min-n.result ≡ min (length payload - skip) c.room-room.result = c.min-n.ensures ∙ ap (λ (k : ℕ). min k c.room-room.result) rest in
-    let why : (c.args.fin ≡ false) ⊎ (c.room-room.result ≤ length payload - skip) = elim c.else-fin.branch [
-      | else-fin-via-then-fin+else-n-room w ↦ inr (omega (arith, n_is, w.if-n-room.false))
-      | else-fin-via-else-fin w ↦ inl w.if-fin.false
-    ] in
-    let d : Receiving = record c.args.self.now { next = (c.args.self.now.next + c.min-n.result) % 4294967296; len = c.args.self.now.len + c.min-n.result } in
-    let new = c.put.new.buffer in
-    let held = held_after c.args.self.now c.args.ring.now new payload skip c.min-n.result c.requires.begin (omega arith) (omega (arith, c.room-room.ensures, room_fits c.args.self.now (length c.args.ring.now))) c.put.ensures in
-    subst (λ (m : Receiver). Stands m consumed d new) (sym (comes w event c.args.number (room_of c.args.self.now (length c.args.ring.now)) (items_of false payload c.args.fin) it))
-    (subst (λ (k : ℕ). Stands (received r c.args.number (items_of false payload c.args.fin) k) consumed d new) c.room-room.ensures
-    (bytes_stand r consumed c.args.self.now c.args.ring.now stands c.if-not-self.false c.args.number payload c.args.fin skip c.room-room.result c.min-n.result d new skip_is (omega arith) (omega arith) n_is why
-    refl held refl c.if-not-self.false))
-
 pub returns-then-not-self-clause-stands : goal.returns-then-not-self-clause-stands
-returns-then-not-self-clause-stands c = λ w consumed event it stands.
-    subst (λ (m : Receiver). Stands m consumed c.args.self.now c.args.ring.now) (sym (comes w event c.args.number _ _ it))
-    (early_stands w.receiver consumed c.args.self.now c.args.ring.now c.args.number c.args.payload.now c.args.fin _ stands c.if-not-self.true)
+returns-then-not-self-clause-stands c = λ w consumed which it stands.
+    nothing_used w _ which consumed c.args.self.now c.args.ring.now (comes_early w which c.args.number _ c.args.payload.now c.args.fin consumed c.args.self.now c.args.ring.now it stands c.if-not-self.true) stands
+
+pub returns-then-skip-ge-HALF-clause-stands : goal.returns-then-skip-ge-HALF-clause-stands
+returns-then-skip-ge-HALF-clause-stands c = λ w consumed which it stands.
+    let self = c.args.self.now in
+    let b = c.args.ring.now in
+    let room = room_of self (length b) in
+    let gap : 2147483648 ≤ distance self.next c.args.number = omega (arith, c.if-skip-ge-HALF.true) in
+    let same : happens w (Segment_comes which room) ≡ w = comes_in_vain w which c.args.number room c.args.payload.now c.args.fin consumed self b it stands c.if-not-self.false (omega arith) (inl gap) in
+    let ahead : distance c.args.number self.next ≡ (c.args.number + (4294967296 - self.next)) % 4294967296 = omega arith in
+    let used = c.keep.ensures.stands w consumed which (comes_ahead w which c.args.number _ c.args.payload.now (end_of c.args.fin) consumed self b it stands c.if-not-self.false (omega arith) gap ahead) stands in
+    subst (λ (v : World). Uses v which consumed c.keep.new.self c.keep.new.ring) (sym same) used
+
+pub returns-then-skip-payload-clause-stands : goal.returns-then-skip-payload-clause-stands
+returns-then-skip-payload-clause-stands c = λ w consumed which it stands.
+    let self = c.args.self.now in
+    let old : length c.args.payload.now < distance self.next c.args.number = omega (arith, c.if-skip-payload.true) in
+    nothing_used w _ which consumed self c.args.ring.now (comes_in_vain w which c.args.number _ c.args.payload.now c.args.fin consumed self c.args.ring.now it stands c.if-not-self.false (omega arith) (inr old)) stands
+
+pub returns-then-n-room-clause-stands : goal.returns-then-n-room-clause-stands
+returns-then-n-room-clause-stands c = λ w consumed which it stands.
+    let self = c.args.self.now in
+    let b = c.args.ring.now in
+    let payload = c.args.payload.now in
+    let skip = (self.next + (4294967296 - c.args.number)) % 4294967296 in
+    let n = c.min-n.result in
+    let rest : length (take (length payload - skip) (drop skip payload)) ≡ length payload - skip = length_rest payload skip in
+    let room : c.room-room.result ≡ room_of self (length b) = c.room-room.ensures in
+    let size : n ≡ min (length payload - skip) (room_of self (length b)) = c.min-n.ensures ∙ ap (λ (k : ℕ). min k c.room-room.result) rest ∙ ap (λ (k : ℕ). min (length payload - skip) k) room in
+    ended w which c.args.number (room_of self (length b)) payload c.args.fin consumed self b c.put.new.buffer it stands c.if-not-self.false skip n (omega arith) (omega arith) (omega arith) c.requires.begin c.requires.len c.requires.small size
+    (omega (arith, size, c.requires.len, room_fits self (length b))) c.put.ensures c.if-fin.true (omega (arith, c.if-n-room.true, c.min-n.ensures, rest)) (omega (arith, c.if-n-room.true, room))
+
+pub returns-then-n-self-clause-stands : goal.returns-then-n-self-clause-stands
+returns-then-n-self-clause-stands c = λ w consumed which it stands.
+    let self = c.args.self.now in
+    let b = c.args.ring.now in
+    let payload = c.args.payload.now in
+    let skip = (self.next + (4294967296 - c.args.number)) % 4294967296 in
+    let n = c.min-n.result in
+    let rest : length (take (length payload - skip) (drop skip payload)) ≡ length payload - skip = length_rest payload skip in
+    let room : c.room-room.result ≡ room_of self (length b) = c.room-room.ensures in
+    let size : n ≡ min (length payload - skip) (room_of self (length b)) = c.min-n.ensures ∙ ap (λ (k : ℕ). min k c.room-room.result) rest ∙ ap (λ (k : ℕ). min (length payload - skip) k) room in
+    let why : (c.args.fin ≡ false) ⊎ (room_of self (length b) ≤ length payload - skip) = elim c.else-fin.branch [
+      | else-fin-via-then-fin+else-n-room v ↦ inr (omega (arith, size, room, v.if-n-room.false))
+      | else-fin-via-else-fin v ↦ inl v.if-fin.false
+    ] in
+    gap_left w which c.args.number (room_of self (length b)) payload c.args.fin consumed self b c.put.new.buffer it stands c.if-not-self.false skip n (omega arith) (omega arith) (omega arith) c.requires.begin c.requires.len c.requires.small size
+    (omega (arith, size, c.requires.len, room_fits self (length b))) c.put.ensures why c.if-n-self.true
+
+pub returns-else-n-self-clause-stands : goal.returns-else-n-self-clause-stands
+returns-else-n-self-clause-stands c = λ w consumed which it stands.
+    let self = c.args.self.now in
+    let b = c.args.ring.now in
+    let payload = c.args.payload.now in
+    let skip = (self.next + (4294967296 - c.args.number)) % 4294967296 in
+    let n = c.min-n.result in
+    let rest : length (take (length payload - skip) (drop skip payload)) ≡ length payload - skip = length_rest payload skip in
+    let room : c.room-room.result ≡ room_of self (length b) = c.room-room.ensures in
+    let size : n ≡ min (length payload - skip) (room_of self (length b)) = c.min-n.ensures ∙ ap (λ (k : ℕ). min k c.room-room.result) rest ∙ ap (λ (k : ℕ). min (length payload - skip) k) room in
+    let why : (c.args.fin ≡ false) ⊎ (room_of self (length b) ≤ length payload - skip) = elim c.else-fin.branch [
+      | else-fin-via-then-fin+else-n-room v ↦ inr (omega (arith, size, room, v.if-n-room.false))
+      | else-fin-via-else-fin v ↦ inl v.if-fin.false
+    ] in
+    subst (λ (d : Receiving). Uses (happens w (Segment_comes which (room_of self (length b)))) which consumed d c.put.new.buffer) (sym c.join.ensures.value)
+    (joined w which c.args.number (room_of self (length b)) payload c.args.fin consumed self b c.put.new.buffer it stands c.if-not-self.false skip n (omega arith) (omega arith) (omega arith) c.requires.begin c.requires.len c.requires.small size
+    (omega (arith, size, c.requires.len, room_fits self (length b))) c.put.ensures why (omega (arith, c.if-n-self.false)))

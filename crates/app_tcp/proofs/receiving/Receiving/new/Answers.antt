@@ -1,0 +1,10 @@
+use Rattle.std.proofs.Common.{refl, arith, []}
+use Rattle.std.proofs.lemmas.Bool.{false≢true}
+use Rattle.app_tcp.proofs.receiving.Receiving.new.Goals as goal
+
+pub returns-clause-stands : goal.returns-clause-stands
+returns-clause-stands c = λ initial buffer. record {
+  reached = record { initial = initial; events = []; is = refl };
+  holds = record { is_open = refl; next = λ is. absurd (false≢true is); held = refl; ended = refl };
+  keeps = λ some. absurd (omega arith);
+}
