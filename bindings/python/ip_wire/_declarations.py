@@ -61,7 +61,7 @@ Partial = _declare(
 Route = _declare("lk_route", block=Block, next_hop=Addr, interface=c_uint16)
 RouteNode = _declare(
     "lk_route_node", high=c_uint64, low=c_uint64, route=c_uint32, above=c_uint32, version=c_uint8, prefix_len=c_uint8,
-    unused=c_uint8 * 2, hint=c_uint32
+    reach=c_uint16, hint=c_uint32
 )
 Nat = _declare(
     "lk_nat", key=c_uint64 * 2, udp_timeout=c_uint64, tcp_timeout=c_uint64, tcp_transitory_timeout=c_uint64,
@@ -69,7 +69,7 @@ Nat = _declare(
 )
 Mapping = _declare(
     "lk_mapping", expires=c_uint64, inside=c_uint8 * 4, remote=c_uint8 * 4, inside_port=c_uint16, remote_port=c_uint16,
-    state=c_uint8, shared=c_uint8, unused=c_uint8 * 2
+    state=c_uint8, shared=c_uint8, reach=c_uint16
 )
 
 VERSION = "0.4.0"
