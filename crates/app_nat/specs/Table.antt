@@ -231,9 +231,10 @@ abbrev pub Searches : (ℕ → Type 0) → (ℕ → ℕ) → ℕ → Option ℕ 
 Searches P number count None = (rank : ℕ) → rank < count → ¬ P (number rank)
 Searches P number count (Some first) = P first × IsFirstAt P number count first
 
--- the port whose mapping is kept, or else the port where a new one is made, or none is free
+-- the port whose mapping is kept, or else the port where a new one is made, with the rows of the endpoint, or none is free
 abbrev pub Chosen : Nat → List Mapping → ℕ → Protocol → Ipv4Endpoint → Choice → Type 0
 Chosen nat mappings now protocol inside (Choice.Kept port) = IsFirstMapped nat mappings now protocol inside port
-Chosen nat mappings now protocol inside (Choice.Made port) =
+Chosen nat mappings now protocol inside (Choice.Made port start step) =
     IsUnmapped nat mappings now protocol inside × IsFirstFree nat mappings now protocol inside port
+    × (start ≡ start_of nat.key (ports nat (length mappings)) inside) × (step ≡ step_of nat.key (ports nat (length mappings)) inside)
 Chosen nat mappings now protocol inside Choice.Full = IsFull nat mappings now protocol inside

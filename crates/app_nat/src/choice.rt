@@ -12,8 +12,8 @@ use crate::state::Protocol;
 pub(crate) enum Choice {
     // The endpoint has a live mapping at this port.
     Kept(usize),
-    // It has none, and this port is free.
-    Made(usize),
+    // It has none, and this port is free. Then where its first row begins, and the step.
+    Made(usize, usize, usize),
     // It has none, and no port is free.
     Full,
 }
@@ -243,16 +243,20 @@ pub(crate) fn choose(
 ) -> Choice
     ensures { Chosen nat.now mappings.now now protocol inside.now result }
 {
-    if let Some(port) = kept_port(nat, mappings, now, protocol, inside) {
-        return Choice::Kept(port);
-    }
     let own = usize::from(inside.port);
-    if is_free(nat, mappings, now, protocol, own) {
-        return Choice::Made(own);
+    if maps_to(nat, mappings, now, protocol, own, inside) {
+        return Choice::Kept(own);
     }
     let (start, step) = nat.spread(nat.ports(mappings), inside);
+    let rows = rows(nat, mappings, protocol, start, step);
+    if let Some(port) = mapped_port(nat, mappings, now, protocol, start, step, rows, inside) {
+        return Choice::Kept(port);
+    }
+    if is_free(nat, mappings, now, protocol, own) {
+        return Choice::Made(own, start, step);
+    }
     match free_port(nat, mappings, now, protocol, start, step) {
-        Some(port) => Choice::Made(port),
+        Some(port) => Choice::Made(port, start, step),
         None => Choice::Full,
     }
 }

@@ -3,7 +3,7 @@
 ghost use Rattle.std.specs.Prelude.{◌≡◌, ◌≢◌, IfNone, IfSome, length};
 ghost use Rattle.app_nat.specs.Mapping.{inside_of};
 ghost use Rattle.app_nat.specs.State.{protocol_of};
-ghost use Rattle.app_nat.specs.Table.{Finds, HasPort, IsFull, IsTable, MapsTo, Opens, noted};
+ghost use Rattle.app_nat.specs.Table.{Finds, HasPort, IsFull, IsTable, MapsTo, Opens, noted, ports, start_of, step_of};
 ghost use Rattle.app_nat.specs.declared.mapping.Ipv4Endpoint.{Ipv4Endpoint};
 
 use crate::choice::{Choice, choose, has_port};
@@ -35,9 +35,9 @@ pub fn open(
             mappings[place] = mappings[place].after_outbound(nat, now, event, remote);
             Some(port as u16)
         }
-        Choice::Made(port) => {
+        Choice::Made(port, start, step) => {
             let place = nat.place(mappings, protocol, port);
-            note(nat, mappings, protocol, inside, port);
+            note(nat, mappings, protocol, inside, port, start, step);
             let new = Mapping::new(inside, remote, mappings[place].reach);
             mappings[place] = new.after_outbound(nat, now, event, remote);
             Some(port as u16)
@@ -47,8 +47,18 @@ pub fn open(
 }
 
 // Notes at the home of an inside endpoint in which row it has this outside port, if it is not its own port.
-fn note(nat: &Nat, mappings: &mut [Mapping], protocol: Protocol, inside: &Ipv4Endpoint, port: usize)
-    requires { HasPort nat.now (length mappings.old) port }
+fn note(
+    nat: &Nat,
+    mappings: &mut [Mapping],
+    protocol: Protocol,
+    inside: &Ipv4Endpoint,
+    port: usize,
+    start: usize,
+    step: usize,
+)
+    requires port { HasPort nat.now (length mappings.old) port }
+    requires start { start ≡ start_of nat.now.key (ports nat.now (length mappings.old)) inside.now }
+    requires step { step ≡ step_of nat.now.key (ports nat.now (length mappings.old)) inside.now }
     ensures noted { mappings.new ≡ noted nat.now mappings.old protocol inside.now port }
     ensures length { length mappings.new ≡ length mappings.old }
 {
@@ -57,7 +67,6 @@ fn note(nat: &Nat, mappings: &mut [Mapping], protocol: Protocol, inside: &Ipv4En
     }
     let count = nat.ports(mappings);
     let first = usize::from(nat.first_port);
-    let (start, step) = nat.spread(count, inside);
     let row = (port - first + (count - start)) % count.max(1) % step;
     let home = nat.place(mappings, protocol, first + start);
     mappings[home].reach = mappings[home].reach.max(row as u16);
