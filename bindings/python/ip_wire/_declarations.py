@@ -61,7 +61,7 @@ Partial = _declare(
 Route = _declare("lk_route", block=Block, next_hop=Addr, interface=c_uint16)
 RouteNode = _declare(
     "lk_route_node", high=c_uint64, low=c_uint64, route=c_uint32, above=c_uint32, version=c_uint8, prefix_len=c_uint8,
-    reach=c_uint16, hint=c_uint32
+    unused=c_uint8 * 2, hint=c_uint32
 )
 Nat = _declare(
     "lk_nat", key=c_uint64 * 2, udp_timeout=c_uint64, tcp_timeout=c_uint64, tcp_transitory_timeout=c_uint64,
