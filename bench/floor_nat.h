@@ -2,7 +2,7 @@
 
 enum { NAT_UDP, NAT_TCP, NAT_ICMP, NAT_PROTOCOLS };
 enum { OPENING, ESTABLISHED, CLOSING };
-enum { MOST_CANDIDATES = 63, STEPS = 32 };
+enum { LEAST_OF_ROW = 63, STEPS = 32 };
 
 /* The mappings of a NAT. */
 struct table {
@@ -77,27 +77,60 @@ INLINE int is_of(const struct lk_mapping *mapping, uint64_t now, uint32_t addr, 
 /* The index of the port that is a step after that of this index. */
 INLINE size_t next(size_t at, size_t step, size_t ports) { return at + step < ports ? at + step : at + step - ports; }
 
-/* The mapping of an inside endpoint, or a free one. NULL if there is neither; `is_kept` says which. */
-INLINE struct lk_mapping *choose(const struct table *table, int protocol, uint32_t addr, uint16_t port, int *is_kept)
+/* The rows of ports of an inside endpoint: where the first one begins, the step in a row, and how many ports it has. */
+struct rows {
+    size_t start, step, len;
+};
+
+INLINE struct rows rows_of(const struct table *table, uint32_t addr, uint16_t port)
+{
+    size_t ports = table->ports, widest = ports / LEAST_OF_ROW ? ports / LEAST_OF_ROW : 1;
+    uint64_t hash = hash_of(table->nat, addr, port);
+    size_t step = widest - (hash >> 32) % (widest / STEPS + 1);
+    return (struct rows){ports ? hash % ports : 0, step, (ports + step - 1) / step};
+}
+
+/* Notes at the first port of an inside endpoint in which row it gets this mapping. */
+static OUTLINE void note(const struct table *table, struct lk_mapping *part, const struct rows *rows, size_t at)
+{
+    size_t ahead = at < rows->start ? at + table->ports - rows->start : at - rows->start;
+    uint16_t row = (uint16_t)(ahead % rows->step), *reach = &part[rows->start].reach;
+    if (row > *reach)
+        *reach = row;
+}
+
+/* The mapping of an inside endpoint. NULL: it has none. */
+INLINE struct lk_mapping *find_kept(const struct table *table, int protocol, uint32_t addr, uint16_t port)
 {
     struct lk_mapping *own = mapping_of(table, protocol, port);
-    *is_kept = 1;
     if (is_of(own, table->now, addr, port))
         return own;
-    size_t ports = table->ports, count = ports < MOST_CANDIDATES ? ports : MOST_CANDIDATES;
-    size_t widest = ports / MOST_CANDIDATES ? ports / MOST_CANDIDATES : 1;
-    uint64_t hash = hash_of(table->nat, addr, port);
-    size_t start = ports ? hash % ports : 0, step = widest - (hash >> 32) % (widest / STEPS + 1);
+    size_t ports = table->ports;
+    struct rows rows = rows_of(table, addr, port);
     struct lk_mapping *part = &table->mappings[(size_t)protocol * table->part];
-    for (size_t i = 0, at = start; i < count; i++, at = next(at, step, ports))
-        if (is_of(&part[at], table->now, addr, port))
-            return &part[at];
-    *is_kept = 0;
+    size_t reach = ports ? part[rows.start].reach : 0;
+    for (size_t row = 0, first = rows.start; row <= reach && row < rows.step; row++, first = next(first, 1, ports))
+        for (size_t i = 0, at = first; i < rows.len; i++, at = next(at, rows.step, ports))
+            if (is_of(&part[at], table->now, addr, port))
+                return &part[at];
+    return NULL;
+}
+
+/* A free mapping for an inside endpoint, noted. NULL: there is none. */
+INLINE struct lk_mapping *find_free(const struct table *table, int protocol, uint32_t addr, uint16_t port)
+{
+    struct lk_mapping *own = mapping_of(table, protocol, port);
     if (own && own->expires <= table->now)
         return own;
-    for (size_t i = 0, at = start; i < count; i++, at = next(at, step, ports))
-        if (part[at].expires <= table->now)
-            return &part[at];
+    size_t ports = table->ports;
+    struct rows rows = rows_of(table, addr, port);
+    struct lk_mapping *part = &table->mappings[(size_t)protocol * table->part];
+    for (size_t row = 0, first = rows.start; row < rows.step; row++, first = next(first, 1, ports))
+        for (size_t i = 0, at = first; i < rows.len; i++, at = next(at, rows.step, ports))
+            if (part[at].expires <= table->now) {
+                note(table, part, &rows, at);
+                return &part[at];
+            }
     return NULL;
 }
 
@@ -242,12 +275,12 @@ INLINE void write_error_ends(uint8_t *frame, const struct packet *packet, const 
 static OUTLINE int error_out(const struct table *table, uint8_t *frame, const struct packet *packet)
 {
     struct quoted quoted;
-    int is_kept = 0, rejection = read_error(frame, packet, ECHO_REPLY, &quoted);
+    int rejection = read_error(frame, packet, ECHO_REPLY, &quoted);
     if (rejection)
         return rejection;
     uint16_t port = swap_16(load_16(quoted.after + (quoted.protocol == NAT_ICMP ? 4 : 2)));
-    const struct lk_mapping *mapping = choose(table, quoted.protocol, load_32(quoted.ptr + 16), port, &is_kept);
-    if (!mapping || !is_kept)
+    const struct lk_mapping *mapping = find_kept(table, quoted.protocol, load_32(quoted.ptr + 16), port);
+    if (!mapping)
         return LK_NO_MAPPING;
     write_error_ends(frame, packet, &quoted, LK_DESTINATION, load_32(table->nat->outside),
                      port_of(table, quoted.protocol, mapping));
@@ -295,18 +328,19 @@ int lk_translate_out(const struct lk_nat *nat, struct lk_mapping *mappings, size
 {
     struct table table = table_of(nat, mappings, count, now);
     struct flow flow;
-    int is_kept = 0, rejection = read_flow(frame, len, &flow);
+    int rejection = read_flow(frame, len, &flow);
     if (rejection == LK_OTHER_PROTOCOL)
         return error_out(&table, frame, &flow.packet);
     if (rejection)
         return rejection;
     if (flow.protocol == NAT_ICMP ? !flow.is_request : !flow.src_port)
         return flow.protocol == NAT_ICMP ? LK_NO_MAPPING : LK_ZERO_PORT;
-    struct lk_mapping *mapping = choose(&table, flow.protocol, flow.src, flow.src_port, &is_kept);
-    if (!mapping)
-        return LK_NO_FREE_PORT;
-    if (!is_kept) {
-        *mapping = (struct lk_mapping){.inside_port = flow.src_port, .remote_port = flow.dst_port};
+    struct lk_mapping *mapping = find_kept(&table, flow.protocol, flow.src, flow.src_port);
+    if (!mapping) {
+        mapping = find_free(&table, flow.protocol, flow.src, flow.src_port);
+        if (!mapping)
+            return LK_NO_FREE_PORT;
+        *mapping = (struct lk_mapping){.inside_port = flow.src_port, .remote_port = flow.dst_port, .reach = mapping->reach};
         store_32(mapping->inside, flow.src);
         store_32(mapping->remote, flow.dst);
     }

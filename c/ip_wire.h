@@ -33,7 +33,8 @@
  * - Edits step through IPv6 extension headers. An address is not written if a checksum covers it that is not updated, as
  *   that of UDP-Lite (lk_set_addr).
  * - A host sends parameter problems, and answers nothing to an own address that no single host may have (lk_answer).
- * - The failures LK_DONT_FRAGMENT and LK_DROPPED are new, and so is the problem LK_FRAGMENT_MISSING. */
+ * - The failures LK_DONT_FRAGMENT and LK_DROPPED are new, and so is the problem LK_FRAGMENT_MISSING.
+ * - `unused` of `struct lk_mapping` is `reach`. A program that frees a mapping sets only `expires` to 0. */
 #ifndef IP_WIRE_H
 #define IP_WIRE_H
 
@@ -1257,8 +1258,8 @@ struct lk_nat {
     uint16_t unused;
 };
 
-/* A mapping. It is private: only lk_translate_out and lk_translate_in write it, but the caller may free one with
- * zeros. */
+/* A mapping. It is private: only lk_translate_out and lk_translate_in write it, but the caller may free one by
+ * `expires` 0, or all with zeros. */
 struct lk_mapping {
     uint64_t expires;
     uint8_t inside[4];
@@ -1267,7 +1268,7 @@ struct lk_mapping {
     uint16_t remote_port;
     uint8_t state;
     uint8_t shared;
-    uint8_t unused[2];
+    uint16_t reach; /* stays when the mapping ends: where endpoints are searched for, see lk_translate_out */
 };
 
 /* The number of mappings for so many outside ports: each has one of UDP, one of TCP and one of ICMP. */
@@ -1295,9 +1296,13 @@ struct lk_mapping {
  *   are not among them.
  * - A mapping belongs to one inside endpoint, whatever the remote endpoints are (RFC 4787, REQ-1). What any remote
  *   endpoint sends to its outside port comes in (REQ-8).
- * - An endpoint without a live mapping gets a new one. Its port is its own port if free, else the first free one of 63
- *   candidates. They are spread evenly over all outside ports, from a port on and with a step that a keyed hash of the
- *   endpoint chooses. With fewer outside ports all are candidates. LK_NO_FREE_PORT: none of these is free.
+ * - An endpoint without a live mapping gets a new one. Its port is its own port if free, else the first free one in
+ *   rows of 63 to 66 ports. A row is spread evenly over all outside ports, and the next one begins a port after it. A
+ *   keyed hash of the endpoint chooses where the first row begins and its step. LK_NO_FREE_PORT: no port is free.
+ * - A call reads one row for an endpoint that has a mapping, and at most two for a new one. If all ports of its first
+ *   row are taken, it gets one of a later row. From then on a call for a new endpoint whose first row begins at the
+ *   same port reads as many rows: `reach` of the mapping there says how many. It only grows, until the caller fills all
+ *   mappings with zeros. If no port is free, the call reads all mappings of the protocol.
  * - One inside host can take every port. A program limits the mappings of each host, as `nat -m` of examples/ does.
  * - A mapping is live until its time-out has passed since the last packet of its inside endpoint. Packets that come in
  *   do not keep it alive (REQ-6).

@@ -115,7 +115,7 @@ int is_within_limit(struct limit *limit, struct lk_mapping *mappings, size_t pla
     if (counter != NULL && counter->count >= limit->most)
         look(limit, counter, mappings, now);
     if (counter == NULL || counter->count >= limit->most) {
-        mappings[place] = (struct lk_mapping){.expires = 0};
+        mappings[place].expires = 0;
         return 0;
     }
     counter->addr = addr;

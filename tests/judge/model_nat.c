@@ -71,23 +71,18 @@ static struct model_mapping *mapping_of_inside(struct model_table *table, int tr
 
 /* ---- ports ---- */
 
-/* The port of a new mapping; 0: none. `chosen` is what the library took, since its 63 candidates follow from a
- * hash that the header does not name. With fewer ports all are candidates. */
+/* The port of a new mapping; 0: all are taken. `chosen` is what the library took, since the order of the ports follows
+ * from a hash that the header does not name. */
 static unsigned port_for(const struct lk_nat *nat, struct model_table *table, size_t count, const struct packet *packet,
                          uint64_t now, unsigned chosen)
 {
-    size_t ports = port_count(nat, count), taken = 0;
     unsigned first = 0;
     if (is_outside_port(nat, count, packet->inside.port) &&
         !mapping_of_port(table, packet->transport, packet->inside.port, now))
         return packet->inside.port;
-    for (size_t i = ports; i-- > 0;)
-        if (mapping_of_port(table, packet->transport, nat->first_port + (unsigned)i, now))
-            taken++;
-        else
+    for (size_t i = port_count(nat, count); i-- > 0;)
+        if (!mapping_of_port(table, packet->transport, nat->first_port + (unsigned)i, now))
             first = nat->first_port + (unsigned)i;
-    if ((taken >= 63 || taken == ports) && chosen == 0)
-        return 0;
     if (is_outside_port(nat, count, chosen) && !mapping_of_port(table, packet->transport, chosen, now))
         return chosen;
     return first;

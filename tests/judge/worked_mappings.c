@@ -396,7 +396,7 @@ enum { PORTS = 65536 - 1024 };
 
 static struct lk_mapping many[LK_MAPPINGS(PORTS)];
 
-/* The outside port of a packet from 192.168.0.LAST. 0: no candidate is free. The model has no room for these. */
+/* The outside port of a packet from 192.168.0.LAST. 0: no port is free. The model has no room for these. */
 static unsigned port_of(uint8_t last, unsigned port)
 {
     const struct lk_endpoint inside = inside_of((struct end){last, (uint16_t)port});
@@ -405,22 +405,39 @@ static unsigned port_of(uint8_t last, unsigned port)
     return result == LK_NO_FREE_PORT ? 0 : port_in(&frame, UDP, OUT);
 }
 
-/* An endpoint has 63 candidates, 1,022 ports apart. Each of them becomes that of another host. */
-static void try_each_candidate(void)
+/* The port of 192.168.0.3 port 53 in this row and column. A row has 64 ports, 1,022 apart. */
+static unsigned port_in_row(unsigned row, unsigned column)
+{
+    return 1024 + (47367 - 1024 + row + 1022 * column) % PORTS;
+}
+
+/* An endpoint gets the ports of its rows one after the other. Each of them becomes that of another host, and then all
+ * others but the last. It keeps its port when an earlier one becomes free. */
+static void try_each_port(void)
 {
     begin_nat(1024, 0);
     memset(many, 0, sizeof many);
-    for (unsigned i = 0, port = 47367; i < 63; i++, port = 1024 + (port - 1024 + 1022) % PORTS) {
-        CHECK_ROW(i, port_of(3, 53) == port);
-        many[port - 1024].inside[3] = 2;
+    for (unsigned i = 0; i < 3 * 64; i++) {
+        CHECK_ROW(i, port_of(3, 53) == port_in_row(i / 64, i % 64));
+        many[port_in_row(i / 64, i % 64) - 1024].inside[3] = 2;
     }
-    CHECK(port_of(3, 53) == 0);
+    for (unsigned port = 1024; port < 65536; port++)
+        if (port != port_in_row(1021, 62))
+            many[port - 1024].expires = 1, many[port - 1024].inside[3] = 2;
+    CHECK(port_of(3, 53) == port_in_row(1021, 62));
+    many[47367 - 1024].expires = 0;
+    CHECK(port_of(3, 53) == port_in_row(1021, 62));
+    CHECK(port_of(3, 54) == 47367);
+    CHECK(port_of(3, 55) == 0);
+    many[port_in_row(1021, 62) - 1024].expires = many[53000 - 1024].expires = 0;
+    CHECK(port_of(3, 53000) == 53000 && port_of(3, 53) == port_in_row(1021, 62) && port_of(3, 56) == 0);
 }
 
-/* Ports in a row belong to one host: the first one, and how many. Another one uses so many of these: it gets others. */
+/* Ports in a row belong to one host: the first one, and how many. Another one uses so many of these: it gets others, as
+ * long as a port is free. */
 static void share_ports(void)
 {
-    static const unsigned rows[][3] = {{20000, 10000, 10000}, {1024, 60000, 1000}};
+    static const unsigned rows[][3] = {{20000, 10000, 10000}, {1024, 60000, 4512}};
     for (size_t i = 0; i < sizeof rows / sizeof *rows; i++) {
         const unsigned first = rows[i][0], end = first + rows[i][1];
         begin_nat(1024, 0);
@@ -430,6 +447,7 @@ static void share_ports(void)
         for (unsigned port = first; port < first + rows[i][2]; port++)
             CHECK_ROW(i, port_of(3, port) % 65536 - first >= rows[i][1] && port_of(3, port) != 0);
     }
+    CHECK(port_of(3, 1024 + 4512) == 0);
 }
 
 /* ---- any bytes ---- */
@@ -454,7 +472,7 @@ static int passes_by(const struct lk_mapping *mapping, enum way way, enum kind k
  * its byte is not 0. */
 static void know_any_state(void)
 {
-    struct lk_mapping mapping = {1, {192, 168, 0, 2}, {198, 51, 100, 1}, 1024, 80, 0, 0, {0, 0}};
+    struct lk_mapping mapping = {1, {192, 168, 0, 2}, {198, 51, 100, 1}, 1024, 80, 0, 0, 0};
     const struct lk_endpoint inside = inside_of((struct end){2, 1024});
     begin_nat(1024, 3);
     for (int state = 0; state < 256; state++) {
@@ -470,8 +488,8 @@ static void know_any_state(void)
 static void take_any_bytes(void)
 {
     const struct lk_mapping strange = {UINT64_MAX, {255, 255, 255, 255}, {255, 255, 255, 255}, 0, 65535, 255, 255,
-                                       {255, 255}};
-    const struct lk_mapping to_0 = {300000, {192, 0, 2, 1}, {192, 0, 2, 2}, 0, 5353, 0, 0, {0, 0}};
+                                       65535};
+    const struct lk_mapping to_0 = {300000, {192, 0, 2, 1}, {192, 0, 2, 2}, 0, 5353, 0, 0, 0};
     const struct lk_endpoint inside = inside_of((struct end){2, 1024}), stranger = {{{255, 255, 255, 255}, 4}, 0};
     struct lk_endpoint outside = {{{203, 0, 113, 9}, 4}, 1027};
     begin_nat(1024, 14);
@@ -492,7 +510,7 @@ void worked_mappings(void)
 {
     translate_step_by_step();
     follow_flows();
-    try_each_candidate();
+    try_each_port();
     share_ports();
     know_any_state();
     take_any_bytes();

@@ -16,9 +16,9 @@ from routed_frames import HARDWARE
 
 
 def shared_ports(program):
-    """Ports that one inside address uses, most of all, and another one wants: it gets others."""
+    """Ports that one inside address uses, most of all, and another one wants: it gets others, until all are taken."""
     with on_taps(start_on_taps, program, options=("-m", "60000")) as (nat, sides):
-        for source, count in ((INSIDE[0], 60000), (INSIDE[1], 100)):
+        for source, count in ((INSIDE[0], 60000), (INSIDE[1], 4512)):
             found = send_from(nat, sides, (frame_from_left(port=1024 + n, source=source) for n in range(count)))
             check("ports that two addresses want", found == (count, 0), (source, found))
 

@@ -69,7 +69,7 @@ Nat = _declare(
 )
 Mapping = _declare(
     "lk_mapping", expires=c_uint64, inside=c_uint8 * 4, remote=c_uint8 * 4, inside_port=c_uint16, remote_port=c_uint16,
-    state=c_uint8, shared=c_uint8, unused=c_uint8 * 2
+    state=c_uint8, shared=c_uint8, reach=c_uint16
 )
 
 VERSION = "0.4.0"

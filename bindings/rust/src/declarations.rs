@@ -228,7 +228,7 @@ structs! {
         remote_port: u16,
         state: u8,
         shared: u8,
-        unused: [u8; 2],
+        reach: u16,
     }
 }
 

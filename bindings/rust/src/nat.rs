@@ -76,7 +76,7 @@ impl Mapping {
         remote_port: 0,
         state: 0,
         shared: 0,
-        unused: [0; 2],
+        reach: 0,
     });
 
     /// How many mappings so many outside ports need: each has one of UDP, one of TCP and one of ICMP.

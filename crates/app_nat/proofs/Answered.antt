@@ -3,7 +3,7 @@ use Rattle.std.proofs.Common.{ℕ, ◌≡◌, ◌∙◌, ◌≢◌, inl, inr, Li
 use Rattle.std.proofs.Math.ListN.{set, length-set}
 use Rattle.std.proofs.lemmas.Bool.{cases_eq}
 use Rattle.app_nat.proofs.Calls.{after_inbound-inside}
-use Rattle.app_nat.proofs.Meaning.{chosen-exists, chosen-leads, opened-at}
+use Rattle.app_nat.proofs.Meaning.{chosen-exists, chosen-leads, chosen-len, chosen-mappings, opened-as, opened-at, opened-exists}
 use Rattle.app_nat.proofs.Places.{other-at, place-apart, same-at}
 use Rattle.app_nat.proofs.Tables.{same-end}
 use Rattle.app_nat.specs.Mapping.{IsOf, after_inbound}
@@ -50,16 +50,21 @@ written nat old new a b p q m inside here is was own =
     ]
 
 -- a live mapping that is chosen keeps its inside endpoint
-chosen-keeps : (nat : Nat) (old : List Mapping) (now : ℕ) (event : Event) (inside remote own : Ipv4Endpoint) (port : ℕ) (m : Mapping)
-    → Chooses nat old now event inside remote port m → IsLive nat old now (protocol_of event) port → IsOf own (mapping_at nat old (protocol_of event) port) → IsOf own m
-chosen-keeps nat old now event inside remote own port m (kept first) live leads = leads
-chosen-keeps nat old now event inside remote own port m (made free first) live leads = absurd (omega (arith, live, first.holds.expired))
+chosen-keeps : (nat : Nat) (old : List Mapping) (now : ℕ) (event : Event) (inside remote own : Ipv4Endpoint) (port : ℕ) (l : List Mapping) (m : Mapping)
+    → Chooses nat old now event inside remote port l m → IsLive nat old now (protocol_of event) port → IsOf own (mapping_at nat old (protocol_of event) port) → IsOf own m
+chosen-keeps nat old now event inside remote own port l m (kept first) live leads = leads
+chosen-keeps nat old now event inside remote own port l m (made free first) live leads = absurd (omega (arith, live, first.holds.expired))
 
 opens-keeps : (nat : Nat) (old new : List Mapping) (now : ℕ) (event : Event) (inside remote own : Ipv4Endpoint) (port q : ℕ) (b : Protocol)
     → Opens nat old new now event inside remote port → IsLive nat old now b q → IsMapped nat old b q own → IsMapped nat new b q own
 opens-keeps nat old new now event inside remote own port q b o live was =
-    written nat old new (protocol_of event) b port q o.mapping own (chosen-exists nat old now event inside remote port o.mapping o.chosen) o.becomes was
-    (λ is at. chosen-keeps nat old now event inside remote own port o.mapping o.chosen
+    let there : IsMapped nat o.table b q own = record {
+      exists = subst (λ n. HasPort nat n q) (sym (chosen-len nat old now event inside remote port o.table o.mapping o.chosen)) was.exists;
+      leads = subst (IsOf own) (sym (chosen-mappings nat old now event inside remote port o.table o.mapping o.chosen b q)) was.leads;
+    } in
+    written nat o.table new (protocol_of event) b port q o.mapping own (opened-exists nat old new now event inside remote port o)
+    (opened-as nat old new now event inside remote port o) there
+    (λ is at. chosen-keeps nat old now event inside remote own port o.table o.mapping o.chosen
     (subst (λ x. IsLive nat old now x port) is (subst (IsLive nat old now b) at live))
     (subst (λ x. IsOf own (mapping_at nat old x port)) is (subst (λ x. IsOf own (mapping_at nat old b x)) at was.leads)))
 
@@ -148,12 +153,14 @@ held nat old new later out now before after answer g a =
     let event = event_of g.packet in
     let inside = source_of g.packet in
     let s = sent-as before after g.packet a.packet nat.outside g.port g.carries a.carries g.translated in
-    let exists = chosen-exists nat old out event inside (destination_of g.packet) g.port o.mapping o.chosen in
-    let long : length new ≡ length old = ap length o.becomes ∙ length-set old (place_of nat (length old) (protocol_of event) g.port) o.mapping in
+    let exists = chosen-exists nat old out event inside (destination_of g.packet) g.port o.table o.mapping o.chosen in
+    let long : length new ≡ length old =
+    ap length o.becomes ∙ length-set o.table (place_of nat (length old) (protocol_of event) g.port) o.mapping
+    ∙ chosen-len nat old out event inside (destination_of g.packet) g.port o.table o.mapping o.chosen in
     let at = opened-at nat old new out event inside (destination_of g.packet) g.port o in
     let first : IsMapped nat new (flow_protocol g.packet) g.port inside = record {
       exists = subst (λ n. HasPort nat n g.port) (sym long) exists;
-      leads = subst (IsOf inside) (sym at) (chosen-leads nat old out event inside (destination_of g.packet) g.port o.mapping o.chosen);
+      leads = subst (IsOf inside) (sym at) (chosen-leads nat old out event inside (destination_of g.packet) g.port o.table o.mapping o.chosen);
     } in
     let same : flow_protocol a.packet ≡ flow_protocol g.packet = ap (λ k. protocol_of (event_by k)) s.kind in
     let there : IsMapped nat new (flow_protocol a.packet) a.packet.src_port inside =

@@ -2,7 +2,7 @@
 use Rattle.std.proofs.Common.{ℕ, ◌≡◌, ◌≢◌, ◌∙◌, inl, inr, List, Some, Result, Ok, Err, IfErr, IfOk, length, sym, ap, subst}
 use Rattle.std.proofs.Math.ListN.{set}
 use Rattle.app_nat.proofs.Calls.{after_inbound-inside}
-use Rattle.app_nat.proofs.Meaning.{chosen-exists, chosen-leads}
+use Rattle.app_nat.proofs.Meaning.{chosen-leads, chosen-maps, opened-as, opened-exists}
 use Rattle.app_nat.proofs.Places.{changed}
 use Rattle.app_nat.proofs.Tables.{same-end}
 use Rattle.app_nat.specs.Mapping.{IsOf, after_inbound}
@@ -36,10 +36,14 @@ pub out-ports : {T : Type 0} (result : Result T Rejection) (nat : Nat) (old new 
 out-ports (Ok v) nat old new now before after (inr e) same ports = subst (λ l. LeadsToPorts nat l now) (sym e.2) ports
 out-ports (Ok v) nat old new now before after (inl g) same ports =
     let o = g.opens in
-    written nat old new now (protocol_of (event_of g.packet)) g.port o.mapping (source_of g.packet)
-    (chosen-exists nat old now (event_of g.packet) (source_of g.packet) (destination_of g.packet) g.port o.mapping o.chosen) o.becomes
-    (chosen-leads nat old now (event_of g.packet) (source_of g.packet) (destination_of g.packet) g.port o.mapping o.chosen)
-    (answered-port g.packet.kind g.packet.src_port g.answerable) ports
+    let event = event_of g.packet in
+    let inside = source_of g.packet in
+    let remote = destination_of g.packet in
+    written nat o.table new now (protocol_of event) g.port o.mapping inside
+    (opened-exists nat old new now event inside remote g.port o) (opened-as nat old new now event inside remote g.port o)
+    (chosen-leads nat old now event inside remote g.port o.table o.mapping o.chosen)
+    (answered-port g.packet.kind g.packet.src_port g.answerable)
+    (λ b q e no_echo maps. ports b q e no_echo (chosen-maps nat old now event inside remote g.port o.table o.mapping o.chosen b q e now maps))
 out-ports (Err reason) nat old new now before after g same ports = subst (λ l. LeadsToPorts nat l now) (sym same) ports
 
 -- a reason other than ZeroPort leaves the table

@@ -1,6 +1,6 @@
 -- One mapping, and how packets change it.
 -- Pinned by: `worked/mappings`
-use Rattle.std.specs.Prelude.{ℕ, ◌≡◌, ◌+◌, ◌-◌, ◌^◌, ◌==◌, min, Bool, false, not, ◌&&◌, ◌||◌, if◌then◌else◌, [], ◌∷◌}
+use Rattle.std.specs.Prelude.{ℕ, ◌≡◌, ◌+◌, ◌-◌, ◌^◌, ◌==◌, min, Bool, false, not, ◌&&◌, ◌||◌, if◌then◌else◌}
 use Rattle.std.specs.Str.{bytes_eq}
 use Rattle.app_nat.specs.State.{byte_of, ends_connection, next_state, protocol_of, state_of, timeout_of}
 use Rattle.app_nat.specs.declared.mapping.Ipv4Endpoint.{Ipv4Endpoint}
@@ -28,15 +28,19 @@ is_remote m remote = bytes_eq m.remote remote.addr && (m.remote_port == remote.p
 abbrev pub is_shared : Mapping → Ipv4Endpoint → Bool
 is_shared m remote = not (m.shared == 0) || not (is_remote m remote)
 
+-- the mapping with another reach, which belongs to its place
+abbrev pub with_reach : ℕ → Mapping → Mapping
+with_reach reach m = record m { reach = reach }
+
 -- ---- packets
 
 -- the end of a time-out that starts now
 abbrev pub expiry : ℕ → ℕ → ℕ
 expiry now timeout = min (now + timeout) (2 ^ 64 - 1)
 
--- a mapping that no packet used yet
-abbrev pub new_mapping : Ipv4Endpoint → Ipv4Endpoint → Mapping
-new_mapping inside remote = record {
+-- a mapping that no packet used yet, at a place with this reach
+abbrev pub new_mapping : Ipv4Endpoint → Ipv4Endpoint → ℕ → Mapping
+new_mapping inside remote reach = record {
   expires = 0;
   inside = inside.addr;
   remote = remote.addr;
@@ -44,7 +48,7 @@ new_mapping inside remote = record {
   remote_port = remote.port;
   state = 0;
   shared = 0;
-  unused = 0 ∷ 0 ∷ [];
+  reach = reach;
 }
 
 -- the mapping after its inside endpoint sent a packet: the time-out starts anew

@@ -4,7 +4,7 @@ ghost use Rattle.std.specs.Prelude.{◌≢◌, IfNone, IfSome};
 ghost use Rattle.app_nat.specs.Table.{IsUnmapped, MapsTo};
 ghost use Rattle.app_nat.specs.declared.mapping.Ipv4Endpoint.{Ipv4Endpoint};
 
-use crate::choice::{Choice, choose, has_port};
+use crate::choice::{has_port, kept_port};
 use crate::mapping::{Ipv4Endpoint, Mapping};
 use crate::nat::Nat;
 use crate::state::Protocol;
@@ -43,8 +43,6 @@ pub fn port_of(
     ensures port { IfSome result (λ port. port ≢ 0) }
     ensures none { IfNone result (IsUnmapped nat.now mappings.now now protocol inside.now) }
 {
-    match choose(nat, mappings, now, protocol, inside) {
-        Choice::Kept(port) => Some(port as u16),
-        Choice::Made(_) | Choice::Full => None,
-    }
+    let port = kept_port(nat, mappings, now, protocol, inside)?;
+    Some(port as u16)
 }

@@ -32,7 +32,9 @@ pub struct Mapping {
     pub state: u8,
     /// Other than 0: packets went to more than one remote endpoint.
     pub shared: u8,
-    pub unused: [u8; 2],
+    /// Not of the mapping, but of its place: how many rows after the first one may have a mapping of an endpoint whose
+    /// first row begins here. To free a mapping, set `expires` to 0, and keep this.
+    pub reach: u16,
 }
 
 impl Mapping {
@@ -45,12 +47,12 @@ impl Mapping {
         remote_port: 0,
         state: 0,
         shared: 0,
-        unused: [0; 2],
+        reach: 0,
     };
 
-    // A mapping that no packet used yet. It is not live.
-    pub(crate) fn new(inside: &Ipv4Endpoint, remote: &Ipv4Endpoint) -> Mapping
-        ensures { result ≡ new_mapping inside.now remote.now }
+    // A mapping that no packet used yet, at a place with this reach. It is not live.
+    pub(crate) fn new(inside: &Ipv4Endpoint, remote: &Ipv4Endpoint, reach: u16) -> Mapping
+        ensures { result ≡ new_mapping inside.now remote.now reach }
     {
         Mapping {
             expires: 0,
@@ -60,7 +62,7 @@ impl Mapping {
             remote_port: remote.port,
             state: 0,
             shared: 0,
-            unused: [0; 2],
+            reach,
         }
     }
 
@@ -115,7 +117,7 @@ impl Mapping {
             remote_port: self.remote_port,
             state: state.byte(),
             shared: u8::from(shared),
-            unused: self.unused,
+            reach: self.reach,
         }
     }
 

@@ -2,7 +2,7 @@
 
 ghost use Rattle.std.specs.Prelude.{◌≡◌, ◌≢◌, ◌+◌, ◌*◌, ◌≤◌, length};
 ghost use Rattle.app_nat.specs.State.{timeout_of};
-ghost use Rattle.app_nat.specs.Table.{candidates, hash_of, place_of, ports, protocols, start_of, step_of};
+ghost use Rattle.app_nat.specs.Table.{hash_of, place_of, ports, protocols, start_of, step_of};
 ghost use Rattle.app_nat.specs.declared.nat.Nat.{Nat};
 
 use crate::mapping::{Ipv4Endpoint, Mapping};
@@ -25,8 +25,8 @@ pub const ICMP_TIMEOUT: u64 = 60_000;
 // The mappings of an outside port: one for each protocol.
 const PROTOCOLS: usize = 3;
 
-// The most candidates of an endpoint, without its own port.
-const CANDIDATES: usize = 63;
+// The least number of ports of a row, unless there are fewer ports.
+const ROW: usize = 63;
 
 // The part of the widest step by which steps differ.
 const STEPS: usize = 32;
@@ -107,7 +107,7 @@ impl Nat {
         }
     }
 
-    // The place of a port's mapping. With a product, it does not compare the protocol anew for each candidate of a search.
+    // The place of a port's mapping. With a product, it does not compare the protocol anew for each port of a search.
     pub(crate) fn place(&self, mappings: &[Mapping], protocol: Protocol, port: usize) -> usize
         requires low { self.now.first_port ≤ port }
         requires high { port ≤ 65535 }
@@ -121,7 +121,8 @@ impl Nat {
         part * (mappings.len() / PROTOCOLS) + (port - usize::from(self.first_port))
     }
 
-    // The first candidate of an endpoint, counted from the first of so many outside ports, and the step to the next.
+    // Where the first row of an endpoint begins, counted from the first of so many outside ports, and the step from one
+    // port of a row to the next.
     #[inline(always)]
     pub(crate) fn spread(&self, count: usize, inside: &Ipv4Endpoint) -> (usize, usize)
         requires { count ≤ 65536 }
@@ -129,7 +130,7 @@ impl Nat {
         ensures step { result.1 ≡ step_of self.now.key count inside.now }
     {
         let hash = self.hash(inside);
-        let widest = (count / CANDIDATES).max(1);
+        let widest = (count / ROW).max(1);
         let start = (hash % count.max(1) as u64) as usize;
         let less = (hash >> 32) % (widest / STEPS + 1) as u64;
         (start, widest - less as usize)
@@ -155,11 +156,4 @@ pub fn mappings_for(port_count: u16) -> usize
     ensures ports { (nat : Nat) → nat.first_port ≢ 0 → nat.first_port + port_count ≤ 65536 → ports nat result ≡ port_count }
 {
     PROTOCOLS * usize::from(port_count)
-}
-
-// The candidates of an endpoint, without its own port.
-pub(crate) fn candidates(count: usize) -> usize
-    ensures { result ≡ candidates count }
-{
-    CANDIDATES.min(count)
 }

@@ -1,19 +1,19 @@
 //! The table of mappings.
 
-ghost use Rattle.std.specs.Prelude.{◌≡◌, ◌≢◌, IfNone, IfSome};
+ghost use Rattle.std.specs.Prelude.{◌≡◌, ◌≢◌, IfNone, IfSome, length};
 ghost use Rattle.app_nat.specs.Mapping.{inside_of};
 ghost use Rattle.app_nat.specs.State.{protocol_of};
-ghost use Rattle.app_nat.specs.Table.{Finds, IsFull, IsTable, MapsTo, Opens};
+ghost use Rattle.app_nat.specs.Table.{Finds, HasPort, IsFull, IsTable, MapsTo, Opens, noted, ports, start_of, step_of};
 ghost use Rattle.app_nat.specs.declared.mapping.Ipv4Endpoint.{Ipv4Endpoint};
 
 use crate::choice::{Choice, choose, has_port};
 use crate::mapping::{Ipv4Endpoint, Mapping};
 use crate::nat::Nat;
-use crate::state::Event;
+use crate::state::{Event, Protocol};
 
 /// The outside port of an inside endpoint that sends a packet to a remote endpoint. Makes a mapping
 /// if the endpoint has none: at its own port if that is free, else at another one. Restarts the
-/// time-out. `None` if no candidate is free.
+/// time-out. `None` if no port is free.
 pub fn open(
     nat: &Nat,
     mappings: &mut [Mapping],
@@ -35,13 +35,41 @@ pub fn open(
             mappings[place] = mappings[place].after_outbound(nat, now, event, remote);
             Some(port as u16)
         }
-        Choice::Made(port) => {
+        Choice::Made(port, start, step) => {
             let place = nat.place(mappings, protocol, port);
-            mappings[place] = Mapping::new(inside, remote).after_outbound(nat, now, event, remote);
+            note(nat, mappings, protocol, inside, port, start, step);
+            let new = Mapping::new(inside, remote, mappings[place].reach);
+            mappings[place] = new.after_outbound(nat, now, event, remote);
             Some(port as u16)
         }
         Choice::Full => None,
     }
+}
+
+// Notes at the home of an inside endpoint in which row it has this outside port, if it is not its own port.
+fn note(
+    nat: &Nat,
+    mappings: &mut [Mapping],
+    protocol: Protocol,
+    inside: &Ipv4Endpoint,
+    port: usize,
+    start: usize,
+    step: usize,
+)
+    requires port { HasPort nat.now (length mappings.old) port }
+    requires start { start ≡ start_of nat.now.key (ports nat.now (length mappings.old)) inside.now }
+    requires step { step ≡ step_of nat.now.key (ports nat.now (length mappings.old)) inside.now }
+    ensures noted { mappings.new ≡ noted nat.now mappings.old protocol inside.now port }
+    ensures length { length mappings.new ≡ length mappings.old }
+{
+    if port == usize::from(inside.port) {
+        return;
+    }
+    let count = nat.ports(mappings);
+    let first = usize::from(nat.first_port);
+    let row = (port - first + (count - start)) % count.max(1) % step;
+    let home = nat.place(mappings, protocol, first + start);
+    mappings[home].reach = mappings[home].reach.max(row as u16);
 }
 
 /// The inside endpoint of an outside port to which a remote endpoint sends a packet. `None` if the

@@ -31,12 +31,13 @@ no-port nat port it =
     let most = subst (λ n. port < nat.first_port + n) (no-ports (nat.first_port == 0) (65536 - nat.first_port)) it.most in
     absurd (omega (arith, least, most))
 
-no-choice : (nat : Nat) (now : ℕ) (event : Event) (inside remote : Ipv4Endpoint) (port : ℕ) (m : Mapping) → ¬ Chooses nat [] now event inside remote port m
-no-choice nat now event inside remote port m (kept first) = no-port nat port first.holds.exists
-no-choice nat now event inside remote port m (made unmapped first) = no-port nat port first.holds.exists
+no-choice : (nat : Nat) (now : ℕ) (event : Event) (inside remote : Ipv4Endpoint) (port : ℕ) (l : List Mapping) (m : Mapping)
+    → ¬ Chooses nat [] now event inside remote port l m
+no-choice nat now event inside remote port l m (kept first) = no-port nat port first.holds.exists
+no-choice nat now event inside remote port l m (made unmapped first) = no-port nat port first.holds.exists
 
 no-way-out : (nat : Nat) (new : List Mapping) (now : ℕ) (before after : List ℕ) → ¬ GoesOut nat [] new now before after
-no-way-out nat new now before after (inl it) = no-choice nat now _ _ _ it.port it.opens.mapping it.opens.chosen
+no-way-out nat new now before after (inl it) = no-choice nat now _ _ _ it.port it.opens.table it.opens.mapping it.opens.chosen
 no-way-out nat new now before after (inr e) = no-port nat e.1.port e.1.maps.exists
 
 no-way-in : (nat : Nat) (new : List Mapping) (now : ℕ) (before after : List ℕ) → ¬ ComesIn nat [] new now before after

@@ -1,10 +1,10 @@
 //! What `open` and `find` mean for a NAT. Each law is proved of the calls in its body, or of
 //! definitions if its body is empty.
 
-ghost use Rattle.std.specs.Prelude.{All, IfSome, List, None, Some, false, length, true, ℕ, ◌<◌, ◌≡◌, ◌≢◌, ◌≤◌};
-ghost use Rattle.app_nat.specs.Mapping.{expiry};
+ghost use Rattle.std.specs.Prelude.{min, All, IfSome, List, None, Some, false, true, ℕ, ◌<◌, ◌≡◌, ◌≢◌, ◌≤◌};
+ghost use Rattle.app_nat.specs.Mapping.{expiry, with_reach};
 ghost use Rattle.app_nat.specs.State.{ends_connection, protocol_of, shortest_timeout, state_of, timeout_of};
-ghost use Rattle.app_nat.specs.Table.{IsFree, IsFull, IsTable, IsUnmapped, MapsTo, Opens, candidate_at, candidates, free_mapping, mapping_at, ports};
+ghost use Rattle.app_nat.specs.Table.{IsFree, IsFull, IsTable, IsUnmapped, MapsTo, Opens, free_mapping, mapping_at, port_at, ports, row_len, step_of};
 ghost use Rattle.app_nat.specs.declared.mapping.Ipv4Endpoint.{Ipv4Endpoint};
 ghost use Rattle.app_nat.specs.declared.mapping.Mapping.{Mapping};
 ghost use Rattle.app_nat.specs.declared.state.Protocol.{Protocol};
@@ -68,7 +68,23 @@ pub fn free_port_is_preserved(
     open(nat, mappings, now, event, inside, remote)
 }
 
-/// A packet of one inside endpoint changes no live mapping of another one, nor of another protocol.
+/// An inside endpoint gets a port as long as one is free.
+#[tactic(auto, using(crate::proofs::Meaning::found))]
+pub fn free_port_is_found(
+    nat: &Nat,
+    mappings: &mut [Mapping],
+    now: u64,
+    event: Event,
+    inside: &Ipv4Endpoint,
+    remote: &Ipv4Endpoint,
+) -> Option<u16>
+    ensures { (port : ℕ) → IsFree nat.now mappings.old now (protocol_of event) port → result ≢ None }
+{
+    open(nat, mappings, now, event, inside, remote)
+}
+
+/// A packet of one inside endpoint changes no live mapping of another one, nor of another protocol. A reach is not of the
+/// mapping, but of its place.
 pub fn other_mappings_stay(
     nat: &Nat,
     mappings: &mut [Mapping],
@@ -80,7 +96,8 @@ pub fn other_mappings_stay(
     ensures { (protocol : Protocol) (port : ℕ) (other : Ipv4Endpoint)
         → MapsTo nat.now mappings.old now protocol port other
         → ¬ ((protocol ≡ protocol_of event) × (other ≡ inside.now))
-        → mapping_at nat.now mappings.new protocol port ≡ mapping_at nat.now mappings.old protocol port }
+        → mapping_at nat.now mappings.new protocol port
+        ≡ with_reach (mapping_at nat.now mappings.new protocol port).reach (mapping_at nat.now mappings.old protocol port) }
 {
     open(nat, mappings, now, event, inside, remote)
 }
@@ -158,11 +175,12 @@ pub fn endpoints_have_ports_of_their_own(
     Some((port, second))
 }
 
-/// An inside endpoint has as many candidates as its ranks say: no two of them are one port.
-#[tactic(auto, using(crate::proofs::Searches::candidates_apart))]
+/// The first row of an inside endpoint has at least 63 ports, or all if there are fewer, and no two ranks are one port.
+#[tactic(auto, using(crate::proofs::Searches::row_apart, crate::proofs::Searches::row_long))]
 pub fn candidates_differ(nat: &Nat, inside: &Ipv4Endpoint)
-    ensures { (len first second : ℕ) → first < second → second < candidates (ports nat.now len)
-        → candidate_at nat.now len inside.now first ≢ candidate_at nat.now len inside.now second }
+    ensures many { (len : ℕ) → min 63 (ports nat.now len) ≤ row_len (ports nat.now len) (step_of nat.now.key (ports nat.now len) inside.now) }
+    ensures apart { (len first second : ℕ) → first < second → second < row_len (ports nat.now len) (step_of nat.now.key (ports nat.now len) inside.now)
+        → port_at nat.now len inside.now first ≢ port_at nat.now len inside.now second }
 {}
 
 /// `open` has one possible outcome.

@@ -1,8 +1,8 @@
 use Rattle.std.proofs.Common.{ℕ, ◌≡◌, ◌+◌, ◌*◌, ◌%◌, ◌<◌, length, max}
-use Rattle.app_nat.specs.Table.{IsFree, port_after, ports}
+use Rattle.app_nat.specs.Table.{IsFree, port_in_rows, ports, row_len}
 use Rattle.app_nat.proofs.choice.free_port.Given as goal
 
-abbrev pub invariant-loop-rank : goal.invariant-loop-rank
-invariant-loop-rank l =
-    (l.index ≡ (l.start + l.rank * l.step) % max 1 (ports l.nat (length l.mappings)))
-    × ((rank : ℕ) → rank < l.rank → ¬ IsFree l.nat l.mappings l.now l.protocol (port_after l.nat (ports l.nat (length l.mappings)) l.start l.step rank))
+abbrev pub invariant-loop-row : goal.invariant-loop-row
+invariant-loop-row l =
+    (l.first ≡ (l.start + l.row) % max 1 (ports l.nat (length l.mappings)))
+    × ((rank : ℕ) → rank < l.row * row_len (ports l.nat (length l.mappings)) l.step → ¬ IsFree l.nat l.mappings l.now l.protocol (port_in_rows l.nat (ports l.nat (length l.mappings)) l.start l.step rank))
