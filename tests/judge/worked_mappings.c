@@ -500,7 +500,7 @@ static void take_any_bytes(void)
     outside.port = 1024;
     CHECK(passes_by(&to_0, IN, UDP, &outside) == LK_ZERO_PORT);
     CHECK(passes_by(&strange, OUT, SYN, &inside) == LK_NO_FREE_PORT);
-    CHECK(passes_by(&strange, OUT, ECHO, &stranger) == 0 && passed_to == 1026); /* its first candidate */
+    CHECK(passes_by(&strange, OUT, ECHO, &stranger) == 0 && passed_to == 1026); /* its first row begins there */
     begin_nat(0, 14);
     outside.port = 0;
     CHECK(passes_by(&strange, IN, ECHO, &outside) == LK_NO_MAPPING);

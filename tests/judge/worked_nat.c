@@ -215,8 +215,8 @@ static void translate_rejects(void)
 
 /* ---- NAT with a table ---- */
 
-/* Two outside ports, 39999 and 40000, which the inside ports of the frames are not. By this key 39999 is the first
- * candidate of each. */
+/* Two outside ports, 39999 and 40000, which the inside ports of the frames are not. By this key the row of
+ * each begins with 39999. */
 static const struct lk_nat nat = {{2, 1}, 300000, 7440000, 240000, 60000, {203, 0, 113, 9}, 39999, 0};
 enum { MAPPINGS = LK_MAPPINGS(2) };
 
@@ -265,7 +265,7 @@ static void translate_udp(void)
     CHECK(goes_out(300001, &third, &frame) == 0 && source_port(&frame) == 40000);
 }
 
-/* Each of 63 ports is a candidate of every endpoint. So as many endpoints get a port, and no other one. */
+/* Each of 63 ports is in the row of every endpoint. So as many endpoints get a port, and no other one. */
 static void translate_to_each_port(void)
 {
     enum { PORTS = 63 };
