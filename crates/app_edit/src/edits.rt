@@ -132,8 +132,12 @@ fn write_address(places: &Places, frame: &mut [u8], side: Side, addr: &IpAddress
 {
     let at = address_place(side, places.version);
     match addr {
-        IpAddress::Ipv4(addr) => places.replace(frame, at, &addr.octets(), offload),
-        IpAddress::Ipv6(addr) => places.replace(frame, at, &addr.octets(), offload),
+        IpAddress::Ipv4(addr) => {
+            places.replace_address(IpVersion::Ipv4, frame, at, &addr.octets(), offload);
+        }
+        IpAddress::Ipv6(addr) => {
+            places.replace_address(IpVersion::Ipv6, frame, at, &addr.octets(), offload);
+        }
     }
 }
 
@@ -147,9 +151,9 @@ pub fn set_port(frame: &mut [u8], side: Side, port: u16, offload: Offload) -> bo
     let Some(places) = Places::of(frame) else {
         return false;
     };
-    match port_place(side, places.carried) {
+    match port_place(side, &places.carried) {
         Some(at) => {
-            places.replace(frame, at, &port.to_be_bytes(), offload);
+            places.replace_port(frame, at, port, offload);
             true
         }
         None => false,
@@ -157,9 +161,9 @@ pub fn set_port(frame: &mut [u8], side: Side, port: u16, offload: Offload) -> bo
 }
 
 // The place of a port.
-fn port_place(side: Side, carried: Carried) -> Option<usize>
-    requires { carried_start carried < 2 ^ 63 }
-    ensures { result ≡ port_place side carried }
+fn port_place(side: Side, carried: &Carried) -> Option<usize>
+    requires { carried_start carried.now < 2 ^ 63 }
+    ensures { result ≡ port_place side carried.now }
 {
     match carried {
         Carried::Segment(segment) if can_be_left(segment.protocol) => match side {

@@ -81,14 +81,22 @@ impl Places {
     /// The places in an Ethernet II frame whose packet is IPv4 or IPv6. `None` if the EtherType is another one (such as
     /// a VLAN tag), or if the version or a length of the IP header is wrong. The checksum of an IPv4 header is not
     /// verified.
+    #[tactic(auto, unfolding(crate::specs::Places::places_of))]
     pub fn of(frame: &[u8]) -> Option<Places>
         ensures value { result ≡ places_of frame.now }
         ensures holds { IfSome result (λ places. Holds places frame.now) }
     {
-        Places::inlined(frame)
+        if frame.len() < ETHERNET_HEADER_LEN {
+            return None;
+        }
+        match EthernetFrame::new_unchecked(frame).ethertype() {
+            EthernetProtocol::Ipv4 => ipv4_places_apart(frame),
+            EthernetProtocol::Ipv6 => ipv6_places_apart(frame),
+            _ => None,
+        }
     }
 
-    // The same. A caller that uses only the version does not compute the rest.
+    // The same, inlined. A caller that uses only the version does not compute the rest.
     #[tactic(auto, unfolding(crate::specs::Places::places_of))]
     #[inline(always)]
     pub(crate) fn inlined(frame: &[u8]) -> Option<Places>
@@ -117,7 +125,18 @@ fn checksum_offset(protocol: IpProtocol) -> usize
     }
 }
 
+// The places of a frame with the EtherType of IPv4, as a call.
+#[inline(never)]
+fn ipv4_places_apart(frame: &[u8]) -> Option<Places>
+    requires { 14 ≤ length frame.now }
+    ensures value { result ≡ place.ipv4_places frame.now }
+    ensures holds { IfSome result (λ places. Holds places frame.now) }
+{
+    ipv4_places(frame)
+}
+
 // The places of a frame with the EtherType of IPv4.
+#[inline(always)]
 fn ipv4_places(frame: &[u8]) -> Option<Places>
     requires { 14 ≤ length frame.now }
     ensures value { result ≡ place.ipv4_places frame.now }
@@ -142,6 +161,7 @@ fn ipv4_places(frame: &[u8]) -> Option<Places>
 }
 
 // What an IPv4 packet carries from `start` up to `end`.
+#[inline(always)]
 fn ipv4_carried(frame: &[u8], start: usize, end: usize) -> Carried
     requires begins { 34 ≤ start }
     requires even { start % 2 ≡ 0 }
@@ -166,7 +186,18 @@ fn ipv4_carried(frame: &[u8], start: usize, end: usize) -> Carried
     )
 }
 
+// The places of a frame with the EtherType of IPv6, as a call.
+#[inline(never)]
+fn ipv6_places_apart(frame: &[u8]) -> Option<Places>
+    requires { 14 ≤ length frame.now }
+    ensures value { result ≡ place.ipv6_places frame.now }
+    ensures holds { IfSome result (λ places. Holds places frame.now) }
+{
+    ipv6_places(frame)
+}
+
 // The places of a frame with the EtherType of IPv6.
+#[inline(always)]
 fn ipv6_places(frame: &[u8]) -> Option<Places>
     requires { 14 ≤ length frame.now }
     ensures value { result ≡ place.ipv6_places frame.now }
@@ -370,6 +401,7 @@ fn is_ipv4(version: IpVersion) -> bool
 }
 
 // The transport packet with a checksum from `start` up to `end`.
+#[inline(always)]
 fn segment_at(
     frame: &[u8],
     version: IpVersion,
@@ -400,6 +432,7 @@ fn segment_at(
 }
 
 // The UDP packet from `start` on. Its checksum covers as many bytes as its length field says.
+#[inline(always)]
 fn datagram_at(
     frame: &[u8],
     version: IpVersion,

@@ -1,8 +1,8 @@
 //! The one step of every edit: bytes of a frame are replaced, and the checksums that cover them updated.
 
-ghost use Rattle.std.specs.Prelude.{◌≡◌, ◌≤◌, ◌+◌, ◌^◌, length};
+ghost use Rattle.std.specs.Prelude.{◌≡◌, ◌≤◌, ◌+◌, ◌^◌, length, slice_range};
 ghost use Rattle.ip_wire.specs.IpAddress.{version_of};
-ghost use Rattle.ip_wire.specs.WordSum.{updated};
+ghost use Rattle.ip_wire.specs.WordSum.{sum_of_bytes, updated};
 ghost use Rattle.app_edit.specs.Edited.{can_be_left, dst_of, edited, header_checksum, is_left, looks_left, pseudo_header_sum, segment_sum, src_of, transport_checksum, updated_by, updated_checksum, updated_over, with_header_checksum, with_transport_checksum, with_word, word_at, written};
 ghost use Rattle.app_edit.specs.Checksums.{sum_at};
 ghost use Rattle.app_edit.specs.Filled.{filled};
@@ -80,7 +80,7 @@ impl Places {
         requires room { at + length bytes.now ≤ length frame.now }
         ensures { result ≡ transport_checksum offload self.now.carried self.now.version frame.now at bytes.now }
     {
-        match self.carried {
+        match &self.carried {
             Carried::Segment(segment) => {
                 let before = &frame[at..at + bytes.len()];
                 segment.updated_checksum(self.version, frame, at, before, bytes, offload)
@@ -90,7 +90,7 @@ impl Places {
     }
 
     #[inline(always)]
-    fn write_header_checksum(&self, frame: &mut [u8], checksum: u16)
+    pub(crate) fn write_header_checksum(&self, frame: &mut [u8], checksum: u16)
         requires { 26 ≤ length frame.old }
         ensures { frame.new ≡ with_header_checksum self.now.version frame.old checksum }
     {
@@ -100,11 +100,11 @@ impl Places {
     }
 
     #[inline(always)]
-    fn write_transport_checksum(&self, frame: &mut [u8], checksum: u16)
+    pub(crate) fn write_transport_checksum(&self, frame: &mut [u8], checksum: u16)
         requires { Holds self.now frame.old }
         ensures { frame.new ≡ with_transport_checksum self.now.carried frame.old checksum }
     {
-        if let Carried::Segment(segment) = self.carried {
+        if let Carried::Segment(segment) = &self.carried {
             write_word(frame, segment.checksum(), checksum);
         }
     }
@@ -161,7 +161,8 @@ impl Segment {
     }
 
     // Whether the checksum counts as left to the device.
-    fn is_left(&self, version: IpVersion, frame: &[u8], offload: Offload) -> bool
+    #[inline(always)]
+    pub(crate) fn is_left(&self, version: IpVersion, frame: &[u8], offload: Offload) -> bool
         requires { InFrame version self.now frame.now }
         ensures { result ≡ is_left offload version self.now frame.now }
     {
@@ -173,6 +174,7 @@ impl Segment {
     }
 
     // Whether the checksum looks left to the device.
+    #[inline(always)]
     fn looks_left(&self, version: IpVersion, frame: &[u8]) -> bool
         requires { InFrame version self.now frame.now }
         ensures { result ≡ looks_left version self.now frame.now }
@@ -200,14 +202,15 @@ impl Segment {
     }
 
     // The sum of the pseudo-header.
+    #[tactic(auto, using(crate::proofs::Left::pseudo_parts))]
+    #[inline(always)]
     fn pseudo_header_sum(&self, version: IpVersion, frame: &[u8]) -> u16
         requires { InFrame version self.now frame.now }
         ensures { result ≡ pseudo_header_sum version self.now frame.now }
     {
-        let src = src_of(version, frame);
-        let dst = dst_of(version, frame);
-        let length = ((self.end - self.start) % (1 << 16)) as u32;
-        checksum::pseudo_header(&src, &dst, self.protocol, length)
+        let length = ((self.end - self.start) % (1 << 16)) as u16;
+        let protocol = u8::from(self.protocol);
+        checksum::combine(&[addresses_sum(version, frame), u16::from(protocol), length])
     }
 }
 
@@ -226,6 +229,18 @@ fn addresses(version: IpVersion) -> (usize, usize)
     match version {
         IpVersion::Ipv4 => (IPV4_SRC, IPV4_END),
         IpVersion::Ipv6 => (IPV6_SRC, IPV6_END),
+    }
+}
+
+// The sum of the two addresses of a packet.
+#[inline(always)]
+fn addresses_sum(version: IpVersion, frame: &[u8]) -> u16
+    requires { addresses_end version ≤ length frame.now }
+    ensures { result ≡ sum_of_bytes (slice_range frame.now (addresses_start version) (addresses_end version)) }
+{
+    match version {
+        IpVersion::Ipv4 => checksum::data(&frame[IPV4_SRC..IPV4_END]),
+        IpVersion::Ipv6 => checksum::data(&frame[IPV6_SRC..IPV6_END]),
     }
 }
 
@@ -293,7 +308,13 @@ fn update_by(
 
 // The same if the checksum covers all these bytes, as in most edits. Their sums are then the same for all checksums.
 #[inline(always)]
-fn update_whole(protocol: IpProtocol, field: u16, at: usize, before: &[u8], after: &[u8]) -> u16
+pub(crate) fn update_whole(
+    protocol: IpProtocol,
+    field: u16,
+    at: usize,
+    before: &[u8],
+    after: &[u8],
+) -> u16
     ensures { result ≡ updated_by protocol field (sum_at at before.now) (sum_at at after.now) }
 {
     match protocol {
@@ -328,7 +349,7 @@ fn update_partly(
 
 // The number in the two bytes from byte `at` on.
 #[inline(always)]
-fn word_at(frame: &[u8], at: usize) -> u16
+pub(crate) fn word_at(frame: &[u8], at: usize) -> u16
     requires { at + 2 ≤ length frame.now }
     ensures { result ≡ word_at frame.now at }
 {
@@ -345,7 +366,7 @@ fn write_word(frame: &mut [u8], at: usize, number: u16)
 
 // Writes bytes from byte `at` on.
 #[inline(always)]
-fn write_at(frame: &mut [u8], at: usize, bytes: &[u8])
+pub(crate) fn write_at(frame: &mut [u8], at: usize, bytes: &[u8])
     requires { at + length bytes.now ≤ length frame.old }
     ensures { frame.new ≡ written frame.old at bytes.now }
 {
