@@ -88,7 +88,7 @@ pub fn set_addr(frame: &mut [u8], side: Side, addr: &IpAddress, offload: Offload
     ensures bytes { frame.new ≡ unwrap_or (addr_set offload frame.old side addr.now) frame.old }
     ensures places { places_of frame.new ≡ places_of frame.old }
 {
-    let Some(places) = Places::of(frame) else {
+    let Some(places) = Places::inlined(frame) else {
         return false;
     };
     if !takes_address(&places, addr) {
@@ -148,7 +148,7 @@ pub fn set_port(frame: &mut [u8], side: Side, port: u16, offload: Offload) -> bo
     ensures bytes { frame.new ≡ unwrap_or (port_set offload frame.old side port) frame.old }
     ensures places { places_of frame.new ≡ places_of frame.old }
 {
-    let Some(places) = Places::of(frame) else {
+    let Some(places) = Places::inlined(frame) else {
         return false;
     };
     match port_place(side, &places.carried) {

@@ -185,10 +185,11 @@ impl Segment {
             && self.sum(version, frame) != 0xffff
     }
 
-    // The sum of all that the checksum covers.
-    fn sum(&self, version: IpVersion, frame: &[u8]) -> u16
-        requires { InFrame version self.now frame.now }
-        ensures { result ≡ segment_sum version self.now frame.now }
+    // The sum of all that the checksum covers. Passed by value, so that the segment of a caller need not be in memory.
+    #[inline(never)]
+    fn sum(self, version: IpVersion, frame: &[u8]) -> u16
+        requires { InFrame version self frame.now }
+        ensures { result ≡ segment_sum version self frame.now }
     {
         let bytes = &frame[self.start..self.end];
         match self.protocol {
