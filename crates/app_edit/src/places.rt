@@ -32,12 +32,12 @@ const NEXT_HEADER: usize = 6;
 pub struct Segment {
     /// TCP, UDP, ICMP over IPv4, or ICMPv6 over IPv6.
     pub protocol: IpProtocol,
+    /// Whether the frame has all bytes that its checksum covers: it is not a fragment.
+    pub is_whole: bool,
     /// Where its header begins.
     pub start: usize,
     /// The end of the bytes that its checksum covers and that are in the frame.
     pub end: usize,
-    /// Whether the frame has all bytes that its checksum covers: it is not a fragment.
-    pub is_whole: bool,
 }
 
 /// What a packet carries.
