@@ -195,7 +195,7 @@ pub fn set_bytes(frame: &mut [u8], at: usize, bytes: &[u8], offload: Offload) ->
     if at > frame.len() || bytes.len() > frame.len() - at {
         return false;
     }
-    let Some(places) = Places::of(frame) else {
+    let Some(places) = Places::inlined(frame) else {
         return false;
     };
     if !places.allows(at, at + bytes.len()) {
@@ -207,6 +207,7 @@ pub fn set_bytes(frame: &mut [u8], at: usize, bytes: &[u8], offload: Offload) ->
 
 impl Places {
     // Whether an edit of these bytes is allowed.
+    #[inline(always)]
     fn allows(&self, at: usize, end: usize) -> bool
         requires { carried_start self.now.carried < 2 ^ 63 }
         ensures { result ≡ allows self.now at end }
@@ -214,6 +215,7 @@ impl Places {
         self.keeps_header(at, end) && self.keeps_carried(at, end)
     }
 
+    #[inline(always)]
     fn keeps_header(&self, at: usize, end: usize) -> bool
         ensures { result ≡ keeps_header self.now.version self.now.start at end }
     {
@@ -231,6 +233,7 @@ impl Places {
         }
     }
 
+    #[inline(always)]
     fn keeps_carried(&self, at: usize, end: usize) -> bool
         requires { carried_start self.now.carried < 2 ^ 63 }
         ensures { result ≡ keeps_carried self.now.carried self.now at end }

@@ -112,6 +112,7 @@ impl Places {
 
 impl Segment {
     // Writes the checksum, computed with 0 in its field.
+    #[inline(always)]
     pub(crate) fn fill(&self, version: IpVersion, frame: &mut [u8])
         requires { InFrame version self.now frame.old }
         ensures { frame.new ≡ filled version self.now frame.old }
