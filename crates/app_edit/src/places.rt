@@ -30,6 +30,7 @@ const NEXT_HEADER: usize = 6;
 /// A transport packet whose checksum field is in the frame. All places count from the first byte of the frame.
 #[derive(Debug, Clone, Copy, PartialEq, Eq)]
 pub struct Segment {
+    // No padding follows the last field: it would be copied in words that overlap, and a load waits for both.
     /// TCP, UDP, ICMP over IPv4, or ICMPv6 over IPv6.
     pub protocol: IpProtocol,
     /// Whether the frame has all bytes that its checksum covers: it is not a fragment.
@@ -81,22 +82,15 @@ impl Places {
     /// The places in an Ethernet II frame whose packet is IPv4 or IPv6. `None` if the EtherType is another one (such as
     /// a VLAN tag), or if the version or a length of the IP header is wrong. The checksum of an IPv4 header is not
     /// verified.
-    #[tactic(auto, unfolding(crate::specs::Places::places_of))]
     pub fn of(frame: &[u8]) -> Option<Places>
         ensures value { result ≡ places_of frame.now }
         ensures holds { IfSome result (λ places. Holds places frame.now) }
     {
-        if frame.len() < ETHERNET_HEADER_LEN {
-            return None;
-        }
-        match EthernetFrame::new_unchecked(frame).ethertype() {
-            EthernetProtocol::Ipv4 => ipv4_places_apart(frame),
-            EthernetProtocol::Ipv6 => ipv6_places_apart(frame),
-            _ => None,
-        }
+        Places::inlined(frame)
     }
 
-    // The same, inlined. A caller that uses only the version does not compute the rest.
+    // The same, inlined: as a value in memory it is slow to copy. A caller that uses only the version does not compute
+    // the rest.
     #[tactic(auto, unfolding(crate::specs::Places::places_of))]
     #[inline(always)]
     pub(crate) fn inlined(frame: &[u8]) -> Option<Places>
@@ -123,16 +117,6 @@ fn checksum_offset(protocol: IpProtocol) -> usize
         IpProtocol::Udp => UDP_CHECKSUM,
         _ => ICMP_CHECKSUM,
     }
-}
-
-// The places of a frame with the EtherType of IPv4, as a call.
-#[inline(never)]
-fn ipv4_places_apart(frame: &[u8]) -> Option<Places>
-    requires { 14 ≤ length frame.now }
-    ensures value { result ≡ place.ipv4_places frame.now }
-    ensures holds { IfSome result (λ places. Holds places frame.now) }
-{
-    ipv4_places(frame)
 }
 
 // The places of a frame with the EtherType of IPv4.
@@ -184,16 +168,6 @@ fn ipv4_carried(frame: &[u8], start: usize, end: usize) -> Carried
         end,
         is_whole,
     )
-}
-
-// The places of a frame with the EtherType of IPv6, as a call.
-#[inline(never)]
-fn ipv6_places_apart(frame: &[u8]) -> Option<Places>
-    requires { 14 ≤ length frame.now }
-    ensures value { result ≡ place.ipv6_places frame.now }
-    ensures holds { IfSome result (λ places. Holds places frame.now) }
-{
-    ipv6_places(frame)
 }
 
 // The places of a frame with the EtherType of IPv6.
