@@ -18,9 +18,9 @@ use ip_wire::{
 use wire_extensions::Chain;
 
 // The numbers of the usual transports over IPv6.
-const TCP: u8 = 6;
+pub(crate) const TCP: u8 = 6;
 
-const UDP: u8 = 17;
+pub(crate) const UDP: u8 = 17;
 
 const ICMPV6: u8 = 58;
 

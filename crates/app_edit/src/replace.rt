@@ -1,7 +1,8 @@
 //! The one step of every edit: bytes of a frame are replaced, and the checksums that cover them updated.
 
-ghost use Rattle.std.specs.Prelude.{◌≡◌, ◌≤◌, ◌+◌, ◌^◌, length, slice_range};
+ghost use Rattle.std.specs.Prelude.{◌≡◌, ◌≤◌, ◌+◌, ◌^◌, length, slice_range, true};
 ghost use Rattle.ip_wire.specs.IpAddress.{version_of};
+ghost use Rattle.ip_wire.specs.Protocol.{number_of};
 ghost use Rattle.ip_wire.specs.WordSum.{sum_of_bytes, updated};
 ghost use Rattle.app_edit.specs.Edited.{can_be_left, dst_of, edited, header_checksum, is_left, looks_left, pseudo_header_sum, segment_sum, src_of, transport_checksum, updated_by, updated_checksum, updated_over, with_header_checksum, with_transport_checksum, with_word, word_at, written};
 ghost use Rattle.app_edit.specs.Checksums.{sum_at};
@@ -11,7 +12,7 @@ ghost use Rattle.app_edit.specs.declared.replace.Offload.TheVariants.{Complete};
 
 use crate::checksums::{update_bytes, update_udp_bytes};
 use crate::offsets::{IP_HEADER, IPV4_CHECKSUM, IPV4_END, IPV4_SRC, IPV6_END, IPV6_SRC};
-use crate::places::{Carried, Places, Segment};
+use crate::places::{Carried, Places, Segment, TCP, UDP};
 use byteorder::{ByteOrder, NetworkEndian};
 use ip_wire::laws::field::bytes_fit;
 use ip_wire::{IpAddress, IpProtocol, IpVersion, Ipv4Packet, Ipv6Packet, checksum};
@@ -207,12 +208,13 @@ impl Segment {
     #[tactic(auto, using(crate::proofs::Left::pseudo_parts))]
     #[inline(always)]
     fn pseudo_header_sum(&self, version: IpVersion, frame: &[u8]) -> u16
-        requires { InFrame version self.now frame.now }
+        requires inside { InFrame version self.now frame.now }
+        requires left { can_be_left self.now.protocol ≡ true }
         ensures { result ≡ pseudo_header_sum version self.now frame.now }
     {
         let length = ((self.end - self.start) % (1 << 16)) as u16;
-        let protocol = u8::from(self.protocol);
-        checksum::combine(&[addresses_sum(version, frame), u16::from(protocol), length])
+        let number = u16::from(number_of(self.protocol));
+        checksum::combine(&[addresses_sum(version, frame), number, length])
     }
 }
 
@@ -221,6 +223,19 @@ pub(crate) fn can_be_left(protocol: IpProtocol) -> bool
     ensures { result ≡ can_be_left protocol }
 {
     matches!(protocol, IpProtocol::Tcp | IpProtocol::Udp)
+}
+
+// The number of such a protocol.
+#[inline(always)]
+fn number_of(protocol: IpProtocol) -> u8
+    requires { can_be_left protocol ≡ true }
+    ensures { result ≡ number_of protocol }
+{
+    match protocol {
+        IpProtocol::Tcp => TCP,
+        IpProtocol::Udp => UDP,
+        _ => 0,
+    }
 }
 
 // Where the two addresses of a packet begin and end.
