@@ -14,7 +14,6 @@ use Rattle.app_edit.specs.Places.{Holds, HoldsCarried, addresses_end, addresses_
 use Rattle.app_edit.specs.declared.places.Carried.{Carried}
 use Rattle.app_edit.specs.declared.places.Carried.TheVariants as carried
 use Rattle.app_edit.specs.declared.places.Places.{Places}
-use Rattle.app_edit.specs.declared.places.Segment.{Segment}
 use Rattle.app_edit.specs.declared.replace.Offload.TheVariants as offload
 
 -- ---- a word that is written over itself
@@ -27,7 +26,7 @@ same-word zs xs c i high low from to = elim (cases_eq i c) [
   | inr next ↦ let is : i ≡ c + 1 = omega (arith, from, to, next) in ap (slice_index zs) is ∙ low ∙ sym (ap (slice_index xs) is)
 ]
 
-word-itself : (zs xs : List ℕ) (c : ℕ) → AreBytes xs → c + 2 ≤ length zs → slice_index zs c ≡ slice_index xs c → slice_index zs (c + 1) ≡ slice_index xs (c + 1)
+pub word-itself : (zs xs : List ℕ) (c : ℕ) → AreBytes xs → c + 2 ≤ length zs → slice_index zs c ≡ slice_index xs c → slice_index zs (c + 1) ≡ slice_index xs (c + 1)
     → with_word zs c (word_at xs c) ≡ zs
 word-itself zs xs c are room high low = ext_get_or 0 (with_word zs c (word_at xs c)) zs (written-length zs (big_bytes 2 (word_at xs c)) c room) (λ i inside. by-place i)
   where

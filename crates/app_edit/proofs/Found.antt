@@ -1,5 +1,5 @@
 -- What the places in a frame tell of its bytes.
-use Rattle.std.proofs.Common.{ℕ, ◌≡◌, ◌+◌, ◌≤◌, ◌==◌, ◌&&◌, ◌||◌, Bool, List, None, Some, arith, drop, false, if◌then◌else◌, is_some, length, min, nat_le, nat_lt, not, refl, slice_index, subst, true}
+use Rattle.std.proofs.Common.{ℕ, ◌≡◌, ◌+◌, ◌≤◌, ◌==◌, ◌&&◌, ◌||◌, Bool, List, None, Some, arith, drop, false, if◌then◌else◌, is_some, length, min, nat_le, nat_lt, not, refl, subst, true}
 use Rattle.std.proofs.lemmas.Bool.Decides.{nat_tests}
 use Rattle.ip_wire.proofs.Readings.{if-Some}
 use Rattle.ip_wire.specs.Ethernet as ethernet

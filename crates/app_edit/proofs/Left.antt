@@ -1,10 +1,10 @@
 -- A checksum that is left to the device stays the sum of the pseudo-header.
-use Rattle.std.proofs.Common.{ℕ, ◌≡◌, ◌∙◌, ◌+◌, ◌-◌, ◌*◌, ◌%◌, ◌<◌, ◌≤◌, ◌==◌, Bool, List, ap, arith, false, if◌then◌else◌, not, ◌&&◌, length, refl, slice_range, sym, true}
+use Rattle.std.proofs.Common.{ℕ, ◌≡◌, ◌∙◌, ◌+◌, ◌-◌, ◌*◌, ◌%◌, ◌<◌, ◌≤◌, ◌==◌, Bool, List, ap, arith, false, if◌then◌else◌, not, ◌&&◌, ◌∷◌, [], length, refl, slice_range, sum, sym, true}
 use Rattle.ip_wire.specs.IpAddress.{address_bytes}
 use Rattle.ip_wire.specs.Protocol.{number_of}
 use Rattle.ip_wire.specs.Types.{IpProtocol, IpVersion}
-use Rattle.ip_wire.specs.WordSum.{residue, updated}
-use Rattle.ip_wire.proofs.Residues.{residue-bound, residue-quotient}
+use Rattle.ip_wire.specs.WordSum.{residue, sum_of, sum_of_bytes, updated}
+use Rattle.ip_wire.proofs.Residues.{residue-add, residue-bound, residue-quotient, residue-small}
 use Rattle.ip_wire.proofs.Spelled.{AreBytes}
 use Rattle.std.proofs.lemmas.Bool.Decides.{nat_tests}
 use Rattle.app_edit.proofs.Covers.{covered, sum_over, updated-keeps}
@@ -25,6 +25,16 @@ pub pseudo-is : (v : IpVersion) (s : Segment) (xs : List ℕ) → addresses_end 
 pseudo-is v s xs room =
     ap residue (pseudo-header-words (address_bytes (src_of v xs)) (address_bytes (dst_of v xs)) s.protocol (s.end - s.start) (src-even v xs room) (dst-even v xs room)
     ∙ ap (λ n. n + (number_of s.protocol + (s.end - s.start) % 65536)) (sum-addresses v xs room))
+
+-- the sum of the parts of a pseudo-header
+pub pseudo_parts : (v : IpVersion) (s : Segment) (xs : List ℕ) (a n l : ℕ) → addresses_end v ≤ length xs
+    → a ≡ sum_of_bytes (slice_range xs (addresses_start v) (addresses_end v)) → n ≡ number_of s.protocol → l ≡ (s.end - s.start) % 65536
+    → sum_of (a ∷ n ∷ l ∷ []) ≡ pseudo_header_sum v s xs
+pseudo_parts v s xs a n l room first number len =
+    let t = sum_over xs (addresses_start v) (addresses_end v) in
+    let k = number_of s.protocol + (s.end - s.start) % 65536 in
+    let total : sum (a ∷ n ∷ l ∷ []) ≡ a + k = omega (arith, number, len) in
+    ap residue total ∙ residue-add a t k k (ap residue first ∙ residue-small (residue t) (residue-bound t)) refl ∙ sym (pseudo-is v s xs room)
 
 pub number-some : (q : IpProtocol) → can_be_left q ≡ true → 0 < number_of q
 number-some q h = grind arith

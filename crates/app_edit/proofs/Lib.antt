@@ -1,6 +1,7 @@
 mod Beside
 mod Covers
 mod Direct
+mod EndSums
 mod Found
 mod Kept
 pub mod Layouts

@@ -28,7 +28,7 @@ use Rattle.app_edit.specs.declared.replace.Offload.{Offload}
 
 -- ---- a checksum that covers no replaced byte
 
-not-covered : (update : ℕ → ℕ → ℕ → ℕ) (field first last at : ℕ) (before after : List ℕ) → AreOutside first last at (at + length after)
+pub not-covered : (update : ℕ → ℕ → ℕ → ℕ) (field first last at : ℕ) (before after : List ℕ) → AreOutside first last at (at + length after)
     → updated_over update field first last at before after ≡ field
 not-covered update field first last at before after out =
     let from = max at first in
@@ -83,7 +83,7 @@ header-byte version.Ipv4 xs zs bytes start at i are room (inr beside) same =
     ∙ kept-word zs xs 24 i are room same
 header-byte version.Ipv6 xs zs bytes start at i are room beside same = same
 
-over-kept : (q : IpProtocol) (v : IpVersion) (field at : ℕ) (before after : List ℕ) → (q ≡ protocol.Icmp) ⊎ AreOutside (addresses_start v) (addresses_end v) at (at + length after)
+pub over-kept : (q : IpProtocol) (v : IpVersion) (field at : ℕ) (before after : List ℕ) → (q ≡ protocol.Icmp) ⊎ AreOutside (addresses_start v) (addresses_end v) at (at + length after)
     → over_addresses q v field at before after ≡ field
 over-kept protocol.Icmp v field at before after out = refl
 over-kept q v field at before after (inl icmp) = absurd (cc)

@@ -88,7 +88,7 @@ pub fn set_addr(frame: &mut [u8], side: Side, addr: &IpAddress, offload: Offload
     ensures bytes { frame.new ≡ unwrap_or (addr_set offload frame.old side addr.now) frame.old }
     ensures places { places_of frame.new ≡ places_of frame.old }
 {
-    let Some(places) = Places::of(frame) else {
+    let Some(places) = Places::inlined(frame) else {
         return false;
     };
     if !takes_address(&places, addr) {
@@ -132,8 +132,12 @@ fn write_address(places: &Places, frame: &mut [u8], side: Side, addr: &IpAddress
 {
     let at = address_place(side, places.version);
     match addr {
-        IpAddress::Ipv4(addr) => places.replace(frame, at, &addr.octets(), offload),
-        IpAddress::Ipv6(addr) => places.replace(frame, at, &addr.octets(), offload),
+        IpAddress::Ipv4(addr) => {
+            places.replace_address(IpVersion::Ipv4, frame, at, &addr.octets(), offload);
+        }
+        IpAddress::Ipv6(addr) => {
+            places.replace_address(IpVersion::Ipv6, frame, at, &addr.octets(), offload);
+        }
     }
 }
 
@@ -144,12 +148,12 @@ pub fn set_port(frame: &mut [u8], side: Side, port: u16, offload: Offload) -> bo
     ensures bytes { frame.new ≡ unwrap_or (port_set offload frame.old side port) frame.old }
     ensures places { places_of frame.new ≡ places_of frame.old }
 {
-    let Some(places) = Places::of(frame) else {
+    let Some(places) = Places::inlined(frame) else {
         return false;
     };
-    match port_place(side, places.carried) {
+    match port_place(side, &places.carried) {
         Some(at) => {
-            places.replace(frame, at, &port.to_be_bytes(), offload);
+            places.replace_port(frame, at, port, offload);
             true
         }
         None => false,
@@ -157,9 +161,9 @@ pub fn set_port(frame: &mut [u8], side: Side, port: u16, offload: Offload) -> bo
 }
 
 // The place of a port.
-fn port_place(side: Side, carried: Carried) -> Option<usize>
-    requires { carried_start carried < 2 ^ 63 }
-    ensures { result ≡ port_place side carried }
+fn port_place(side: Side, carried: &Carried) -> Option<usize>
+    requires { carried_start carried.now < 2 ^ 63 }
+    ensures { result ≡ port_place side carried.now }
 {
     match carried {
         Carried::Segment(segment) if can_be_left(segment.protocol) => match side {
@@ -191,7 +195,7 @@ pub fn set_bytes(frame: &mut [u8], at: usize, bytes: &[u8], offload: Offload) ->
     if at > frame.len() || bytes.len() > frame.len() - at {
         return false;
     }
-    let Some(places) = Places::of(frame) else {
+    let Some(places) = Places::inlined(frame) else {
         return false;
     };
     if !places.allows(at, at + bytes.len()) {
@@ -203,6 +207,7 @@ pub fn set_bytes(frame: &mut [u8], at: usize, bytes: &[u8], offload: Offload) ->
 
 impl Places {
     // Whether an edit of these bytes is allowed.
+    #[inline(always)]
     fn allows(&self, at: usize, end: usize) -> bool
         requires { carried_start self.now.carried < 2 ^ 63 }
         ensures { result ≡ allows self.now at end }
@@ -210,6 +215,7 @@ impl Places {
         self.keeps_header(at, end) && self.keeps_carried(at, end)
     }
 
+    #[inline(always)]
     fn keeps_header(&self, at: usize, end: usize) -> bool
         ensures { result ≡ keeps_header self.now.version self.now.start at end }
     {
@@ -227,6 +233,7 @@ impl Places {
         }
     }
 
+    #[inline(always)]
     fn keeps_carried(&self, at: usize, end: usize) -> bool
         requires { carried_start self.now.carried < 2 ^ 63 }
         ensures { result ≡ keeps_carried self.now.carried self.now at end }

@@ -13,7 +13,7 @@ pub fn fill_checksum(frame: &mut [u8]) -> bool
     ensures done { result ≡ is_some (checksum_filled frame.old) }
     ensures bytes { frame.new ≡ unwrap_or (checksum_filled frame.old) frame.old }
 {
-    let Some(places) = Places::of(frame) else {
+    let Some(places) = Places::inlined(frame) else {
         return false;
     };
     match places.carried {

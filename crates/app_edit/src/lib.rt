@@ -4,6 +4,7 @@
 
 mod checksums;
 mod edits;
+mod ends;
 mod fill;
 pub mod laws;
 mod layout;

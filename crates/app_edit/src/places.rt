@@ -18,9 +18,9 @@ use ip_wire::{
 use wire_extensions::Chain;
 
 // The numbers of the usual transports over IPv6.
-const TCP: u8 = 6;
+pub(crate) const TCP: u8 = 6;
 
-const UDP: u8 = 17;
+pub(crate) const UDP: u8 = 17;
 
 const ICMPV6: u8 = 58;
 
@@ -30,14 +30,15 @@ const NEXT_HEADER: usize = 6;
 /// A transport packet whose checksum field is in the frame. All places count from the first byte of the frame.
 #[derive(Debug, Clone, Copy, PartialEq, Eq)]
 pub struct Segment {
+    // No padding follows the last field: it would be copied in words that overlap, and a load waits for both.
     /// TCP, UDP, ICMP over IPv4, or ICMPv6 over IPv6.
     pub protocol: IpProtocol,
+    /// Whether the frame has all bytes that its checksum covers: it is not a fragment.
+    pub is_whole: bool,
     /// Where its header begins.
     pub start: usize,
     /// The end of the bytes that its checksum covers and that are in the frame.
     pub end: usize,
-    /// Whether the frame has all bytes that its checksum covers: it is not a fragment.
-    pub is_whole: bool,
 }
 
 /// What a packet carries.
@@ -88,7 +89,8 @@ impl Places {
         Places::inlined(frame)
     }
 
-    // The same. A caller that uses only the version does not compute the rest.
+    // The same, inlined: as a value in memory it is slow to copy. A caller that uses only the version does not compute
+    // the rest.
     #[tactic(auto, unfolding(crate::specs::Places::places_of))]
     #[inline(always)]
     pub(crate) fn inlined(frame: &[u8]) -> Option<Places>
@@ -118,6 +120,7 @@ fn checksum_offset(protocol: IpProtocol) -> usize
 }
 
 // The places of a frame with the EtherType of IPv4.
+#[inline(always)]
 fn ipv4_places(frame: &[u8]) -> Option<Places>
     requires { 14 ≤ length frame.now }
     ensures value { result ≡ place.ipv4_places frame.now }
@@ -142,6 +145,7 @@ fn ipv4_places(frame: &[u8]) -> Option<Places>
 }
 
 // What an IPv4 packet carries from `start` up to `end`.
+#[inline(always)]
 fn ipv4_carried(frame: &[u8], start: usize, end: usize) -> Carried
     requires begins { 34 ≤ start }
     requires even { start % 2 ≡ 0 }
@@ -167,6 +171,7 @@ fn ipv4_carried(frame: &[u8], start: usize, end: usize) -> Carried
 }
 
 // The places of a frame with the EtherType of IPv6.
+#[inline(always)]
 fn ipv6_places(frame: &[u8]) -> Option<Places>
     requires { 14 ≤ length frame.now }
     ensures value { result ≡ place.ipv6_places frame.now }
@@ -370,6 +375,7 @@ fn is_ipv4(version: IpVersion) -> bool
 }
 
 // The transport packet with a checksum from `start` up to `end`.
+#[inline(always)]
 fn segment_at(
     frame: &[u8],
     version: IpVersion,
@@ -400,6 +406,7 @@ fn segment_at(
 }
 
 // The UDP packet from `start` on. Its checksum covers as many bytes as its length field says.
+#[inline(always)]
 fn datagram_at(
     frame: &[u8],
     version: IpVersion,

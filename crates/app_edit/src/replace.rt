@@ -1,8 +1,9 @@
 //! The one step of every edit: bytes of a frame are replaced, and the checksums that cover them updated.
 
-ghost use Rattle.std.specs.Prelude.{◌≡◌, ◌≤◌, ◌+◌, ◌^◌, length};
+ghost use Rattle.std.specs.Prelude.{◌≡◌, ◌≤◌, ◌+◌, ◌^◌, length, slice_range, true};
 ghost use Rattle.ip_wire.specs.IpAddress.{version_of};
-ghost use Rattle.ip_wire.specs.WordSum.{updated};
+ghost use Rattle.ip_wire.specs.Protocol.{number_of};
+ghost use Rattle.ip_wire.specs.WordSum.{sum_of_bytes, updated};
 ghost use Rattle.app_edit.specs.Edited.{can_be_left, dst_of, edited, header_checksum, is_left, looks_left, pseudo_header_sum, segment_sum, src_of, transport_checksum, updated_by, updated_checksum, updated_over, with_header_checksum, with_transport_checksum, with_word, word_at, written};
 ghost use Rattle.app_edit.specs.Checksums.{sum_at};
 ghost use Rattle.app_edit.specs.Filled.{filled};
@@ -11,7 +12,7 @@ ghost use Rattle.app_edit.specs.declared.replace.Offload.TheVariants.{Complete};
 
 use crate::checksums::{update_bytes, update_udp_bytes};
 use crate::offsets::{IP_HEADER, IPV4_CHECKSUM, IPV4_END, IPV4_SRC, IPV6_END, IPV6_SRC};
-use crate::places::{Carried, Places, Segment};
+use crate::places::{Carried, Places, Segment, TCP, UDP};
 use byteorder::{ByteOrder, NetworkEndian};
 use ip_wire::laws::field::bytes_fit;
 use ip_wire::{IpAddress, IpProtocol, IpVersion, Ipv4Packet, Ipv6Packet, checksum};
@@ -80,7 +81,7 @@ impl Places {
         requires room { at + length bytes.now ≤ length frame.now }
         ensures { result ≡ transport_checksum offload self.now.carried self.now.version frame.now at bytes.now }
     {
-        match self.carried {
+        match &self.carried {
             Carried::Segment(segment) => {
                 let before = &frame[at..at + bytes.len()];
                 segment.updated_checksum(self.version, frame, at, before, bytes, offload)
@@ -90,7 +91,7 @@ impl Places {
     }
 
     #[inline(always)]
-    fn write_header_checksum(&self, frame: &mut [u8], checksum: u16)
+    pub(crate) fn write_header_checksum(&self, frame: &mut [u8], checksum: u16)
         requires { 26 ≤ length frame.old }
         ensures { frame.new ≡ with_header_checksum self.now.version frame.old checksum }
     {
@@ -100,11 +101,11 @@ impl Places {
     }
 
     #[inline(always)]
-    fn write_transport_checksum(&self, frame: &mut [u8], checksum: u16)
+    pub(crate) fn write_transport_checksum(&self, frame: &mut [u8], checksum: u16)
         requires { Holds self.now frame.old }
         ensures { frame.new ≡ with_transport_checksum self.now.carried frame.old checksum }
     {
-        if let Carried::Segment(segment) = self.carried {
+        if let Carried::Segment(segment) = &self.carried {
             write_word(frame, segment.checksum(), checksum);
         }
     }
@@ -112,6 +113,7 @@ impl Places {
 
 impl Segment {
     // Writes the checksum, computed with 0 in its field.
+    #[inline(always)]
     pub(crate) fn fill(&self, version: IpVersion, frame: &mut [u8])
         requires { InFrame version self.now frame.old }
         ensures { frame.new ≡ filled version self.now frame.old }
@@ -161,7 +163,8 @@ impl Segment {
     }
 
     // Whether the checksum counts as left to the device.
-    fn is_left(&self, version: IpVersion, frame: &[u8], offload: Offload) -> bool
+    #[inline(always)]
+    pub(crate) fn is_left(&self, version: IpVersion, frame: &[u8], offload: Offload) -> bool
         requires { InFrame version self.now frame.now }
         ensures { result ≡ is_left offload version self.now frame.now }
     {
@@ -173,6 +176,7 @@ impl Segment {
     }
 
     // Whether the checksum looks left to the device.
+    #[inline(always)]
     fn looks_left(&self, version: IpVersion, frame: &[u8]) -> bool
         requires { InFrame version self.now frame.now }
         ensures { result ≡ looks_left version self.now frame.now }
@@ -183,10 +187,11 @@ impl Segment {
             && self.sum(version, frame) != 0xffff
     }
 
-    // The sum of all that the checksum covers.
-    fn sum(&self, version: IpVersion, frame: &[u8]) -> u16
-        requires { InFrame version self.now frame.now }
-        ensures { result ≡ segment_sum version self.now frame.now }
+    // The sum of all that the checksum covers. Passed by value, so that the segment of a caller need not be in memory.
+    #[inline(never)]
+    fn sum(self, version: IpVersion, frame: &[u8]) -> u16
+        requires { InFrame version self frame.now }
+        ensures { result ≡ segment_sum version self frame.now }
     {
         let bytes = &frame[self.start..self.end];
         match self.protocol {
@@ -200,14 +205,16 @@ impl Segment {
     }
 
     // The sum of the pseudo-header.
+    #[tactic(auto, using(crate::proofs::Left::pseudo_parts))]
+    #[inline(always)]
     fn pseudo_header_sum(&self, version: IpVersion, frame: &[u8]) -> u16
-        requires { InFrame version self.now frame.now }
+        requires inside { InFrame version self.now frame.now }
+        requires left { can_be_left self.now.protocol ≡ true }
         ensures { result ≡ pseudo_header_sum version self.now frame.now }
     {
-        let src = src_of(version, frame);
-        let dst = dst_of(version, frame);
-        let length = ((self.end - self.start) % (1 << 16)) as u32;
-        checksum::pseudo_header(&src, &dst, self.protocol, length)
+        let length = ((self.end - self.start) % (1 << 16)) as u16;
+        let number = u16::from(number_of(self.protocol));
+        checksum::combine(&[addresses_sum(version, frame), number, length])
     }
 }
 
@@ -218,6 +225,19 @@ pub(crate) fn can_be_left(protocol: IpProtocol) -> bool
     matches!(protocol, IpProtocol::Tcp | IpProtocol::Udp)
 }
 
+// The number of such a protocol.
+#[inline(always)]
+fn number_of(protocol: IpProtocol) -> u8
+    requires { can_be_left protocol ≡ true }
+    ensures { result ≡ number_of protocol }
+{
+    match protocol {
+        IpProtocol::Tcp => TCP,
+        IpProtocol::Udp => UDP,
+        _ => 0,
+    }
+}
+
 // Where the two addresses of a packet begin and end.
 fn addresses(version: IpVersion) -> (usize, usize)
     ensures start { result.0 ≡ addresses_start version }
@@ -226,6 +246,18 @@ fn addresses(version: IpVersion) -> (usize, usize)
     match version {
         IpVersion::Ipv4 => (IPV4_SRC, IPV4_END),
         IpVersion::Ipv6 => (IPV6_SRC, IPV6_END),
+    }
+}
+
+// The sum of the two addresses of a packet.
+#[inline(always)]
+fn addresses_sum(version: IpVersion, frame: &[u8]) -> u16
+    requires { addresses_end version ≤ length frame.now }
+    ensures { result ≡ sum_of_bytes (slice_range frame.now (addresses_start version) (addresses_end version)) }
+{
+    match version {
+        IpVersion::Ipv4 => checksum::data(&frame[IPV4_SRC..IPV4_END]),
+        IpVersion::Ipv6 => checksum::data(&frame[IPV6_SRC..IPV6_END]),
     }
 }
 
@@ -293,7 +325,13 @@ fn update_by(
 
 // The same if the checksum covers all these bytes, as in most edits. Their sums are then the same for all checksums.
 #[inline(always)]
-fn update_whole(protocol: IpProtocol, field: u16, at: usize, before: &[u8], after: &[u8]) -> u16
+pub(crate) fn update_whole(
+    protocol: IpProtocol,
+    field: u16,
+    at: usize,
+    before: &[u8],
+    after: &[u8],
+) -> u16
     ensures { result ≡ updated_by protocol field (sum_at at before.now) (sum_at at after.now) }
 {
     match protocol {
@@ -328,7 +366,7 @@ fn update_partly(
 
 // The number in the two bytes from byte `at` on.
 #[inline(always)]
-fn word_at(frame: &[u8], at: usize) -> u16
+pub(crate) fn word_at(frame: &[u8], at: usize) -> u16
     requires { at + 2 ≤ length frame.now }
     ensures { result ≡ word_at frame.now at }
 {
@@ -345,7 +383,7 @@ fn write_word(frame: &mut [u8], at: usize, number: u16)
 
 // Writes bytes from byte `at` on.
 #[inline(always)]
-fn write_at(frame: &mut [u8], at: usize, bytes: &[u8])
+pub(crate) fn write_at(frame: &mut [u8], at: usize, bytes: &[u8])
     requires { at + length bytes.now ≤ length frame.old }
     ensures { frame.new ≡ written frame.old at bytes.now }
 {

@@ -11,8 +11,8 @@ returns-clause-places c =
     let p = c.in-Some.places in
     let bytes = c.args.bytes.now in
     let at = c.args.at in
-    let is : places_of xs ≡ Some p = sym c.of.ensures.value ∙ c.in-Some.is in
+    let is : places_of xs ≡ Some p = sym c.inlined.ensures.value ∙ c.in-Some.is in
     let room : at + length bytes ≤ length xs = search rules in
     let allowed : allows p at (at + length bytes) ≡ true = search rules in
     ap places_of c.replace.ensures
-    ∙ places-stay c.args.offload p xs bytes at (found c.of.result xs p c.of.ensures.value c.of.ensures.holds is) is room allowed ∙ sym is
+    ∙ places-stay c.args.offload p xs bytes at (found c.inlined.result xs p c.inlined.ensures.value c.inlined.ensures.holds is) is room allowed ∙ sym is
