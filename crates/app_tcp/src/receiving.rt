@@ -137,3 +137,12 @@ impl Receiving {
         self.start < size && self.len <= size && size < RING_LIMIT
     }
 }
+
+impl Receiving {
+    /// Whether the FIN of the peer came, after all its bytes.
+    pub fn has_fin(&self) -> bool
+        ensures { result ≡ self.now.has_fin }
+    {
+        self.has_fin
+    }
+}

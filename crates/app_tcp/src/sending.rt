@@ -226,3 +226,33 @@ impl Sending {
         }
     }
 }
+
+impl Sending {
+    /// The oldest number that is not acknowledged (SND.UNA).
+    pub fn una(&self) -> u32
+        ensures { result ≡ self.now.una }
+    {
+        self.una
+    }
+
+    /// The number after the last one that was sent (SND.NXT).
+    pub fn next(&self) -> u32
+        ensures { result ≡ (self.now.una + self.now.flight) % 4294967296 }
+    {
+        self.una.wrapping_add(self.flight)
+    }
+
+    /// Whether `close` was called.
+    pub fn is_closed(&self) -> bool
+        ensures { result ≡ self.now.is_closed }
+    {
+        self.is_closed
+    }
+
+    /// Whether there is a FIN that the peer did not acknowledge.
+    pub fn has_fin(&self) -> bool
+        ensures { result ≡ self.now.has_fin }
+    {
+        self.has_fin
+    }
+}

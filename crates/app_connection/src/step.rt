@@ -1,0 +1,72 @@
+//! One call for everything that can happen to a connection.
+
+ghost use Rattle.std.specs.Prelude.{◌≡◌, ◌<◌, ◌≤◌, length};
+
+use crate::connection::Connection;
+use crate::segment::{Reply, Segment};
+
+/// What can happen.
+#[derive(Debug, Clone, Copy)]
+pub enum Event<'s> {
+    /// The application waits for a peer.
+    Listen,
+    /// The application opens, with a fresh number (ISS).
+    Open(u32),
+    /// A segment arrives; the number is a fresh one.
+    Arrives(&'s Segment<'s>, u32),
+    /// The caller has the next segment sent, or sent again: from this offset, with so many bytes.
+    Send(usize, usize),
+    /// The application closes.
+    Close,
+    /// The application gives up.
+    Abort,
+}
+
+impl Connection {
+    /// One event. Returns the segment to send, if any.
+    pub fn step<'a>(
+        &mut self,
+        outgoing: &'a [u8],
+        incoming: &mut [u8],
+        event: Event,
+    ) -> Option<Segment<'a>> {
+        let reply = match event {
+            Event::Send(offset, count) => {
+                return self.send(outgoing, incoming.len(), offset, count);
+            }
+            Event::Listen => {
+                self.listen();
+                None
+            }
+            Event::Open(iss) => self.open(outgoing, iss),
+            Event::Arrives(segment, fresh) => self.on_segment(outgoing, incoming, segment, fresh),
+            Event::Close => {
+                self.close();
+                None
+            }
+            Event::Abort => self.abort(),
+        };
+        self.without_text(outgoing, incoming.len(), reply)
+    }
+
+    // The segment of a reply, with the window.
+    fn without_text<'a>(
+        &self,
+        outgoing: &'a [u8],
+        incoming: usize,
+        reply: Option<Reply>,
+    ) -> Option<Segment<'a>> {
+        let Some(reply) = reply else {
+            return None;
+        };
+        Some(Segment {
+            number: reply.number,
+            ack: reply.ack,
+            window: self.room(incoming),
+            syn: reply.syn,
+            rst: reply.rst,
+            fin: false,
+            payload: &outgoing[..0],
+        })
+    }
+}
