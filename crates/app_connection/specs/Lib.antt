@@ -1,0 +1,5 @@
+pub mod Sequence
+pub mod SetUp
+pub mod Endpoints
+pub mod States
+pub mod Worlds

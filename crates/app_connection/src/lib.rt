@@ -4,6 +4,7 @@
 
 mod arrival;
 mod connection;
+pub mod laws;
 mod segment;
 mod sequence;
 mod state;

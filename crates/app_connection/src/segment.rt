@@ -1,6 +1,7 @@
 //! Segments that come and go (RFC 9293, section 3.1).
 
-ghost use Rattle.std.specs.Prelude.{◌≡◌, ◌+◌, ◌%◌, ◌<◌, ℕ, length, None, Some, true, false};
+ghost use Rattle.std.specs.Prelude.{◌≡◌, ◌<◌, length, None, true, false};
+ghost use Rattle.app_connection.specs.Endpoints.{len_of, refused};
 
 /// A segment. Its window is that after scaling.
 #[derive(Debug, Clone, Copy)]
@@ -33,6 +34,7 @@ impl Segment<'_> {
     /// How many sequence numbers it takes (SEG.LEN): its bytes, a SYN and a FIN.
     pub fn len(&self) -> u32
         requires { length self.now.payload.now < 65536 }
+        ensures { result ≡ len_of self.now }
     {
         self.payload.len() as u32 + u32::from(self.syn) + u32::from(self.fin)
     }
@@ -40,7 +42,9 @@ impl Segment<'_> {
 
 impl Reply {
     /// The RST at the number that a segment acknowledged.
-    pub(crate) fn reset(number: u32) -> Reply {
+    pub(crate) fn reset(number: u32) -> Reply
+        ensures { result ≡ record { number = number; ack = None; syn = false; rst = true } }
+    {
         Reply {
             number,
             ack: None,
@@ -53,6 +57,7 @@ impl Reply {
 /// The answer of an endpoint that has no connection (section 3.10.7.1).
 pub(crate) fn refusal(segment: &Segment) -> Option<Reply>
     requires { length segment.now.payload.now < 65536 }
+    ensures { result ≡ refused segment.now }
 {
     if segment.rst {
         return None;

@@ -1,5 +1,8 @@
 //! The states of a connection (RFC 9293, section 3.3.2).
 
+ghost use Rattle.std.specs.Prelude.{◌≡◌};
+ghost use Rattle.app_connection.specs.States.{state_at};
+
 /// The states.
 #[derive(Debug, Clone, Copy, PartialEq, Eq)]
 pub enum State {
@@ -28,7 +31,9 @@ pub(crate) enum Phase {
 
 /// The state of a connection that was established. `closed`: the application has closed. `fin_acked`: the peer has
 /// acknowledged our FIN. `fin_came`: its FIN came. `peer_first`: that was before the application closed.
-pub(crate) fn state_of(closed: bool, fin_acked: bool, fin_came: bool, peer_first: bool) -> State {
+pub(crate) fn state_of(closed: bool, fin_acked: bool, fin_came: bool, peer_first: bool) -> State
+    ensures { result ≡ state_at closed fin_acked fin_came peer_first }
+{
     if !closed {
         return if fin_came {
             State::CloseWait

@@ -1,0 +1,63 @@
+-- What a connection of the code stands for in the set-up.
+-- Pinned by: `tcp/connection`
+use Rattle.std.specs.Prelude.{ℕ, ◌≡◌, ◌+◌, ◌%◌, ◌<◌, ◌≤◌, Option, Some, None, length, Bool, true, false, if◌then◌else◌}
+use Rattle.app_connection.specs.SetUp.{Endpoint, In_closed, In_listen, In_syn_sent, In_syn_received, In_established, Control, may_send}
+use Rattle.app_connection.specs.declared.connection.Connection.{Connection}
+use Rattle.app_connection.specs.declared.segment.Segment.{Segment}
+use Rattle.app_connection.specs.declared.segment.Reply.{Reply}
+use Rattle.app_connection.specs.declared.state.Phase.{Phase}
+use Rattle.app_connection.specs.declared.state.Phase.TheVariants.{Closed, Listen, SynSent, SynReceived, Open}
+
+-- the endpoint in a phase with these numbers
+abbrev pub endpoint_in : Phase → Bool → ℕ → ℕ → Endpoint
+endpoint_in Closed passive iss irs = In_closed
+endpoint_in Listen passive iss irs = In_listen
+endpoint_in SynSent passive iss irs = In_syn_sent iss
+endpoint_in SynReceived passive iss irs = In_syn_received passive iss irs
+endpoint_in Open passive iss irs = In_established iss irs
+
+-- the endpoint
+abbrev pub endpoint_of : Connection → Endpoint
+endpoint_of c = endpoint_in c.phase c.is_passive c.iss c.irs
+
+-- one for a flag that is set
+abbrev pub one : Bool → ℕ
+one flag = if flag then 1 else 0
+
+-- SEG.LEN
+abbrev pub len_of : Segment → ℕ
+len_of s = length s.payload.now + one s.syn + one s.fin
+
+-- what the set-up sees of a segment
+abbrev pub control_of : Segment → Control
+control_of s = record { number = s.number; len = len_of s; ack = s.ack; syn = s.syn; rst = s.rst }
+
+-- the same of a reply
+abbrev pub reply_of : Reply → Control
+reply_of r = record { number = r.number; len = one r.syn; ack = r.ack; syn = r.syn; rst = r.rst }
+
+-- A reply may be sent in the set-up. After it a reply has no SYN.
+abbrev pub IsLegal : Endpoint → Reply → Type 0
+IsLegal In_closed r = may_send In_closed (reply_of r) ≡ true
+IsLegal In_listen r = may_send In_listen (reply_of r) ≡ true
+IsLegal (In_syn_sent iss) r = may_send (In_syn_sent iss) (reply_of r) ≡ true
+IsLegal (In_syn_received passive iss irs) r = may_send (In_syn_received passive iss irs) (reply_of r) ≡ true
+IsLegal (In_established iss irs) r = r.syn ≡ false
+
+-- what an endpoint in CLOSED answers (section 3.10.7.1), by the acknowledgement
+abbrev pub refused_by : Segment → Option ℕ → Reply
+refused_by s (Some ack) = record { number = ack; ack = None; syn = false; rst = true }
+refused_by s None = record { number = 0; ack = Some ((s.number + len_of s) % 4294967296); syn = false; rst = true }
+
+-- what it answers
+abbrev pub refused : Segment → Option Reply
+refused s = if s.rst then None else Some (refused_by s s.ack)
+
+-- The rings have the sizes for both halves.
+pub record RingsFit (c : Connection) (outgoing incoming : ℕ) : Type 0 where
+  pub start : c.sending.start < outgoing
+  pub len : c.sending.len ≤ outgoing
+  pub small : outgoing < 1073741824
+  pub begin : c.receiving.start < incoming
+  pub received : c.receiving.len ≤ incoming
+  pub few : incoming < 1073741824
