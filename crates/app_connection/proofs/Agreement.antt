@@ -5,7 +5,7 @@ use Rattle.std.proofs.lemmas.Bool.{false≢true, cond_both}
 use Rattle.std.proofs.lemmas.Bool.Decides.{nat_tests}
 use mathlib.Core.Logic.{inl, inr}
 use Rattle.app_connection.specs.Sequence.{after, is_acceptable_at}
-use Rattle.app_connection.specs.SetUp.{Endpoint, In_closed, In_listen, In_syn_sent, In_syn_received, In_established, Control, is_ack_of, has_ack, back_from, hears, hears_in_listen, hears_in_syn_sent, hears_in_syn_received, may_send, Side, with_numbers, becomes, is_fresh, is_stray, Move, Opens, Listens, Ends, Sends, Hears, Hears_stray, side_hears, moves, Ends_of, Turn, Here, There, turns, run_ends, idle, both_idle, Has, Agrees, BothAgree}
+use Rattle.app_connection.specs.SetUp.{Endpoint, In_closed, In_listen, In_syn_sent, In_syn_received, In_established, Control, is_ack_of, has_ack, back_from, hears, hears_in_listen, hears_in_syn_sent, hears_syn_again, hears_in_syn_received, may_send, Side, with_numbers, becomes, is_fresh, is_stray, Move, Opens, Listens, Ends, Sends, Hears, Hears_stray, side_hears, moves, Ends_of, Turn, Here, There, turns, run_ends, idle, both_idle, Has, Agrees, BothAgree}
 
 eq_test : (a b : ℕ) → (a == b) ≡ true → a ≡ b
 eq_test a b is = grind (arith, nat_tests)
@@ -222,15 +222,15 @@ received_good : (passive : Bool) (own irs : ℕ) (c : Control) (window : ℕ) (n
 received_good passive own irs c window ns peer only told =
     cond_both c.rst _ _ (Holds ns peer)
     (λ rst. cond_both (c.number == after irs) _ _ (Holds ns peer) (λ exact. back_good passive ns peer) (λ other. stays))
-    (λ no_rst. cond_both (c.syn && (c.number == irs && has_ack c.ack)) _ _ (Holds ns peer)
+    (λ no_rst. cond_both c.syn _ _ (Holds ns peer)
+    (λ syn. cond_both (c.number == irs && has_ack c.ack) _ _ (Holds ns peer)
     (λ again. cond_both (is_ack_of own c.ack) _ _ (Holds ns peer)
-    (λ acks. (joined ns own irs only, syn_agrees own irs c peer ns (told acks no_rst) acks (and_left _ _ again) (eq_test _ _ (and_left _ _ (and_right _ _ again)))))
+    (λ acks. (joined ns own irs only, syn_agrees own irs c peer ns (told acks no_rst) acks syn (eq_test _ _ (and_left _ _ again))))
     (λ other. stays))
-    (λ not_again. cond_both c.syn _ _ (Holds ns peer)
-    (λ syn. cond_both (passive && is_acceptable_at (after irs) window c.number c.len) _ _ (Holds ns peer) (λ back. (tt, tt)) (λ other. stays))
+    (λ not_again. cond_both (passive && is_acceptable_at (after irs) window c.number c.len) _ _ (Holds ns peer) (λ back. (tt, tt)) (λ other. stays)))
     (λ no_syn. cond_both (is_ack_of own c.ack && (c.number == after irs && is_acceptable_at (after irs) window c.number c.len)) _ _ (Holds ns peer)
     (λ acks. (joined ns own irs only, plain_agrees own irs c peer ns only (told (and_left _ _ acks) no_rst) (and_left _ _ acks) no_syn (eq_test _ _ (and_left _ _ (and_right _ _ acks)))))
-    (λ other. stays))))
+    (λ other. stays)))
   where
     stays : Holds ns peer (In_syn_received passive own irs)
     stays = (joined ns own irs only, tt)

@@ -1,6 +1,9 @@
 -- What a connection of the code stands for in the set-up.
 -- Pinned by: `tcp/connection`
-use Rattle.std.specs.Prelude.{ℕ, ◌≡◌, ◌+◌, ◌%◌, ◌<◌, ◌≤◌, Option, Some, None, length, Bool, true, false, if◌then◌else◌}
+use Rattle.std.specs.Prelude.{ℕ, ◌≡◌, ◌+◌, ◌%◌, ◌&&◌, ◌<◌, ◌≤◌, Option, Some, None, length, Bool, true, false, if◌then◌else◌}
+use Rattle.app_tcp.specs.declared.receiving.Receiving.{Receiving}
+use Rattle.app_tcp.specs.declared.sending.Sending.{Sending}
+use Rattle.app_connection.specs.Sequence.{is_of_sent, is_newer}
 use Rattle.app_connection.specs.SetUp.{Endpoint, In_closed, In_listen, In_syn_sent, In_syn_received, In_established, Control, may_send}
 use Rattle.app_connection.specs.declared.connection.Connection.{Connection}
 use Rattle.app_connection.specs.declared.segment.Segment.{Segment}
@@ -53,11 +56,19 @@ refused_by s None = record { number = 0; ack = Some ((s.number + len_of s) % 429
 abbrev pub refused : Segment → Option Reply
 refused s = if s.rst then None else Some (refused_by s s.ack)
 
--- The rings have the sizes for both halves.
-pub record RingsFit (c : Connection) (outgoing incoming : ℕ) : Type 0 where
-  pub start : c.sending.start < outgoing
-  pub len : c.sending.len ≤ outgoing
-  pub small : outgoing < 1073741824
-  pub begin : c.receiving.start < incoming
-  pub received : c.receiving.len ≤ incoming
-  pub few : incoming < 1073741824
+-- Whether a segment with this acknowledgement sets SND.WND (section 3.10.7.4): SND.UNA =< SEG.ACK =< SND.NXT, and it is as new as
+-- the one that set it.
+abbrev pub takes_window : Connection → Segment → ℕ → Bool
+takes_window c s ack = is_of_sent c.sending.una ((c.sending.una + c.sending.flight) % 4294967296) ack && is_newer c.wl1 c.wl2 s.number ack
+
+-- The ring of the sending half has this size.
+pub record OutFits (s : Sending) (size : ℕ) : Type 0 where
+  pub start : s.start < size
+  pub len : s.len ≤ size
+  pub small : size < 1073741824
+
+-- The ring of the receiving half has this size.
+pub record InFits (r : Receiving) (size : ℕ) : Type 0 where
+  pub begin : r.start < size
+  pub len : r.len ≤ size
+  pub small : size < 1073741824

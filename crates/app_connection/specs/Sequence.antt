@@ -21,3 +21,11 @@ is_acceptable_at next window number len =
 -- whether a is before b: a < b of section 3.4
 abbrev pub is_earlier : ℕ → ℕ → Bool
 is_earlier a b = not (a == b) && nat_lt (distance b a) 2147483648
+
+-- whether SND.UNA =< ack =< SND.NXT
+abbrev pub is_of_sent : ℕ → ℕ → ℕ → Bool
+is_of_sent una next ack = not (nat_lt (distance next una) (distance ack una))
+
+-- whether a segment is as new as the one that the window is from: SND.WL1 < SEG.SEQ, or SND.WL1 = SEG.SEQ and SND.WL2 =< SEG.ACK
+abbrev pub is_newer : ℕ → ℕ → ℕ → ℕ → Bool
+is_newer wl1 wl2 number ack = is_earlier wl1 number || (wl1 == number && not (is_earlier ack wl2))

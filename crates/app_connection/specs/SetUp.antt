@@ -53,22 +53,25 @@ hears_in_syn_sent iss c =
 abbrev pub back_from : Bool → Endpoint
 back_from passive = if passive then In_listen else In_closed
 
+-- a SYN in SYN-RECEIVED: that of the peer again, with an acknowledgement (figure 7), or another one, which may be acceptable
+abbrev pub hears_syn_again : Bool → ℕ → ℕ → Control → Bool → Endpoint
+hears_syn_again passive iss irs c acceptable =
+    if c.number == irs && has_ack c.ack
+    then (if is_ack_of iss c.ack then In_established iss irs else In_syn_received passive iss irs)
+    else (if passive && acceptable then In_listen else In_syn_received passive iss irs)
+
 -- SYN-RECEIVED (section 3.10.7.4), with RCV.WND. An acknowledgement acts only at RCV.NXT, or with the SYN at IRS.
 abbrev pub hears_in_syn_received : Bool → ℕ → ℕ → Control → ℕ → Endpoint
 hears_in_syn_received passive iss irs c window =
     if c.rst
     then (if c.number == after irs then back_from passive else In_syn_received passive iss irs)
     else (
-    if c.syn && (c.number == irs && has_ack c.ack)
-    then (if is_ack_of iss c.ack then In_established iss irs else In_syn_received passive iss irs)
-    else (
     if c.syn
-    then (if passive && is_acceptable_at (after irs) window c.number c.len then In_listen else In_syn_received passive iss irs)
+    then hears_syn_again passive iss irs c (is_acceptable_at (after irs) window c.number c.len)
     else (
     if is_ack_of iss c.ack && (c.number == after irs && is_acceptable_at (after irs) window c.number c.len)
     then In_established iss irs
     else In_syn_received passive iss irs
-    )
     )
     )
 
@@ -79,6 +82,14 @@ hears In_listen c window iss = hears_in_listen c iss
 hears (In_syn_sent own) c window iss = hears_in_syn_sent own c
 hears (In_syn_received passive own irs) c window iss = hears_in_syn_received passive own irs c window
 hears (In_established own irs) c window iss = In_established own irs
+
+-- an endpoint after a RST at RCV.NXT
+abbrev pub reset_of : Endpoint → Endpoint
+reset_of In_closed = In_closed
+reset_of In_listen = In_closed
+reset_of (In_syn_sent iss) = In_closed
+reset_of (In_syn_received passive iss irs) = back_from passive
+reset_of (In_established iss irs) = In_closed
 
 -- Whether an endpoint may send this. Any RST may be sent at any time.
 abbrev pub may_send : Endpoint → Control → Bool

@@ -30,3 +30,45 @@ state_in phase.Open open_state = open_state
 -- the state of a connection
 abbrev pub state_from : Connection → State
 state_from c = state_in c.phase (state_at c.sending.is_closed (not c.sending.has_fin) c.receiving.has_fin c.is_peer_first)
+
+-- what CLOSE makes of a state (section 3.10.4); in SYN-RECEIVED the FIN waits
+abbrev pub state_closed : State → State
+state_closed Closed = Closed
+state_closed Listen = Closed
+state_closed SynSent = Closed
+state_closed SynReceived = SynReceived
+state_closed Established = FinWait1
+state_closed FinWait1 = FinWait1
+state_closed FinWait2 = FinWait2
+state_closed CloseWait = LastAck
+state_closed Closing = Closing
+state_closed LastAck = LastAck
+state_closed TimeWait = TimeWait
+
+-- whether CLOSE lets a FIN follow
+abbrev pub may_close : State → Bool
+may_close Closed = false
+may_close Listen = false
+may_close SynSent = false
+may_close SynReceived = true
+may_close Established = true
+may_close FinWait1 = false
+may_close FinWait2 = false
+may_close CloseWait = true
+may_close Closing = false
+may_close LastAck = false
+may_close TimeWait = false
+
+-- whether there is a connection, or the beginning of one
+abbrev pub has_peer : State → Bool
+has_peer Closed = false
+has_peer Listen = false
+has_peer SynSent = true
+has_peer SynReceived = true
+has_peer Established = true
+has_peer FinWait1 = true
+has_peer FinWait2 = true
+has_peer CloseWait = true
+has_peer Closing = true
+has_peer LastAck = true
+has_peer TimeWait = true

@@ -6,6 +6,8 @@ use Rattle.tcp_model.specs.Network.{World, Event, Send, happens, run, start, str
 use Rattle.app_tcp.specs.Items.{items_of}
 use Rattle.app_tcp.specs.Stands.{Stands, SegmentComes, IsAnswer}
 use Rattle.app_tcp.specs.Waits.{Waits, AckComes}
+use Rattle.app_tcp.specs.declared.receiving.Receiving.{Receiving}
+use Rattle.app_tcp.specs.declared.sending.Sending.{Sending}
 use Rattle.app_connection.specs.declared.connection.Connection.{Connection}
 use Rattle.app_connection.specs.declared.segment.Segment.{Segment}
 use Rattle.app_connection.specs.declared.segment.Reply.{Reply}
@@ -28,6 +30,16 @@ pub record Went (there back : World) (consumed : List ℕ) (c : Connection) (out
   pub acks : List Event
   pub texts : List Event
   pub stand : Stand (run acks there) (run texts back) consumed c outgoing incoming
+
+-- the sending half waits in the history after further events
+pub record WaitsLater (there : World) (s : Sending) (outgoing : List ℕ) : Type 0 where
+  pub events : List Event
+  pub waits : Waits (run events there) s outgoing
+
+-- the receiving half stands for the receiver after further events
+pub record StandsLater (back : World) (consumed : List ℕ) (r : Receiving) (incoming : List ℕ) : Type 0 where
+  pub events : List Event
+  pub stands : Stands (run events back).receiver consumed r incoming
 
 -- all that was written and the end were acknowledged
 abbrev pub IsDone : World → Type 0

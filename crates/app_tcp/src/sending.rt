@@ -1,7 +1,7 @@
 //! The sending half: what the application wrote and the peer did not acknowledge yet (RFC 9293, section 3.3.1).
 
-ghost use Rattle.std.specs.Prelude.{◌≡◌, ◌+◌, ◌-◌, ◌%◌, ◌≤◌, ◌<◌, ℕ, Bool, List, length, take, drop, min, true, false, if◌then◌else◌};
-ghost use Rattle.tcp_model.specs.Endpoint.{Item};
+ghost use Rattle.std.specs.Prelude.{◌≡◌, ◌+◌, ◌-◌, ◌%◌, ◌≤◌, ◌<◌, ℕ, Bool, List, [], ◌∷◌, length, take, drop, min, true, false, if◌then◌else◌};
+ghost use Rattle.tcp_model.specs.Endpoint.{Item, Syn};
 ghost use Rattle.tcp_model.specs.Network.{World, Event, Write, Close, Send, Ack_comes, happens, run, start, number_at};
 ghost use Rattle.app_tcp.specs.Items.{items_of, syn_of};
 ghost use Rattle.app_tcp.specs.Waits.{Waits, AckComes, IsSend, from_of, pending, rest_of};
@@ -42,6 +42,7 @@ impl Sending {
     pub fn new(initial: u32) -> Sending
         ensures start { result.start ≡ 0 }
         ensures len { result.len ≡ 0 }
+        ensures syn { result.has_syn ≡ true }
         ensures waits { (buffer : List ℕ) → Waits (start initial) result buffer }
     {
         Sending {
@@ -88,6 +89,8 @@ impl Sending {
     pub fn close(&mut self)
         ensures start { self.new.start ≡ self.old.start }
         ensures len { self.new.len ≡ self.old.len }
+        ensures closed { self.new.is_closed ≡ true }
+        ensures fin { self.old.is_closed ≡ false → self.new.has_fin ≡ true }
         ensures waits { (w : World) (buffer : List ℕ) → Waits w self.old buffer → Waits (happens w Close) self.new buffer }
     {
         if !self.is_closed {
@@ -129,6 +132,7 @@ impl Sending {
         ensures few { length result.payload.now ≤ count }
         ensures inner { length result.payload.now ≤ length ring.now }
         ensures syn { self.old.has_syn ≡ false → result.syn ≡ false }
+        ensures first { self.old.has_syn ≡ true → offset ≡ 0 → items_of result.syn result.payload.now result.fin ≡ Syn ∷ [] }
     {
         let from = offset.min(self.syn_len() + self.len);
         let segment = self.cut(ring, from, count);
@@ -160,6 +164,7 @@ impl Sending {
         ensures few { length result.payload.now ≤ count }
         ensures inner { length result.payload.now ≤ length ring.now }
         ensures syn { self.now.has_syn ≡ false → result.syn ≡ false }
+        ensures first { self.now.has_syn ≡ true → from ≡ 0 → items_of result.syn result.payload.now result.fin ≡ Syn ∷ [] }
     {
         if self.has_syn && from == 0 {
             return Segment {
