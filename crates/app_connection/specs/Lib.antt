@@ -3,3 +3,4 @@ pub mod SetUp
 pub mod Endpoints
 pub mod States
 pub mod Worlds
+pub mod Events

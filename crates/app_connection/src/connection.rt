@@ -9,7 +9,7 @@ ghost use Rattle.app_connection.specs.declared.state.Phase.TheVariants.{Open};
 ghost use Rattle.app_connection.specs.SetUp.{In_closed, In_listen, In_syn_sent};
 ghost use Rattle.app_connection.specs.Endpoints.{endpoint_of, OutFits, InFits, IsLegal};
 ghost use Rattle.app_connection.specs.States.{state_from, state_closed, may_close, has_peer};
-ghost use Rattle.app_connection.specs.Worlds.{TellsState, WaitsLater};
+ghost use Rattle.app_connection.specs.Worlds.{Stand, TellsState, WaitsLater};
 
 use crate::segment::{Reply, Segment};
 use crate::state::{Phase, State, state_of};
@@ -58,6 +58,7 @@ impl Connection {
     /// Its state.
     pub fn state(&self) -> State
         ensures value { result ≡ state_from self.now }
+        ensures tells { (there back : World) (consumed outgoing incoming : List ℕ) → Stand there back consumed self.now outgoing incoming → TellsState result there back }
     {
         match self.phase {
             Phase::Closed => State::Closed,

@@ -1,6 +1,11 @@
 //! One call for everything that can happen to a connection.
 
-ghost use Rattle.std.specs.Prelude.{◌≡◌, ◌<◌, ◌≤◌, length};
+ghost use Rattle.std.specs.Prelude.{◌≡◌, ◌<◌, ◌≤◌, ℕ, List, length};
+ghost use Rattle.tcp_model.specs.Network.{World};
+ghost use Rattle.app_connection.specs.declared.state.Phase.TheVariants.{Listen};
+ghost use Rattle.app_connection.specs.Endpoints.{OutFits, InFits};
+ghost use Rattle.app_connection.specs.Worlds.{Stand, Went};
+ghost use Rattle.app_connection.specs.Events.{IsShort, ComesBy};
 
 use crate::connection::Connection;
 use crate::segment::{Reply, Segment};
@@ -29,21 +34,28 @@ impl Connection {
         outgoing: &'a [u8],
         incoming: &mut [u8],
         event: Event,
-    ) -> Option<Segment<'a>> {
+    ) -> Option<Segment<'a>>
+        requires text { IsShort event }
+        requires out { OutFits self.old.sending (length outgoing.now) }
+        requires rings { InFits self.old.receiving (length incoming.old) }
+        ensures out { OutFits self.new.sending (length outgoing.now) }
+        ensures rings { InFits self.new.receiving (length incoming.old) }
+        ensures goes { (there back : World) (consumed : List ℕ) → (self.old.phase ≡ Listen → ⊥) → ComesBy event.entry there back → Stand there back consumed self.old outgoing.now incoming.old → Went there back consumed self.new outgoing.now incoming.new }
+    {
         let reply = match event {
             Event::Send(offset, count) => {
                 return self.send(outgoing, incoming.len(), offset, count);
             }
             Event::Listen => {
                 self.listen();
-                None
+                return None;
+            }
+            Event::Close => {
+                self.close();
+                return None;
             }
             Event::Open(iss) => self.open(outgoing, iss),
             Event::Arrives(segment, fresh) => self.on_segment(outgoing, incoming, segment, fresh),
-            Event::Close => {
-                self.close();
-                None
-            }
             Event::Abort => self.abort(),
         };
         self.without_text(outgoing, incoming.len(), reply)
@@ -55,7 +67,9 @@ impl Connection {
         outgoing: &'a [u8],
         incoming: usize,
         reply: Option<Reply>,
-    ) -> Option<Segment<'a>> {
+    ) -> Option<Segment<'a>>
+        requires { InFits self.now.receiving incoming }
+    {
         let Some(reply) = reply else {
             return None;
         };
