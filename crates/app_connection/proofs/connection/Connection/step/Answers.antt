@@ -1,0 +1,55 @@
+use Rattle.std.proofs.Common.{◌≡◌, ◌⊎◌, inl, inr, refl, sym, subst, ap, ℕ, List, [], ◌∷◌, Bool, true, false}
+use Rattle.tcp_model.specs.Network.{World, Close}
+use Rattle.app_tcp.specs.Waits.{Waits}
+use Rattle.app_connection.specs.declared.step.Event.{Event}
+use Rattle.app_connection.specs.declared.step.Event.TheVariants as event
+use Rattle.app_connection.specs.declared.connection.Connection.{Connection}
+use Rattle.app_connection.specs.Events.{ComesBy}
+use Rattle.app_connection.specs.States.{may_close, state_from}
+use Rattle.app_connection.specs.Worlds.{Stand, Went, WaitsLater, Arrives}
+use Rattle.app_connection.proofs.Going.{went, went_still, waits_as, waits_now, stands_as, stands_now}
+use Rattle.app_connection.proofs.connection.Connection.step.Goals as goal
+use Rattle.app_connection.proofs.connection.Connection.step.Goals.{in-Open, in-Arrives, in-Abort}
+
+either : (b : Bool) → (b ≡ true) ⊎ (b ≡ false)
+either true = inl refl
+either false = inr refl
+
+pub returns-in-Listen-clause-goes : goal.returns-in-Listen-clause-goes
+returns-in-Listen-clause-goes c = λ there back consumed other comes stand.
+    went_still there back consumed c.args.self.now c.listen.new.self c.args.outgoing.now c.args.incoming.now c.listen.ensures.sending c.listen.ensures.receiving stand
+
+pub returns-in-Close-clause-goes : goal.returns-in-Close-clause-goes
+returns-in-Close-clause-goes c = λ there back consumed other comes stand.
+    let old = c.args.self.now in
+    let new = c.close.new.self in
+    let waits : WaitsLater there new.sending c.args.outgoing.now = elim (either (may_close (state_from old))) [
+      | inl may ↦ record { events = Close ∷ []; waits = c.close.ensures.waits may there c.args.outgoing.now stand.waits }
+      | inr cannot ↦ waits_as there old.sending new.sending c.args.outgoing.now (c.close.ensures.stays cannot) (waits_now there old.sending c.args.outgoing.now stand.waits)
+    ] in
+    went there back consumed new c.args.outgoing.now c.args.incoming.now waits
+    (stands_as back consumed old.receiving new.receiving c.args.incoming.now c.close.ensures.receiving (stands_now back consumed old.receiving c.args.incoming.now stand.stands))
+
+-- an active open begins other histories
+opens_none : (e : Event) (iss : ℕ) (there back : World) → e ≡ event.Open iss → ComesBy e there back → ⊥
+opens_none e iss there back is comes = let h : ComesBy (event.Open iss) there back = subst (λ (x : Event). ComesBy x there back) is comes in h
+
+-- the same at equal values
+went_as : (there back : World) (consumed : List ℕ) (c d : Connection) (outgoing new old : List ℕ) → d ≡ c → new ≡ old → Went there back consumed c outgoing old → Went there back consumed d outgoing new
+went_as there back consumed c d outgoing new old is same w =
+    subst (λ (l : List ℕ). Went there back consumed d outgoing l) (sym same) (subst (λ (x : Connection). Went there back consumed x outgoing old) (sym is) w)
+
+pub returns-clause-goes : goal.returns-clause-goes
+returns-clause-goes c = λ there back consumed other comes stand.
+    elim c.match-event.branch [
+      | in-Open w ↦ absurd (opens_none c.args.event w.in-Open.iss there back w.in-Open.is comes)
+      | in-Arrives w ↦
+          let s = w.in-Arrives.segment in
+          let arrives : Arrives there back s.now = subst (λ (x : Event). ComesBy x there back) w.in-Arrives.is comes in
+          went_as there back consumed w.on_segment-reply.new.self c.match-event.self c.args.outgoing.now c.match-event.incoming w.on_segment-reply.new.incoming w.self-is w.incoming-is
+          (w.on_segment-reply.ensures.goes other there back consumed arrives stand)
+      | in-Abort w ↦
+          let new = w.abort-reply.new.self in
+          went_as there back consumed new c.match-event.self c.args.outgoing.now c.match-event.incoming c.args.incoming.now w.self-is w.incoming-is
+          (went_still there back consumed c.args.self.now new c.args.outgoing.now c.args.incoming.now w.abort-reply.ensures.sending w.abort-reply.ensures.receiving stand)
+    ]
