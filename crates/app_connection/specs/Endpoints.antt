@@ -47,6 +47,11 @@ IsLegal (In_syn_sent iss) r = may_send (In_syn_sent iss) (reply_of r) ≡ true
 IsLegal (In_syn_received passive iss irs) r = may_send (In_syn_received passive iss irs) (reply_of r) ≡ true
 IsLegal (In_established iss irs) r = r.syn ≡ false
 
+-- what a segment says beside its text and window
+abbrev pub spoken : Option Segment → Option Reply
+spoken None = None
+spoken (Some s) = Some (record { number = s.number; ack = s.ack; syn = s.syn; rst = s.rst })
+
 -- what an endpoint in CLOSED answers (section 3.10.7.1), by the acknowledgement
 abbrev pub refused_by : Segment → Option ℕ → Reply
 refused_by s (Some ack) = record { number = ack; ack = None; syn = false; rst = true }

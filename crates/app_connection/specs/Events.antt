@@ -1,7 +1,9 @@
 -- The events of a connection.
 -- Pinned by: `tcp/connection`
-use Rattle.std.specs.Prelude.{◌<◌, length}
+use Rattle.std.specs.Prelude.{ℕ, ◌≡◌, ◌⊎◌, ◌<◌, length}
 use Rattle.tcp_model.specs.Network.{World}
+use Rattle.app_connection.specs.Endpoints.{control_of}
+use Rattle.app_connection.specs.SetUp.{Endpoint, In_closed, In_listen, In_syn_sent, hears}
 use Rattle.app_connection.specs.Worlds.{Arrives}
 use Rattle.app_connection.specs.declared.step.Event.{Event}
 use Rattle.app_connection.specs.declared.step.Event.TheVariants as event
@@ -23,3 +25,12 @@ ComesBy (event.Arrives segment iss) there back = Arrives there back segment.now
 ComesBy (event.Send offset count) there back = Unit {0}
 ComesBy event.Close there back = Unit {0}
 ComesBy event.Abort there back = Unit {0}
+
+-- What an event makes of an endpoint with this window: a move of the set-up. A segment is heard, or resets the connection.
+abbrev pub IsMove : Event → ℕ → Endpoint → Endpoint → Type 0
+IsMove event.Listen window old new = (new ≡ old) ⊎ (new ≡ In_listen)
+IsMove (event.Open iss) window old new = (new ≡ old) ⊎ (new ≡ In_syn_sent iss)
+IsMove (event.Arrives segment iss) window old new = (new ≡ hears old (control_of segment.now) window iss) ⊎ (new ≡ In_closed)
+IsMove (event.Send offset count) window old new = new ≡ old
+IsMove event.Close window old new = (new ≡ old) ⊎ (new ≡ In_closed)
+IsMove event.Abort window old new = new ≡ In_closed

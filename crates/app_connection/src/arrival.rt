@@ -8,7 +8,7 @@ ghost use Rattle.app_tcp.specs.Stands.{Stands, SegmentComes, room_of};
 ghost use Rattle.app_tcp.specs.Waits.{Waits, AckComes};
 ghost use Rattle.app_connection.specs.declared.state.Phase.TheVariants.{Listen, SynSent, SynReceived, Open};
 ghost use Rattle.app_connection.specs.Sequence.{after, is_acceptable_at};
-ghost use Rattle.app_connection.specs.SetUp.{hears, hears_in_listen, hears_in_syn_sent, hears_syn_again, hears_in_syn_received, reset_of};
+ghost use Rattle.app_connection.specs.SetUp.{hears, hears_in_listen, hears_in_syn_sent, hears_syn_again, hears_in_syn_received, reset_of, In_closed};
 ghost use Rattle.app_connection.specs.Endpoints.{endpoint_of, control_of, len_of, OutFits, InFits, IsLegal, refused, takes_window};
 ghost use Rattle.app_connection.specs.States.{state_from};
 ghost use Rattle.app_connection.specs.Worlds.{Arrives, Stand, Went, WaitsLater, StandsLater, IsAnswered};
@@ -42,6 +42,7 @@ impl Connection {
         ensures syn { self.old.phase ≡ Open → segment.now.rst ≡ false → segment.now.syn ≡ true → self.new ≡ self.old }
         ensures outside { self.old.phase ≡ Open → segment.now.rst ≡ false → is_acceptable_at self.old.receiving.next (room_of self.old.receiving (length incoming.old)) segment.now.number (len_of segment.now) ≡ false → self.new ≡ self.old }
         ensures keeps { self.old.phase ≡ Open → segment.now.rst ≡ false → endpoint_of self.new ≡ endpoint_of self.old }
+        ensures acts { self.old.phase ≡ Open → (endpoint_of self.new ≡ endpoint_of self.old) ⊎ (endpoint_of self.new ≡ In_closed) }
         ensures window { self.old.phase ≡ Open → ((ack : ℕ) → segment.now.ack ≡ Some ack → takes_window self.old segment.now ack ≡ false) → self.new.wnd ≡ self.old.wnd }
         ensures answers { self.old.phase ≡ Open → IfSome result (λ r. (back : World) (consumed : List ℕ) → Stands back.receiver consumed self.new.receiving incoming.new → IsAnswered back r) }
         ensures closed { state_from self.old ≡ State.Closed → result ≡ refused segment.now }
@@ -203,6 +204,7 @@ impl Connection {
         incoming: &mut [u8],
         segment: &Segment,
     ) -> Option<Reply>
+        requires phase { self.old.phase ≡ Open }
         requires text { length segment.now.payload.now < 65536 }
         requires out { OutFits self.old.sending (length outgoing.now) }
         requires rings { InFits self.old.receiving (length incoming.old) }
@@ -213,6 +215,7 @@ impl Connection {
         ensures syn { segment.now.rst ≡ false → segment.now.syn ≡ true → self.new ≡ self.old }
         ensures outside { segment.now.rst ≡ false → is_acceptable_at self.old.receiving.next (room_of self.old.receiving (length incoming.old)) segment.now.number (len_of segment.now) ≡ false → self.new ≡ self.old }
         ensures keeps { segment.now.rst ≡ false → endpoint_of self.new ≡ endpoint_of self.old }
+        ensures acts { (endpoint_of self.new ≡ endpoint_of self.old) ⊎ (endpoint_of self.new ≡ In_closed) }
         ensures window { ((ack : ℕ) → segment.now.ack ≡ Some ack → takes_window self.old segment.now ack ≡ false) → self.new.wnd ≡ self.old.wnd }
         ensures answers { IfSome result (λ r. (back : World) (consumed : List ℕ) → Stands back.receiver consumed self.new.receiving incoming.new → IsAnswered back r) }
     {
@@ -243,6 +246,7 @@ impl Connection {
         ensures window { self.new.wnd ≡ self.old.wnd }
         ensures beside { number ≢ next → self.new ≡ self.old }
         ensures acts { number ≡ next → endpoint_of self.new ≡ reset_of (endpoint_of self.old) }
+        ensures ends { self.old.phase ≡ Open → (endpoint_of self.new ≡ endpoint_of self.old) ⊎ (endpoint_of self.new ≡ In_closed) }
         ensures legal { IsLegal (endpoint_of self.old) challenge → IfSome result (λ r. IsLegal (endpoint_of self.new) r) }
         ensures reply { IfSome result (λ r. r ≡ challenge) }
     {

@@ -1,6 +1,6 @@
 //! The connection, and the calls of its application (RFC 9293, sections 3.10.1 to 3.10.5).
 
-ghost use Rattle.std.specs.Prelude.{◌≡◌, ◌+◌, ◌%◌, ◌≤◌, ◌<◌, ◌++◌, ℕ, List, [], length, true, false, IfSome, Some, None, take};
+ghost use Rattle.std.specs.Prelude.{◌≡◌, ◌+◌, ◌%◌, ◌≤◌, ◌<◌, ◌++◌, ◌⊎◌, ℕ, List, [], length, true, false, IfSome, Some, None, take};
 ghost use Rattle.tcp_model.specs.Network.{World, Event, Close, Write, Send, happens, run, start, IsPrefixOf};
 ghost use Rattle.app_tcp.specs.Stands.{Stands, room_of, IsAnswer};
 ghost use Rattle.app_tcp.specs.Waits.{Waits, IsSend, from_of};
@@ -95,6 +95,7 @@ impl Connection {
         ensures sending { self.new.sending ≡ self.old.sending }
         ensures receiving { self.new.receiving ≡ self.old.receiving }
         ensures listens { state_from self.old ≡ State.Closed → endpoint_of self.new ≡ In_listen }
+        ensures moves { (endpoint_of self.new ≡ endpoint_of self.old) ⊎ (endpoint_of self.new ≡ In_listen) }
         ensures stays { (state_from self.old ≡ State.Closed → ⊥) → self.new ≡ self.old }
     {
         if self.state() == State::Closed {
@@ -173,6 +174,7 @@ impl Connection {
         ensures receiving { self.new.receiving ≡ self.old.receiving }
         ensures out { (size : ℕ) → OutFits self.old.sending size → OutFits self.new.sending size }
         ensures state { state_from self.new ≡ state_closed (state_from self.old) }
+        ensures moves { (endpoint_of self.new ≡ endpoint_of self.old) ⊎ (endpoint_of self.new ≡ In_closed) }
         ensures waits { may_close (state_from self.old) ≡ true → (there : World) (outgoing : List ℕ) → Waits there self.old.sending outgoing → Waits (happens there Close) self.new.sending outgoing }
         ensures stays { may_close (state_from self.old) ≡ false → self.new.sending ≡ self.old.sending }
     {

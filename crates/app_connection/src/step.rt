@@ -1,11 +1,12 @@
 //! One call for everything that can happen to a connection.
 
-ghost use Rattle.std.specs.Prelude.{◌≡◌, ◌<◌, ◌≤◌, ℕ, List, length};
+ghost use Rattle.std.specs.Prelude.{◌≡◌, ℕ, List, length, IfSome};
 ghost use Rattle.tcp_model.specs.Network.{World};
-ghost use Rattle.app_connection.specs.declared.state.Phase.TheVariants.{Listen};
-ghost use Rattle.app_connection.specs.Endpoints.{OutFits, InFits};
+ghost use Rattle.app_tcp.specs.Stands.{room_of};
+ghost use Rattle.app_connection.specs.declared.state.Phase.TheVariants.{Listen, Open};
+ghost use Rattle.app_connection.specs.Endpoints.{endpoint_of, spoken, IsLegal, OutFits, InFits};
 ghost use Rattle.app_connection.specs.Worlds.{Stand, Went};
-ghost use Rattle.app_connection.specs.Events.{IsShort, ComesBy};
+ghost use Rattle.app_connection.specs.Events.{IsShort, ComesBy, IsMove};
 
 use crate::connection::Connection;
 use crate::segment::{Reply, Segment};
@@ -41,6 +42,8 @@ impl Connection {
         ensures out { OutFits self.new.sending (length outgoing.now) }
         ensures rings { InFits self.new.receiving (length incoming.old) }
         ensures goes { (there back : World) (consumed : List ℕ) → (self.old.phase ≡ Listen → ⊥) → ComesBy event.entry there back → Stand there back consumed self.old outgoing.now incoming.old → Went there back consumed self.new outgoing.now incoming.new }
+        ensures moves { IsMove event.entry (room_of self.old.receiving (length incoming.old)) (endpoint_of self.old) (endpoint_of self.new) }
+        ensures legal { (self.old.phase ≡ Open → ⊥) → IfSome (spoken result) (λ r. IsLegal (endpoint_of self.new) r) }
     {
         let reply = match event {
             Event::Send(offset, count) => {
@@ -69,6 +72,7 @@ impl Connection {
         reply: Option<Reply>,
     ) -> Option<Segment<'a>>
         requires { InFits self.now.receiving incoming }
+        ensures { spoken result ≡ reply }
     {
         let Some(reply) = reply else {
             return None;
