@@ -5,7 +5,7 @@ use Rattle.std.proofs.lemmas.Bool.{false≢true, cond_both}
 use Rattle.std.proofs.lemmas.Bool.Decides.{nat_tests}
 use mathlib.Core.Logic.{inl, inr}
 use Rattle.app_connection.specs.Sequence.{after, is_acceptable_at}
-use Rattle.app_connection.specs.SetUp.{Endpoint, In_closed, In_listen, In_syn_sent, In_syn_received, In_established, Control, is_ack_of, has_ack, back_from, hears, hears_in_listen, hears_in_syn_sent, hears_syn_again, hears_in_syn_received, may_send, Side, with_numbers, becomes, is_fresh, is_stray, Move, Opens, Listens, Ends, Sends, Hears, Hears_stray, side_hears, moves, Ends_of, Turn, Here, There, turns, run_ends, idle, both_idle, Has, Agrees, BothAgree}
+use Rattle.app_connection.specs.SetUp.{Endpoint, In_closed, In_listen, In_syn_sent, In_syn_received, In_established, Control, is_ack_of, has_ack, back_from, hears, hears_in_listen, hears_in_syn_sent, hears_in_syn_received, may_send, Side, with_numbers, becomes, is_fresh, is_stray, Move, Opens, Listens, Ends, Sends, Hears, Hears_stray, side_hears, moves, Ends_of, Turn, Here, There, turns, run_ends, idle, both_idle, Has, Agrees, BothAgree}
 
 eq_test : (a b : ℕ) → (a == b) ≡ true → a ≡ b
 eq_test a b is = grind (arith, nat_tests)
@@ -328,8 +328,10 @@ moves_pair s peer Listens pair = becomes_pair s peer In_listen pair (tt, tt)
 moves_pair s peer Ends pair = becomes_pair s peer In_closed pair (tt, tt)
 moves_pair s peer (Sends c) pair =
     cond_both (may_send s.me c) _ _ (λ (v : Side). Pair v peer)
-    (λ may. (record { current = pair.0.current; met = pair.0.met; sent = (sends_fine s.me c s.numbers peer.numbers pair.0.current pair.0.met may, pair.0.sent) },
-    record { current = pair.1.current; met = pair.1.met; sent = pair.1.sent }))
+    (λ may. (
+      record { current = pair.0.current; met = pair.0.met; sent = (sends_fine s.me c s.numbers peer.numbers pair.0.current pair.0.met may, pair.0.sent) },
+      record { current = pair.1.current; met = pair.1.met; sent = pair.1.sent },
+    ))
     (λ no. pair)
 moves_pair s peer (Hears which window iss) pair = came_pair s peer (slice_get peer.sent which) window iss pair (λ c is. each_get _ peer.sent which c pair.1.sent is)
 moves_pair s peer (Hears_stray c window iss) pair =

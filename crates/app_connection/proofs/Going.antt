@@ -1,16 +1,15 @@
 -- The histories after a segment.
-use Rattle.std.proofs.Common.{◌≡◌, refl, sym, subst, ℕ, List, [], ◌∷◌, ◌++◌, Bool, true, false, map}
-use Rattle.std.specs.Prelude.{Option, Some, None, IfSome}
-use Rattle.tcp_model.specs.Endpoint.{Item, Syn, Byte}
+use Rattle.std.proofs.Common.{◌≡◌, sym, subst, ℕ, List, [], ◌∷◌, ◌++◌, Bool, true, false, map}
+use Rattle.std.specs.Prelude.{Option, Some, IfSome}
+use Rattle.tcp_model.specs.Endpoint.{Syn, Byte}
 use Rattle.tcp_model.specs.Network.{World, Event, end_of}
 use Rattle.app_tcp.specs.Items.{items_of}
 use Rattle.app_tcp.specs.Stands.{Stands, SegmentComes}
-use Rattle.app_tcp.specs.Waits.{Waits, AckComes}
+use Rattle.app_tcp.specs.Waits.{Waits}
 use Rattle.app_tcp.specs.declared.receiving.Receiving.{Receiving}
 use Rattle.app_tcp.specs.declared.sending.Sending.{Sending}
-use Rattle.app_connection.specs.Worlds.{Arrives, Stand, Went, WaitsLater, StandsLater}
+use Rattle.app_connection.specs.Worlds.{Stand, Went, WaitsLater, StandsLater}
 use Rattle.app_connection.specs.declared.connection.Connection.{Connection}
-use Rattle.app_connection.specs.declared.segment.Segment.{Segment}
 
 -- no event
 pub waits_now : (there : World) (s : Sending) (outgoing : List ℕ) → Waits there s outgoing → WaitsLater there s outgoing

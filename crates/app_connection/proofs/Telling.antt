@@ -1,14 +1,13 @@
 -- What a state says of the histories.
-use Rattle.std.proofs.Common.{◌≡◌, refl, sym, ◌∙◌, ap, subst, ℕ, zero, suc, ◌+◌, ◌<◌, ◌≤◌, List, [], ◌∷◌, ◌++◌, Bool, true, false, length, map, drop, arith, length-append}
+use Rattle.std.proofs.Common.{◌≡◌, refl, sym, ◌∙◌, ap, subst, ℕ, zero, suc, ◌<◌, List, [], ◌∷◌, ◌++◌, Bool, true, false, length, map, drop, arith, length-append}
 use Rattle.std.specs.Prelude.{not}
 use Rattle.std.proofs.lemmas.Bool.{false≢true, cases_lt}
 use Rattle.std.proofs.lemmas.List.{drop_all}
 use mathlib.Core.Logic.{inl, inr}
-use Rattle.tcp_model.specs.Endpoint.{Item, Syn, Byte, Fin}
+use Rattle.tcp_model.specs.Endpoint.{Item, Byte, Fin}
 use Rattle.tcp_model.specs.Network.{World, stream, end_of, is_ended}
 use Rattle.app_tcp.specs.Items.{syn_of}
-use Rattle.app_tcp.specs.Ring.{ring}
-use Rattle.app_tcp.specs.Waits.{Waits, pending, rest_of}
+use Rattle.app_tcp.specs.Waits.{Waits, pending}
 use Rattle.app_tcp.specs.declared.sending.Sending.{Sending}
 use Rattle.app_connection.specs.States.{state_at}
 use Rattle.app_connection.specs.Worlds.{Stand, TellsState, IsDone}

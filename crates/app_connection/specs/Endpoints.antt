@@ -1,5 +1,5 @@
 -- What a connection of the code stands for in the set-up.
--- Pinned by: `tcp/connection`
+-- Pinned by: `connection/figures`
 use Rattle.std.specs.Prelude.{ℕ, ◌≡◌, ◌+◌, ◌%◌, ◌&&◌, ◌<◌, ◌≤◌, Option, Some, None, length, Bool, true, false, if◌then◌else◌}
 use Rattle.app_tcp.specs.declared.receiving.Receiving.{Receiving}
 use Rattle.app_tcp.specs.declared.sending.Sending.{Sending}

@@ -1,5 +1,5 @@
 -- The events of a connection.
--- Pinned by: `tcp/connection`
+-- Pinned by: `connection/figures`
 use Rattle.std.specs.Prelude.{ℕ, ◌≡◌, ◌⊎◌, ◌<◌, length}
 use Rattle.tcp_model.specs.Network.{World}
 use Rattle.app_connection.specs.Endpoints.{control_of}

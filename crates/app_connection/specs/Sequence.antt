@@ -1,5 +1,5 @@
 -- Windows of sequence numbers (RFC 9293, sections 3.4 and 3.10.7.4).
--- Pinned by: `tcp/connection`
+-- Pinned by: `connection/figures`
 use Rattle.std.specs.Prelude.{ℕ, ◌+◌, ◌-◌, ◌%◌, ◌==◌, ◌&&◌, ◌||◌, Bool, false, not, nat_lt, if◌then◌else◌}
 use Rattle.tcp_model.specs.Endpoint.{distance}
 

@@ -1,6 +1,6 @@
 -- The set-up of a connection between two endpoints, over a network that loses, repeats and reorders their segments and has
 -- segments of other connections (RFC 9293, sections 3.5 and 3.10.7; RFC 5961).
--- Pinned by: `tcp/connection`
+-- Pinned by: `connection/figures`
 use Rattle.std.specs.Prelude.{ℕ, ◌≡◌, ◌⊎◌, ◌==◌, ◌&&◌, ◌||◌, List, [], ◌∷◌, Bool, true, false, not, if◌then◌else◌, Option, Some, None, slice_get}
 use Rattle.app_connection.specs.Sequence.{after, is_acceptable_at}
 

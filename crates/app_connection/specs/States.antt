@@ -1,5 +1,5 @@
 -- The states (RFC 9293, section 3.3.2).
--- Pinned by: `tcp/connection`
+-- Pinned by: `connection/figures`
 use Rattle.std.specs.Prelude.{Bool, true, false, not}
 use Rattle.app_connection.specs.declared.connection.Connection.{Connection}
 use Rattle.app_connection.specs.declared.state.Phase.{Phase}

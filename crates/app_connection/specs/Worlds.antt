@@ -1,8 +1,8 @@
 -- What a connection stands for in the histories of both directions: `there` is the stream that it writes, `back` the one that it
 -- reads.
--- Pinned by: `tcp/connection`
-use Rattle.std.specs.Prelude.{ℕ, ◌≡◌, ◌<◌, ◌⊎◌, List, length, Bool, true, false, Option, IfSome}
-use Rattle.tcp_model.specs.Network.{World, Event, Send, happens, run, start, stream, is_ended}
+-- Pinned by: `connection/figures`
+use Rattle.std.specs.Prelude.{ℕ, ◌≡◌, ◌<◌, ◌⊎◌, List, length, true, false, IfSome}
+use Rattle.tcp_model.specs.Network.{World, Event, run, stream, is_ended}
 use Rattle.app_tcp.specs.Items.{items_of}
 use Rattle.app_tcp.specs.Stands.{Stands, SegmentComes, IsAnswer}
 use Rattle.app_tcp.specs.Waits.{Waits, AckComes}

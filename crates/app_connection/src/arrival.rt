@@ -62,7 +62,13 @@ impl Connection {
     }
 
     // Section 3.10.7.2.
-    fn in_listen(&mut self, outgoing: &[u8], incoming: usize, segment: &Segment, fresh: u32) -> Option<Reply>
+    fn in_listen(
+        &mut self,
+        outgoing: &[u8],
+        incoming: usize,
+        segment: &Segment,
+        fresh: u32,
+    ) -> Option<Reply>
         requires phase { self.old.phase ≡ Listen }
         requires out { OutFits self.old.sending (length outgoing.now) }
         requires rings { InFits self.old.receiving incoming }
@@ -148,12 +154,17 @@ impl Connection {
         ensures goes { (there back : World) (consumed : List ℕ) → Arrives there back segment.now → Stand there back consumed self.old outgoing.now incoming.old → Went there back consumed self.new outgoing.now incoming.new }
     {
         let next = self.irs.wrapping_add(1);
+        let first = self.iss.wrapping_add(1);
         let room = self.room(incoming.len());
         if segment.rst {
             return self.on_reset(segment.number, next, room, self.first_ack());
         }
         if segment.syn {
-            return self.on_syn_again(outgoing, segment, is_acceptable(next, room, segment.number, segment.len()));
+            return self.on_syn_again(
+                outgoing,
+                segment,
+                is_acceptable(next, room, segment.number, segment.len()),
+            );
         }
         if !is_acceptable(next, room, segment.number, segment.len()) {
             return Some(self.first_ack());
@@ -161,7 +172,7 @@ impl Connection {
         let Some(ack) = segment.ack else {
             return None;
         };
-        if ack != self.iss.wrapping_add(1) {
+        if ack != first {
             return Some(Reply::reset(ack));
         }
         if segment.number != next {
@@ -172,7 +183,12 @@ impl Connection {
     }
 
     // A SYN in SYN-RECEIVED.
-    fn on_syn_again(&mut self, outgoing: &[u8], segment: &Segment, acceptable: bool) -> Option<Reply>
+    fn on_syn_again(
+        &mut self,
+        outgoing: &[u8],
+        segment: &Segment,
+        acceptable: bool,
+    ) -> Option<Reply>
         requires phase { self.old.phase ≡ SynReceived }
         requires out { OutFits self.old.sending (length outgoing.now) }
         ensures out { OutFits self.new.sending (length outgoing.now) }
@@ -198,12 +214,7 @@ impl Connection {
     }
 
     // Section 3.10.7.4 in the synchronized states.
-    fn in_open(
-        &mut self,
-        outgoing: &[u8],
-        incoming: &mut [u8],
-        segment: &Segment,
-    ) -> Option<Reply>
+    fn in_open(&mut self, outgoing: &[u8], incoming: &mut [u8], segment: &Segment) -> Option<Reply>
         requires phase { self.old.phase ≡ Open }
         requires text { length segment.now.payload.now < 65536 }
         requires out { OutFits self.old.sending (length outgoing.now) }

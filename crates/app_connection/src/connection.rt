@@ -209,7 +209,13 @@ impl Connection {
 
     /// The next segment to send or to send again, from `offset` after SND.UNA on, with at most `count` bytes; a FIN counts as
     /// one. Before the connection is established it is the SYN. `None`: there is nothing. The caller keeps to the window.
-    pub fn send<'a>(&mut self, outgoing: &'a [u8], incoming: usize, offset: usize, count: usize) -> Option<Segment<'a>>
+    pub fn send<'a>(
+        &mut self,
+        outgoing: &'a [u8],
+        incoming: usize,
+        offset: usize,
+        count: usize,
+    ) -> Option<Segment<'a>>
         requires out { OutFits self.old.sending (length outgoing.now) }
         requires rings { InFits self.old.receiving incoming }
         ensures out { OutFits self.new.sending (length outgoing.now) }
@@ -223,7 +229,11 @@ impl Connection {
         match self.state() {
             State::Closed | State::Listen => None,
             State::SynSent => Some(self.set_up(outgoing, incoming, None)),
-            State::SynReceived => Some(self.set_up(outgoing, incoming, Some(self.irs.wrapping_add(1)))),
+            State::SynReceived => Some(self.set_up(
+                outgoing,
+                incoming,
+                Some(self.irs.wrapping_add(1)),
+            )),
             _ => self.cut(outgoing, incoming, offset, count),
         }
     }
@@ -248,7 +258,13 @@ impl Connection {
     }
 
     // The segment from an item on, with what is acknowledged.
-    fn cut<'a>(&mut self, outgoing: &'a [u8], incoming: usize, offset: usize, count: usize) -> Option<Segment<'a>>
+    fn cut<'a>(
+        &mut self,
+        outgoing: &'a [u8],
+        incoming: usize,
+        offset: usize,
+        count: usize,
+    ) -> Option<Segment<'a>>
         requires out { OutFits self.old.sending (length outgoing.now) }
         requires rings { InFits self.old.receiving incoming }
         ensures out { OutFits self.new.sending (length outgoing.now) }

@@ -1,6 +1,9 @@
 //! Figures 6 to 13 of RFC 9293 (sections 3.5 and 3.6), each as both ends see it.
 
-use crate::{Connection, Event, Segment, State};
+ghost use Rattle.app_connection.specs.Events.{IsShort};
+
+use crate::{Connection, Event, Segment, State as S};
+use Turn::{Close, Gets, Listen, Open, Send, Write};
 use std::process::Abort;
 
 /// A segment, with the number of its bytes.
@@ -32,7 +35,7 @@ enum Turn {
 }
 
 /// What happens, what it sends, and its state then.
-type Row = (Turn, Option<Line>, State);
+type Row = (Turn, Option<Line>, S);
 
 /// One end of a connection.
 #[derive(Debug, Clone, Copy)]
@@ -42,7 +45,7 @@ struct End {
     incoming: [u8; 64],
 }
 
-const TEXT: [u8; 64] = [7; 64];
+const TEXT: [u8; 10] = [7; 10];
 
 fn plain(number: u32, ack: Option<u32>, flags: Flags) -> Line {
     Line {
@@ -78,7 +81,7 @@ fn text(number: u32, ack: u32) -> Line {
         number,
         ack: Some(ack),
         flags: Flags::None,
-        len: 10,
+        len: TEXT.len(),
     }
 }
 
@@ -103,32 +106,51 @@ fn line_of(segment: &Segment) -> Line {
 impl End {
     /// What one turn sends. A connection that is opened by a SYN begins at `fresh`.
     fn turn(&mut self, turn: Turn, fresh: u32) -> Option<Line> {
+        match turn {
+            Turn::Listen => self.step(Event::Listen),
+            Turn::Open(iss) => self.step(Event::Open(iss)),
+            Turn::Gets(line) => self.gets(line, fresh),
+            Turn::Write => {
+                if self.connection.fits(64, 64) {
+                    let _ = self.connection.write(&mut self.outgoing, &TEXT);
+                }
+                None
+            }
+            Turn::Send => self.step(Event::Send(0, 64)),
+            Turn::Close => self.step(Event::Close),
+        }
+    }
+
+    /// What a segment brings about.
+    fn gets(&mut self, line: Line, fresh: u32) -> Option<Line> {
+        let segment = Segment {
+            number: line.number,
+            ack: line.ack,
+            window: 64,
+            syn: line.flags == Flags::Syn,
+            rst: line.flags == Flags::Rst,
+            fin: line.flags == Flags::Fin,
+            payload: &TEXT[..line.len.min(TEXT.len())],
+        };
         if !self.connection.fits(64, 64) {
             return None;
         }
-        let gets;
-        let event = match turn {
-            Turn::Listen => Event::Listen,
-            Turn::Open(iss) => Event::Open(iss),
-            Turn::Gets(line) => {
-                gets = Segment {
-                    number: line.number,
-                    ack: line.ack,
-                    window: 64,
-                    syn: line.flags == Flags::Syn,
-                    rst: line.flags == Flags::Rst,
-                    fin: line.flags == Flags::Fin,
-                    payload: &TEXT[..line.len.min(64)],
-                };
-                Event::Arrives(&gets, fresh)
-            }
-            Turn::Write => {
-                let _ = self.connection.write(&mut self.outgoing, &TEXT[..10]);
-                return None;
-            }
-            Turn::Send => Event::Send(0, 64),
-            Turn::Close => Event::Close,
-        };
+        let event = Event::Arrives(&segment, fresh);
+        let sent = self
+            .connection
+            .step(&self.outgoing, &mut self.incoming, event);
+        match sent {
+            Some(segment) => Some(line_of(&segment)),
+            None => None,
+        }
+    }
+
+    fn step(&mut self, event: Event) -> Option<Line>
+        requires { IsShort event }
+    {
+        if !self.connection.fits(64, 64) {
+            return None;
+        }
         let sent = self
             .connection
             .step(&self.outgoing, &mut self.incoming, event);
@@ -139,275 +161,160 @@ impl End {
     }
 }
 
-/// The rows, in order, from CLOSED on.
+/// The rows, in order, from CLOSED on. Each passive open begins at the next of the numbers.
 fn check(rt: &impl Abort, name: &str, fresh: &[u32], rows: &[Row]) {
     let mut end = End {
         connection: Connection::new(),
         outgoing: [0; 64],
         incoming: [0; 64],
     };
-    let mut opened = 0;
+    let mut listens = 0;
     for (i, (turn, sends, state)) in rows.iter().enumerate() {
-        let number = if opened < fresh.len() {
-            fresh[opened]
+        let number = if listens < fresh.len() {
+            fresh[listens]
         } else {
             0
         };
         let sent = end.turn(*turn, number);
         assert_eq!(rt; sent, *sends, "figure {name}, row {i}");
         assert_eq!(rt; end.connection.state(), *state, "figure {name}, row {i}");
-        if *state == State::Listen && i > 0 {
-            opened = 1;
+        if *state == S::Listen && i > 0 {
+            listens = 1;
         }
     }
 }
 
 #[test]
 fn figure_6(rt: HostRuntime) {
-    check(
-        &rt,
-        "6, A",
-        &[],
-        &[
-            (Turn::Open(100), Some(syn(100)), State::SynSent),
-            (
-                Turn::Gets(syn_ack(300, 101)),
-                Some(ack(101, 301)),
-                State::Established,
-            ),
-            (Turn::Write, None, State::Established),
-            (Turn::Send, Some(text(101, 301)), State::Established),
-        ],
-    );
-    check(
-        &rt,
-        "6, B",
-        &[300],
-        &[
-            (Turn::Listen, None, State::Listen),
-            (
-                Turn::Gets(syn(100)),
-                Some(syn_ack(300, 101)),
-                State::SynReceived,
-            ),
-            (Turn::Gets(ack(101, 301)), None, State::Established),
-            (
-                Turn::Gets(text(101, 301)),
-                Some(ack(301, 111)),
-                State::Established,
-            ),
-        ],
-    );
+    let rows = [
+        (Open(100), Some(syn(100)), S::SynSent),
+        (Gets(syn_ack(300, 101)), Some(ack(101, 301)), S::Established),
+        (Write, None, S::Established),
+        (Send, Some(text(101, 301)), S::Established),
+    ];
+    check(&rt, "6, A", &[], &rows);
+    let rows = [
+        (Listen, None, S::Listen),
+        (Gets(syn(100)), Some(syn_ack(300, 101)), S::SynReceived),
+        (Gets(ack(101, 301)), None, S::Established),
+        (Gets(text(101, 301)), Some(ack(301, 111)), S::Established),
+    ];
+    check(&rt, "6, B", &[300], &rows);
 }
 
 #[test]
 fn figure_7(rt: HostRuntime) {
-    check(
-        &rt,
-        "7, A",
-        &[],
-        &[
-            (Turn::Open(100), Some(syn(100)), State::SynSent),
-            (
-                Turn::Gets(syn(300)),
-                Some(syn_ack(100, 301)),
-                State::SynReceived,
-            ),
-            (Turn::Gets(syn_ack(300, 101)), None, State::Established),
-        ],
-    );
-    check(
-        &rt,
-        "7, B",
-        &[],
-        &[
-            (Turn::Open(300), Some(syn(300)), State::SynSent),
-            (
-                Turn::Gets(syn(100)),
-                Some(syn_ack(300, 101)),
-                State::SynReceived,
-            ),
-            (Turn::Gets(syn_ack(100, 301)), None, State::Established),
-        ],
-    );
+    let rows = [
+        (Open(100), Some(syn(100)), S::SynSent),
+        (Gets(syn(300)), Some(syn_ack(100, 301)), S::SynReceived),
+        (Gets(syn_ack(300, 101)), None, S::Established),
+    ];
+    check(&rt, "7, A", &[], &rows);
+    let rows = [
+        (Open(300), Some(syn(300)), S::SynSent),
+        (Gets(syn(100)), Some(syn_ack(300, 101)), S::SynReceived),
+        (Gets(syn_ack(100, 301)), None, S::Established),
+    ];
+    check(&rt, "7, B", &[], &rows);
+}
+
+// Figure 7, where an old SYN comes to B first. A segment of A that is only in the window does not establish B.
+#[test]
+fn old_syn_in_a_simultaneous_open(rt: HostRuntime) {
+    let rows = [
+        (Open(300), Some(syn(300)), S::SynSent),
+        (Gets(syn(90)), Some(syn_ack(300, 91)), S::SynReceived),
+        (Gets(ack(101, 301)), Some(ack(301, 91)), S::SynReceived),
+        (Gets(rst(92)), Some(ack(301, 91)), S::SynReceived),
+        (Gets(rst(91)), None, S::Closed),
+    ];
+    check(&rt, "7 with an old SYN, B", &[], &rows);
 }
 
 #[test]
 fn figure_8(rt: HostRuntime) {
-    check(
-        &rt,
-        "8, A",
-        &[],
-        &[
-            (Turn::Open(100), Some(syn(100)), State::SynSent),
-            (Turn::Gets(syn_ack(300, 91)), Some(rst(91)), State::SynSent),
-            (
-                Turn::Gets(syn_ack(400, 101)),
-                Some(ack(101, 401)),
-                State::Established,
-            ),
-        ],
-    );
-    check(
-        &rt,
-        "8, B",
-        &[300, 400],
-        &[
-            (Turn::Listen, None, State::Listen),
-            (
-                Turn::Gets(syn(90)),
-                Some(syn_ack(300, 91)),
-                State::SynReceived,
-            ),
-            (Turn::Gets(rst(91)), None, State::Listen),
-            (
-                Turn::Gets(syn(100)),
-                Some(syn_ack(400, 101)),
-                State::SynReceived,
-            ),
-            (Turn::Gets(ack(101, 401)), None, State::Established),
-        ],
-    );
+    let rows = [
+        (Open(100), Some(syn(100)), S::SynSent),
+        (Gets(syn_ack(300, 91)), Some(rst(91)), S::SynSent),
+        (Gets(syn_ack(400, 101)), Some(ack(101, 401)), S::Established),
+    ];
+    check(&rt, "8, A", &[], &rows);
+    let rows = [
+        (Listen, None, S::Listen),
+        (Gets(syn(90)), Some(syn_ack(300, 91)), S::SynReceived),
+        (Gets(rst(91)), None, S::Listen),
+        (Gets(syn(100)), Some(syn_ack(400, 101)), S::SynReceived),
+        (Gets(ack(101, 401)), None, S::Established),
+    ];
+    check(&rt, "8, B", &[300, 400], &rows);
 }
 
 #[test]
 fn figures_9_and_10(rt: HostRuntime) {
-    check(
-        &rt,
-        "9, A",
-        &[],
-        &[
-            (Turn::Open(400), Some(syn(400)), State::SynSent),
-            (Turn::Gets(ack(300, 100)), Some(rst(100)), State::SynSent),
-            (Turn::Send, Some(syn(400)), State::SynSent),
-        ],
-    );
-    check(
-        &rt,
-        "9, B",
-        &[],
-        &[
-            (Turn::Open(299), Some(syn(299)), State::SynSent),
-            (
-                Turn::Gets(syn_ack(99, 300)),
-                Some(ack(300, 100)),
-                State::Established,
-            ),
-            (
-                Turn::Gets(syn(400)),
-                Some(ack(300, 100)),
-                State::Established,
-            ),
-            (Turn::Gets(rst(100)), None, State::Closed),
-        ],
-    );
-    check(
-        &rt,
-        "10, A",
-        &[],
-        &[(Turn::Gets(text(300, 100)), Some(rst(100)), State::Closed)],
-    );
+    let rows = [
+        (Open(400), Some(syn(400)), S::SynSent),
+        (Gets(ack(300, 100)), Some(rst(100)), S::SynSent),
+        (Send, Some(syn(400)), S::SynSent),
+    ];
+    check(&rt, "9, A", &[], &rows);
+    let rows = [
+        (Open(299), Some(syn(299)), S::SynSent),
+        (Gets(syn_ack(99, 300)), Some(ack(300, 100)), S::Established),
+        (Gets(syn(400)), Some(ack(300, 100)), S::Established),
+        (Gets(rst(100)), None, S::Closed),
+    ];
+    check(&rt, "9, B", &[], &rows);
+    let rows = [(Gets(text(300, 100)), Some(rst(100)), S::Closed)];
+    check(&rt, "10, A", &[], &rows);
 }
 
 #[test]
 fn figure_11(rt: HostRuntime) {
-    check(
-        &rt,
-        "11, A",
-        &[1],
-        &[
-            (Turn::Listen, None, State::Listen),
-            (Turn::Gets(syn_ack(700, 501)), Some(rst(501)), State::Listen),
-        ],
-    );
-    check(
-        &rt,
-        "11, B",
-        &[700],
-        &[
-            (Turn::Listen, None, State::Listen),
-            (
-                Turn::Gets(syn(500)),
-                Some(syn_ack(700, 501)),
-                State::SynReceived,
-            ),
-            (Turn::Gets(rst(501)), None, State::Listen),
-        ],
-    );
+    let rows = [
+        (Listen, None, S::Listen),
+        (Gets(syn_ack(700, 501)), Some(rst(501)), S::Listen),
+    ];
+    check(&rt, "11, A", &[1], &rows);
+    let rows = [
+        (Listen, None, S::Listen),
+        (Gets(syn(500)), Some(syn_ack(700, 501)), S::SynReceived),
+        (Gets(rst(501)), None, S::Listen),
+    ];
+    check(&rt, "11, B", &[700], &rows);
 }
 
 #[test]
 fn figure_12(rt: HostRuntime) {
-    check(
-        &rt,
-        "12, A",
-        &[],
-        &[
-            (Turn::Open(99), Some(syn(99)), State::SynSent),
-            (
-                Turn::Gets(syn_ack(299, 100)),
-                Some(ack(100, 300)),
-                State::Established,
-            ),
-            (Turn::Close, None, State::FinWait1),
-            (Turn::Send, Some(fin(100, 300)), State::FinWait1),
-            (Turn::Gets(ack(300, 101)), None, State::FinWait2),
-            (
-                Turn::Gets(fin(300, 101)),
-                Some(ack(101, 301)),
-                State::TimeWait,
-            ),
-            (
-                Turn::Gets(fin(300, 101)),
-                Some(ack(101, 301)),
-                State::TimeWait,
-            ),
-        ],
-    );
-    check(
-        &rt,
-        "12, B",
-        &[],
-        &[
-            (Turn::Open(299), Some(syn(299)), State::SynSent),
-            (
-                Turn::Gets(syn_ack(99, 300)),
-                Some(ack(300, 100)),
-                State::Established,
-            ),
-            (
-                Turn::Gets(fin(100, 300)),
-                Some(ack(300, 101)),
-                State::CloseWait,
-            ),
-            (Turn::Close, None, State::LastAck),
-            (Turn::Send, Some(fin(300, 101)), State::LastAck),
-            (Turn::Gets(ack(101, 301)), None, State::Closed),
-        ],
-    );
+    let rows = [
+        (Open(99), Some(syn(99)), S::SynSent),
+        (Gets(syn_ack(299, 100)), Some(ack(100, 300)), S::Established),
+        (Close, None, S::FinWait1),
+        (Send, Some(fin(100, 300)), S::FinWait1),
+        (Gets(ack(300, 101)), None, S::FinWait2),
+        (Gets(fin(300, 101)), Some(ack(101, 301)), S::TimeWait),
+        (Gets(fin(300, 101)), Some(ack(101, 301)), S::TimeWait),
+    ];
+    check(&rt, "12, A", &[], &rows);
+    let rows = [
+        (Open(299), Some(syn(299)), S::SynSent),
+        (Gets(syn_ack(99, 300)), Some(ack(300, 100)), S::Established),
+        (Gets(fin(100, 300)), Some(ack(300, 101)), S::CloseWait),
+        (Close, None, S::LastAck),
+        (Send, Some(fin(300, 101)), S::LastAck),
+        (Gets(ack(101, 301)), None, S::Closed),
+    ];
+    check(&rt, "12, B", &[], &rows);
 }
 
 #[test]
 fn figure_13(rt: HostRuntime) {
-    check(
-        &rt,
-        "13, A",
-        &[],
-        &[
-            (Turn::Open(99), Some(syn(99)), State::SynSent),
-            (
-                Turn::Gets(syn_ack(299, 100)),
-                Some(ack(100, 300)),
-                State::Established,
-            ),
-            (Turn::Close, None, State::FinWait1),
-            (Turn::Send, Some(fin(100, 300)), State::FinWait1),
-            (
-                Turn::Gets(fin(300, 100)),
-                Some(ack(101, 301)),
-                State::Closing,
-            ),
-            (Turn::Gets(ack(301, 101)), None, State::TimeWait),
-        ],
-    );
+    let rows = [
+        (Open(99), Some(syn(99)), S::SynSent),
+        (Gets(syn_ack(299, 100)), Some(ack(100, 300)), S::Established),
+        (Close, None, S::FinWait1),
+        (Send, Some(fin(100, 300)), S::FinWait1),
+        (Gets(fin(300, 100)), Some(ack(101, 301)), S::Closing),
+        (Gets(ack(301, 101)), None, S::TimeWait),
+    ];
+    check(&rt, "13, A", &[], &rows);
 }

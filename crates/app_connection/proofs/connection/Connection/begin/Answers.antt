@@ -1,6 +1,6 @@
-use Rattle.std.proofs.Common.{◌≡◌, refl, ap, subst, sym, ℕ, List, [], ◌∷◌, length, arith}
+use Rattle.std.proofs.Common.{◌≡◌, refl, subst, ℕ, List, [], ◌∷◌, length, arith}
 use Rattle.tcp_model.specs.Endpoint.{Item, Syn}
-use Rattle.tcp_model.specs.Network.{World, Send, happens, start}
+use Rattle.tcp_model.specs.Network.{Send, happens, start}
 use Rattle.app_tcp.specs.Items.{items_of}
 use Rattle.app_tcp.specs.Waits.{Waits, from_of}
 use Rattle.app_connection.proofs.connection.Connection.begin.Goals as goal

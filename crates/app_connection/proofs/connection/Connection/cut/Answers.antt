@@ -1,7 +1,7 @@
-use Rattle.std.proofs.Common.{◌≡◌, ℕ, List, [], ◌∷◌, length}
-use Rattle.tcp_model.specs.Network.{World, Send, happens}
+use Rattle.std.proofs.Common.{[], ◌∷◌, length}
+use Rattle.tcp_model.specs.Network.{Send}
 use Rattle.app_tcp.specs.Items.{items_of}
-use Rattle.app_tcp.specs.Waits.{Waits, from_of}
+use Rattle.app_tcp.specs.Waits.{from_of}
 use Rattle.app_connection.proofs.connection.Connection.cut.Goals as goal
 
 pub returns-then-not-part-2-clause-waits : goal.returns-then-not-part-2-clause-waits

@@ -1,9 +1,8 @@
 use Rattle.std.proofs.Common.{refl, sym, subst, ℕ}
 use Rattle.app_tcp.specs.Stands.{Stands}
-use Rattle.app_tcp.specs.Waits.{Waits, AckComes}
+use Rattle.app_tcp.specs.Waits.{AckComes}
 use Rattle.app_tcp.specs.declared.receiving.Receiving.{Receiving}
-use Rattle.app_tcp.specs.declared.sending.Sending.{Sending}
-use Rattle.app_connection.proofs.Going.{went, went_still, waits_as, waits_now, stands_as, stands_now, ack_of, text_of}
+use Rattle.app_connection.proofs.Going.{went, went_still, waits_as, ack_of, text_of}
 use Rattle.app_connection.proofs.connection.Connection.in_open.Goals as goal
 
 pub returns-in_default-clause-goes : goal.returns-in_default-clause-goes

@@ -1,9 +1,8 @@
 use Rattle.std.proofs.Common.{refl, sym, subst, ℕ}
 use Rattle.app_tcp.specs.Stands.{Stands}
-use Rattle.app_tcp.specs.Waits.{Waits, AckComes}
+use Rattle.app_tcp.specs.Waits.{AckComes}
 use Rattle.app_tcp.specs.declared.receiving.Receiving.{Receiving}
-use Rattle.app_tcp.specs.declared.sending.Sending.{Sending}
-use Rattle.app_connection.proofs.Going.{went, went_still, waits_as, waits_now, stands_as, stands_now, ack_of, text_of}
+use Rattle.app_connection.proofs.Going.{went, went_still, waits_as, stands_as, stands_now, ack_of, text_of}
 use Rattle.app_connection.proofs.connection.Connection.in_syn_received.Goals as goal
 
 pub returns-then-segment-clause-goes : goal.returns-then-segment-clause-goes
@@ -20,8 +19,8 @@ returns-then-not-is_acceptable-clause-goes c = λ there back consumed comes stan
 pub returns-in_default-clause-goes : goal.returns-in_default-clause-goes
 returns-in_default-clause-goes c = λ there back consumed comes stand. went_still there back consumed c.args.self.now c.args.self.now c.args.outgoing.now c.args.incoming.now refl refl stand
 
-pub returns-then-ack-self-clause-goes : goal.returns-then-ack-self-clause-goes
-returns-then-ack-self-clause-goes c = λ there back consumed comes stand. went_still there back consumed c.args.self.now c.args.self.now c.args.outgoing.now c.args.incoming.now refl refl stand
+pub returns-then-ack-first-clause-goes : goal.returns-then-ack-first-clause-goes
+returns-then-ack-first-clause-goes c = λ there back consumed comes stand. went_still there back consumed c.args.self.now c.args.self.now c.args.outgoing.now c.args.incoming.now refl refl stand
 
 pub returns-then-segment-next-clause-goes : goal.returns-then-segment-next-clause-goes
 returns-then-segment-next-clause-goes c = λ there back consumed comes stand. went_still there back consumed c.args.self.now c.args.self.now c.args.outgoing.now c.args.incoming.now refl refl stand

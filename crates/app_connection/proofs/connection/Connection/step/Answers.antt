@@ -10,7 +10,7 @@ use Rattle.app_connection.specs.Endpoints.{endpoint_in, endpoint_of, control_of}
 use Rattle.app_connection.specs.Events.{ComesBy, IsMove}
 use Rattle.app_connection.specs.SetUp.{Endpoint, In_closed, In_syn_sent, Control, hears}
 use Rattle.app_connection.specs.States.{may_close, has_peer, state_from}
-use Rattle.app_connection.specs.Worlds.{Stand, Went, WaitsLater, Arrives}
+use Rattle.app_connection.specs.Worlds.{Went, WaitsLater, Arrives}
 use Rattle.app_connection.proofs.Going.{went, went_still, waits_as, waits_now, stands_as, stands_now}
 use Rattle.app_connection.proofs.connection.Connection.step.Goals as goal
 use Rattle.app_connection.proofs.connection.Connection.step.Goals.{in-Open, in-Arrives, in-Abort}
