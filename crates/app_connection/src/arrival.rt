@@ -1,6 +1,6 @@
 //! A segment arrives (RFC 9293, section 3.10.7; RFC 5961).
 
-ghost use Rattle.std.specs.Prelude.{◌≡◌, ◌≢◌, ◌⊎◌, ◌&&◌, ◌∷◌, ◌+◌, ◌%◌, ◌<◌, ℕ, List, [], length, Bool, true, false, if◌then◌else◌, IfSome, Some, None};
+ghost use Rattle.std.specs.Prelude.{◌≡◌, ◌≢◌, ◌⊎◌, ◌&&◌, ◌==◌, ◌∷◌, ◌+◌, ◌%◌, ◌<◌, ℕ, List, [], length, Bool, true, false, if◌then◌else◌, IfSome, Some, None};
 ghost use Rattle.tcp_model.specs.Endpoint.{Item, Syn};
 ghost use Rattle.tcp_model.specs.Network.{World, Event, Send, happens, run, start};
 ghost use Rattle.app_tcp.specs.Items.{items_of};
@@ -8,7 +8,7 @@ ghost use Rattle.app_tcp.specs.Stands.{Stands, SegmentComes, room_of};
 ghost use Rattle.app_tcp.specs.Waits.{Waits, AckComes};
 ghost use Rattle.app_connection.specs.declared.state.Phase.TheVariants.{Listen, SynSent, SynReceived, Open};
 ghost use Rattle.app_connection.specs.Sequence.{after, is_acceptable_at};
-ghost use Rattle.app_connection.specs.SetUp.{hears, hears_in_listen, hears_in_syn_sent, hears_syn_again, hears_in_syn_received, reset_of, In_closed};
+ghost use Rattle.app_connection.specs.SetUp.{is_ack_of, hears, hears_in_listen, hears_in_syn_sent, hears_syn_again, hears_in_syn_received, reset_of, In_closed};
 ghost use Rattle.app_connection.specs.Endpoints.{endpoint_of, control_of, len_of, OutFits, InFits, IsLegal, refused, takes_window};
 ghost use Rattle.app_connection.specs.States.{state_from};
 ghost use Rattle.app_connection.specs.Worlds.{Arrives, Stand, Went, WaitsLater, StandsLater, IsAnswered};
@@ -154,7 +154,6 @@ impl Connection {
         ensures goes { (there back : World) (consumed : List ℕ) → Arrives there back segment.now → Stand there back consumed self.old outgoing.now incoming.old → Went there back consumed self.new outgoing.now incoming.new }
     {
         let next = self.irs.wrapping_add(1);
-        let first = self.iss.wrapping_add(1);
         let room = self.room(incoming.len());
         if segment.rst {
             return self.on_reset(segment.number, next, room, self.first_ack());
@@ -172,14 +171,30 @@ impl Connection {
         let Some(ack) = segment.ack else {
             return None;
         };
-        if ack != first {
-            return Some(Reply::reset(ack));
-        }
-        if segment.number != next {
-            return Some(self.first_ack());
+        if !self.is_first_answer(segment.number, ack) {
+            return Some(self.objection(ack));
         }
         self.establish(outgoing, segment, ack);
         self.take_text(incoming, segment)
+    }
+
+    // Whether a segment in SYN-RECEIVED acknowledges the SYN, and is at RCV.NXT.
+    fn is_first_answer(&self, number: u32, ack: u32) -> bool
+        ensures { result ≡ (is_ack_of self.now.iss (Some ack) && number == after self.now.irs) }
+    {
+        ack == self.iss.wrapping_add(1) && number == self.irs.wrapping_add(1)
+    }
+
+    // The reply to an acknowledgement that establishes nothing: a RST if it is not of the SYN.
+    fn objection(&self, ack: u32) -> Reply
+        requires { self.now.phase ≡ SynReceived }
+        ensures { IsLegal (endpoint_of self.now) result }
+    {
+        if ack == self.iss.wrapping_add(1) {
+            self.first_ack()
+        } else {
+            Reply::reset(ack)
+        }
     }
 
     // A SYN in SYN-RECEIVED.

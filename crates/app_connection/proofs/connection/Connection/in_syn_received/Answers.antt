@@ -19,11 +19,8 @@ returns-then-not-is_acceptable-clause-goes c = λ there back consumed comes stan
 pub returns-in_default-clause-goes : goal.returns-in_default-clause-goes
 returns-in_default-clause-goes c = λ there back consumed comes stand. went_still there back consumed c.args.self.now c.args.self.now c.args.outgoing.now c.args.incoming.now refl refl stand
 
-pub returns-then-ack-first-clause-goes : goal.returns-then-ack-first-clause-goes
-returns-then-ack-first-clause-goes c = λ there back consumed comes stand. went_still there back consumed c.args.self.now c.args.self.now c.args.outgoing.now c.args.incoming.now refl refl stand
-
-pub returns-then-segment-next-clause-goes : goal.returns-then-segment-next-clause-goes
-returns-then-segment-next-clause-goes c = λ there back consumed comes stand. went_still there back consumed c.args.self.now c.args.self.now c.args.outgoing.now c.args.incoming.now refl refl stand
+pub returns-then-not-is_first_answer-clause-goes : goal.returns-then-not-is_first_answer-clause-goes
+returns-then-not-is_first_answer-clause-goes c = λ there back consumed comes stand. went_still there back consumed c.args.self.now c.args.self.now c.args.outgoing.now c.args.incoming.now refl refl stand
 
 pub returns-clause-goes : goal.returns-clause-goes
 returns-clause-goes c = λ there back consumed comes stand.
