@@ -91,7 +91,8 @@ reset_of (In_syn_sent iss) = In_closed
 reset_of (In_syn_received passive iss irs) = back_from passive
 reset_of (In_established iss irs) = In_closed
 
--- Whether an endpoint may send this. Any RST may be sent at any time.
+-- Whether an endpoint may send this. Any RST may be sent at any time. A segment of an established endpoint that acknowledges text
+-- too counts as one of another connection (is_stray).
 abbrev pub may_send : Endpoint → Control → Bool
 may_send In_closed c = c.rst
 may_send In_listen c = c.rst
