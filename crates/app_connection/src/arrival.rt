@@ -216,7 +216,7 @@ impl Connection {
             && let Some(ack) = segment.ack
         {
             if ack != self.iss.wrapping_add(1) {
-                return Some(Reply::reset(ack));
+                return Some(self.first_ack());
             }
             self.establish(outgoing, segment, ack);
             return None;

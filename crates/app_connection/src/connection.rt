@@ -148,7 +148,8 @@ impl Connection {
         }
     }
 
-    /// The next bytes for the application, at most `count`. They end at the end of the ring: then the next call has the others.
+    /// The next bytes for the application, at most `count`, and none in LISTEN. They end at the end of the ring: then the next
+    /// call has the others.
     pub fn read<'a>(&mut self, incoming: &'a [u8], count: usize) -> &'a [u8]
         requires { InFits self.old.receiving (length incoming.now) }
         ensures rings { InFits self.new.receiving (length incoming.now) }
@@ -158,7 +159,19 @@ impl Connection {
         ensures stands { (back : World) (consumed : List ℕ) → Stands back.receiver consumed self.old.receiving incoming.now → Stands back.receiver (consumed ++ result.now) self.new.receiving incoming.now }
         ensures delivers { (initial : ℕ) (events : List Event) (consumed : List ℕ) → let back : World = run events (start initial) in Stands back.receiver consumed self.old.receiving incoming.now → IsPrefixOf (consumed ++ result.now) back.written }
     {
+        let count = self.readable(count);
         self.receiving.read(incoming, count)
+    }
+
+    // How many of so many bytes may be read: none in LISTEN, where what came belongs to an earlier connection.
+    fn readable(&self, count: usize) -> usize
+        ensures { result ≤ count }
+    {
+        if self.phase == Phase::Listen {
+            0
+        } else {
+            count
+        }
     }
 
     /// Whether the application has read all that the peer wrote, and the peer has closed.
@@ -234,7 +247,10 @@ impl Connection {
                 incoming,
                 Some(self.irs.wrapping_add(1)),
             )),
-            _ => self.cut(outgoing, incoming, offset, count),
+            _ if self.sending.has_next(offset, count) => self.cut(
+                outgoing, incoming, offset, count,
+            ),
+            _ => None,
         }
     }
 
@@ -324,6 +340,7 @@ impl Connection {
     {
         self.iss = iss;
         self.is_peer_first = false;
+        self.wnd = 0;
         self.sending = Sending::new(iss);
         self.receiving = Receiving::new();
         let _ = self.sending.segment(outgoing, 0, 1);

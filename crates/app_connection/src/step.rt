@@ -80,7 +80,7 @@ impl Connection {
         Some(Segment {
             number: reply.number,
             ack: reply.ack,
-            window: self.room(incoming),
+            window: if reply.rst { 0 } else { self.room(incoming) },
             syn: reply.syn,
             rst: reply.rst,
             fin: false,

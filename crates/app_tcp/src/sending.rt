@@ -1,6 +1,6 @@
 //! The sending half: what the application wrote and the peer did not acknowledge yet (RFC 9293, section 3.3.1).
 
-ghost use Rattle.std.specs.Prelude.{◌≡◌, ◌+◌, ◌-◌, ◌%◌, ◌≤◌, ◌<◌, ℕ, Bool, List, [], ◌∷◌, length, take, drop, min, true, false, if◌then◌else◌};
+ghost use Rattle.std.specs.Prelude.{◌≡◌, ◌&&◌, ◌||◌, nat_lt, ◌+◌, ◌-◌, ◌%◌, ◌≤◌, ◌<◌, ℕ, Bool, List, [], ◌∷◌, length, take, drop, min, true, false, if◌then◌else◌};
 ghost use Rattle.tcp_model.specs.Endpoint.{Item, Syn};
 ghost use Rattle.tcp_model.specs.Network.{World, Event, Write, Close, Send, Ack_comes, happens, run, start, number_at};
 ghost use Rattle.app_tcp.specs.Items.{items_of, syn_of};
@@ -259,5 +259,12 @@ impl Sending {
         ensures { result ≡ self.now.has_fin }
     {
         self.has_fin
+    }
+
+    /// Whether `segment` has something to send, from `offset` after SND.UNA on, with at most `count` bytes.
+    pub fn has_next(&self, offset: usize, count: usize) -> bool
+        ensures { result ≡ (nat_lt 0 count && (self.now.has_syn || (self.now.has_fin || nat_lt offset self.now.len))) }
+    {
+        count > 0 && (self.has_syn || self.has_fin || offset < self.len)
     }
 }
