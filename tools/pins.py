@@ -13,6 +13,7 @@ PATHS = {
     "apps": "crates/test_apps/src/tests/{}.rt",
     "fragments": "crates/test_fragments/src/tests/{}.rt",
     "tcp": "crates/app_tcp/src/tests/{}.rt",
+    "connection": "crates/app_connection/src/tests/{}.rt",
     "promises": "crates/promises/src/{}.rt",
     "cases": "tests/data/cases/{}.hex",
     "calls": "tests/data/calls/{}.call",

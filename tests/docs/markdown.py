@@ -28,7 +28,7 @@ LONGEST = {
     "docs/GUIDE.md": 250,
     "docs/CONTRACTS.md": 260,
     "docs/C.md": 150,
-    "docs/USES.md": 325,
+    "docs/USES.md": 350,
     "docs/ROUTER.md": 200,
     "docs/DIFFERENCES.md": 150,
     "docs/TRUST.md": 180,
@@ -39,7 +39,7 @@ LONGEST = {
     "bindings/python/README.md": 100,
     "bindings/go/README.md": 60,
 }
-MOST = 2560
+MOST = 2585
 # Names of old commits, of smoltcp, of the standard library and of Linux.
 FOREIGN = {"ip_nat", "pretty_print", "AsMut", "is_private", "to_ipv6_mapped", "CAP_NET_ADMIN",
            "CAP_NET_RAW", "frame_raw"}

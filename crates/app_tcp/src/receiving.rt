@@ -218,3 +218,12 @@ impl Receiving {
             && self.kept <= size - self.len - self.gap
     }
 }
+
+impl Receiving {
+    /// Whether the FIN of the peer came, after all its bytes.
+    pub fn has_fin(&self) -> bool
+        ensures { result ≡ self.now.has_fin }
+    {
+        self.has_fin
+    }
+}

@@ -1,7 +1,7 @@
 //! The sending half: what the application wrote and the peer did not acknowledge yet (RFC 9293, section 3.3.1).
 
-ghost use Rattle.std.specs.Prelude.{◌≡◌, ◌+◌, ◌-◌, ◌%◌, ◌≤◌, ◌<◌, ℕ, Bool, List, length, take, drop, min, true, false, if◌then◌else◌};
-ghost use Rattle.tcp_model.specs.Endpoint.{Item};
+ghost use Rattle.std.specs.Prelude.{◌≡◌, ◌&&◌, ◌||◌, nat_lt, ◌+◌, ◌-◌, ◌%◌, ◌≤◌, ◌<◌, ℕ, Bool, List, [], ◌∷◌, length, take, drop, min, true, false, if◌then◌else◌};
+ghost use Rattle.tcp_model.specs.Endpoint.{Item, Syn};
 ghost use Rattle.tcp_model.specs.Network.{World, Event, Write, Close, Send, Ack_comes, happens, run, start, number_at};
 ghost use Rattle.app_tcp.specs.Items.{items_of, syn_of};
 ghost use Rattle.app_tcp.specs.Waits.{Waits, AckComes, IsSend, from_of, pending, rest_of};
@@ -42,6 +42,7 @@ impl Sending {
     pub fn new(initial: u32) -> Sending
         ensures start { result.start ≡ 0 }
         ensures len { result.len ≡ 0 }
+        ensures syn { result.has_syn ≡ true }
         ensures waits { (buffer : List ℕ) → Waits (start initial) result buffer }
     {
         Sending {
@@ -88,6 +89,8 @@ impl Sending {
     pub fn close(&mut self)
         ensures start { self.new.start ≡ self.old.start }
         ensures len { self.new.len ≡ self.old.len }
+        ensures closed { self.new.is_closed ≡ true }
+        ensures fin { self.old.is_closed ≡ false → self.new.has_fin ≡ true }
         ensures waits { (w : World) (buffer : List ℕ) → Waits w self.old buffer → Waits (happens w Close) self.new buffer }
     {
         if !self.is_closed {
@@ -129,6 +132,7 @@ impl Sending {
         ensures few { length result.payload.now ≤ count }
         ensures inner { length result.payload.now ≤ length ring.now }
         ensures syn { self.old.has_syn ≡ false → result.syn ≡ false }
+        ensures first { self.old.has_syn ≡ true → offset ≡ 0 → items_of result.syn result.payload.now result.fin ≡ Syn ∷ [] }
     {
         let from = offset.min(self.syn_len() + self.len);
         let segment = self.cut(ring, from, count);
@@ -160,6 +164,7 @@ impl Sending {
         ensures few { length result.payload.now ≤ count }
         ensures inner { length result.payload.now ≤ length ring.now }
         ensures syn { self.now.has_syn ≡ false → result.syn ≡ false }
+        ensures first { self.now.has_syn ≡ true → from ≡ 0 → items_of result.syn result.payload.now result.fin ≡ Syn ∷ [] }
     {
         if self.has_syn && from == 0 {
             return Segment {
@@ -224,5 +229,42 @@ impl Sending {
             self.start = wrapped(self.start + count, size);
             self.len -= count;
         }
+    }
+}
+
+impl Sending {
+    /// The oldest number that is not acknowledged (SND.UNA).
+    pub fn una(&self) -> u32
+        ensures { result ≡ self.now.una }
+    {
+        self.una
+    }
+
+    /// The number after the last one that was sent (SND.NXT).
+    pub fn next(&self) -> u32
+        ensures { result ≡ (self.now.una + self.now.flight) % 4294967296 }
+    {
+        self.una.wrapping_add(self.flight)
+    }
+
+    /// Whether `close` was called.
+    pub fn is_closed(&self) -> bool
+        ensures { result ≡ self.now.is_closed }
+    {
+        self.is_closed
+    }
+
+    /// Whether there is a FIN that the peer did not acknowledge.
+    pub fn has_fin(&self) -> bool
+        ensures { result ≡ self.now.has_fin }
+    {
+        self.has_fin
+    }
+
+    /// Whether `segment` has something to send, from `offset` after SND.UNA on, with at most `count` bytes.
+    pub fn has_next(&self, offset: usize, count: usize) -> bool
+        ensures { result ≡ (nat_lt 0 count && (self.now.has_syn || (self.now.has_fin || nat_lt offset self.now.len))) }
+    {
+        count > 0 && (self.has_syn || self.has_fin || offset < self.len)
     }
 }

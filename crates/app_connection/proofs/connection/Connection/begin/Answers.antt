@@ -1,0 +1,15 @@
+use Rattle.std.proofs.Common.{◌≡◌, refl, subst, ℕ, List, [], ◌∷◌, length, arith}
+use Rattle.tcp_model.specs.Endpoint.{Item, Syn}
+use Rattle.tcp_model.specs.Network.{Send, happens, start}
+use Rattle.app_tcp.specs.Items.{items_of}
+use Rattle.app_tcp.specs.Waits.{Waits, from_of}
+use Rattle.app_connection.proofs.connection.Connection.begin.Goals as goal
+
+pub returns-clause-waits : goal.returns-clause-waits
+returns-clause-waits c =
+    let w = start c.args.iss in
+    let first : items_of c.segment.result.syn c.segment.result.payload.now c.segment.result.fin ≡ Syn ∷ [] = c.segment.ensures.first c.new-self.ensures.syn refl in
+    let zero : from_of c.new-self.result 0 ≡ 0 = omega arith in
+    subst (λ (l : List Item). Waits (happens w (Send 0 (length l))) c.segment.new.self c.args.outgoing.now) first
+    (subst (λ (n : ℕ). Waits (happens w (Send n (length (items_of c.segment.result.syn c.segment.result.payload.now c.segment.result.fin)))) c.segment.new.self c.args.outgoing.now) zero
+    (c.segment.ensures.waits w (c.new-self.ensures.waits c.args.outgoing.now)))

@@ -1,0 +1,36 @@
+-- The events of a connection.
+-- Pinned by: `connection/figures`
+use Rattle.std.specs.Prelude.{ℕ, ◌≡◌, ◌⊎◌, ◌<◌, length}
+use Rattle.tcp_model.specs.Network.{World}
+use Rattle.app_connection.specs.Endpoints.{control_of}
+use Rattle.app_connection.specs.SetUp.{Endpoint, In_closed, In_listen, In_syn_sent, hears}
+use Rattle.app_connection.specs.Worlds.{Arrives}
+use Rattle.app_connection.specs.declared.step.Event.{Event}
+use Rattle.app_connection.specs.declared.step.Event.TheVariants as event
+
+-- a segment has the size of one of TCP
+abbrev pub IsShort : Event → Type 0
+IsShort event.Listen = Unit {0}
+IsShort (event.Open iss) = Unit {0}
+IsShort (event.Arrives segment iss) = length segment.now.payload.now < 65536
+IsShort (event.Send offset count) = Unit {0}
+IsShort event.Close = Unit {0}
+IsShort event.Abort = Unit {0}
+
+-- Events that go on with these histories: a segment is one of them. An active open begins others.
+abbrev pub ComesBy : Event → World → World → Type 0
+ComesBy event.Listen there back = Unit {0}
+ComesBy (event.Open iss) there back = ⊥
+ComesBy (event.Arrives segment iss) there back = Arrives there back segment.now
+ComesBy (event.Send offset count) there back = Unit {0}
+ComesBy event.Close there back = Unit {0}
+ComesBy event.Abort there back = Unit {0}
+
+-- What an event makes of an endpoint with this window: a move of the set-up. A segment is heard, or resets the connection.
+abbrev pub IsMove : Event → ℕ → Endpoint → Endpoint → Type 0
+IsMove event.Listen window old new = (new ≡ old) ⊎ (new ≡ In_listen)
+IsMove (event.Open iss) window old new = (new ≡ old) ⊎ (new ≡ In_syn_sent iss)
+IsMove (event.Arrives segment iss) window old new = (new ≡ hears old (control_of segment.now) window iss) ⊎ (new ≡ In_closed)
+IsMove (event.Send offset count) window old new = new ≡ old
+IsMove event.Close window old new = (new ≡ old) ⊎ (new ≡ In_closed)
+IsMove event.Abort window old new = new ≡ In_closed

@@ -1,0 +1,64 @@
+-- What a connection stands for in the histories of both directions: `there` is the stream that it writes, `back` the one that it
+-- reads.
+-- Pinned by: `connection/figures`
+use Rattle.std.specs.Prelude.{ℕ, ◌≡◌, ◌<◌, ◌⊎◌, List, length, true, false, IfSome}
+use Rattle.tcp_model.specs.Network.{World, Event, run, stream, is_ended}
+use Rattle.app_tcp.specs.Items.{items_of}
+use Rattle.app_tcp.specs.Stands.{Stands, SegmentComes, IsAnswer}
+use Rattle.app_tcp.specs.Waits.{Waits, AckComes}
+use Rattle.app_tcp.specs.declared.receiving.Receiving.{Receiving}
+use Rattle.app_tcp.specs.declared.sending.Sending.{Sending}
+use Rattle.app_connection.specs.declared.connection.Connection.{Connection}
+use Rattle.app_connection.specs.declared.segment.Segment.{Segment}
+use Rattle.app_connection.specs.declared.segment.Reply.{Reply}
+use Rattle.app_connection.specs.declared.state.State.{State}
+use Rattle.app_connection.specs.declared.state.State.TheVariants.{Closed, Listen, SynSent, SynReceived, Established, FinWait1, FinWait2, CloseWait, Closing, LastAck, TimeWait}
+
+-- a segment of these histories comes: its items were sent in one, its acknowledgement in the other
+pub record Arrives (there back : World) (s : Segment) : Type 0 where
+  pub event : ℕ → Event
+  pub text : SegmentComes back event s.number (items_of s.syn s.payload.now s.fin)
+  pub ack : IfSome s.ack (λ number. (which : ℕ) × AckComes there which number)
+
+-- both halves stand for these histories, of whose bytes the application has read the first
+pub record Stand (there back : World) (consumed : List ℕ) (c : Connection) (outgoing incoming : List ℕ) : Type 0 where
+  pub waits : Waits there c.sending outgoing
+  pub stands : Stands back.receiver consumed c.receiving incoming
+
+-- they stand for these histories after further events
+pub record Went (there back : World) (consumed : List ℕ) (c : Connection) (outgoing incoming : List ℕ) : Type 0 where
+  pub acks : List Event
+  pub texts : List Event
+  pub stand : Stand (run acks there) (run texts back) consumed c outgoing incoming
+
+-- the sending half waits in the history after further events
+pub record WaitsLater (there : World) (s : Sending) (outgoing : List ℕ) : Type 0 where
+  pub events : List Event
+  pub waits : Waits (run events there) s outgoing
+
+-- the receiving half stands for the receiver after further events
+pub record StandsLater (back : World) (consumed : List ℕ) (r : Receiving) (incoming : List ℕ) : Type 0 where
+  pub events : List Event
+  pub stands : Stands (run events back).receiver consumed r incoming
+
+-- all that was written and the end were acknowledged
+abbrev pub IsDone : World → Type 0
+IsDone w = w.acked ≡ length (stream w.written w.closed)
+
+-- what a state says of the histories
+abbrev pub TellsState : State → World → World → Type 0
+TellsState Closed there back = Unit {0}
+TellsState Listen there back = Unit {0}
+TellsState SynSent there back = Unit {0}
+TellsState SynReceived there back = Unit {0}
+TellsState Established there back = (there.closed ≡ false) × (is_ended back.receiver.got ≡ false)
+TellsState FinWait1 there back = (there.closed ≡ true) × (there.acked < length (stream there.written there.closed)) × (is_ended back.receiver.got ≡ false)
+TellsState FinWait2 there back = (there.closed ≡ true) × IsDone there × (is_ended back.receiver.got ≡ false)
+TellsState CloseWait there back = (there.closed ≡ false) × (is_ended back.receiver.got ≡ true)
+TellsState Closing there back = (there.closed ≡ true) × (there.acked < length (stream there.written there.closed)) × (is_ended back.receiver.got ≡ true)
+TellsState LastAck there back = (there.closed ≡ true) × (there.acked < length (stream there.written there.closed)) × (is_ended back.receiver.got ≡ true)
+TellsState TimeWait there back = (there.closed ≡ true) × IsDone there × (is_ended back.receiver.got ≡ true)
+
+-- the acknowledgement of a reply is what the receiver answers
+abbrev pub IsAnswered : World → Reply → Type 0
+IsAnswered back r = (r.rst ≡ true) ⊎ IfSome r.ack (λ number. IsAnswer back number)

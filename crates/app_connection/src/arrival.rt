@@ -1,0 +1,397 @@
+//! A segment arrives (RFC 9293, section 3.10.7; RFC 5961).
+
+ghost use Rattle.std.specs.Prelude.{◌≡◌, ◌≢◌, ◌⊎◌, ◌&&◌, ◌==◌, ◌∷◌, ◌+◌, ◌%◌, ◌<◌, ℕ, List, [], length, Bool, true, false, if◌then◌else◌, IfSome, Some, None};
+ghost use Rattle.tcp_model.specs.Endpoint.{Item, Syn};
+ghost use Rattle.tcp_model.specs.Network.{World, Event, Send, happens, run, start};
+ghost use Rattle.app_tcp.specs.Items.{items_of};
+ghost use Rattle.app_tcp.specs.Stands.{Stands, SegmentComes, room_of};
+ghost use Rattle.app_tcp.specs.Waits.{Waits, AckComes};
+ghost use Rattle.app_connection.specs.declared.state.Phase.TheVariants.{Listen, SynSent, SynReceived, Open};
+ghost use Rattle.app_connection.specs.Sequence.{after, is_acceptable_at};
+ghost use Rattle.app_connection.specs.SetUp.{is_ack_of, hears, hears_in_listen, hears_in_syn_sent, hears_syn_again, hears_in_syn_received, reset_of, In_closed};
+ghost use Rattle.app_connection.specs.Endpoints.{endpoint_of, control_of, len_of, OutFits, InFits, IsLegal, refused, takes_window};
+ghost use Rattle.app_connection.specs.States.{state_from};
+ghost use Rattle.app_connection.specs.Worlds.{Arrives, Stand, Went, WaitsLater, StandsLater, IsAnswered};
+
+use crate::connection::Connection;
+use crate::segment::{Reply, Segment, refusal};
+use crate::sequence::{is_acceptable, is_before, is_in_window};
+use crate::state::{Phase, State};
+
+impl Connection {
+    /// Takes a segment that comes, and returns what to send at once. `fresh` becomes ISS if the segment opens a connection in
+    /// LISTEN (RFC 6528).
+    pub fn on_segment(
+        &mut self,
+        outgoing: &[u8],
+        incoming: &mut [u8],
+        segment: &Segment,
+        fresh: u32,
+    ) -> Option<Reply>
+        requires text { length segment.now.payload.now < 65536 }
+        requires out { OutFits self.old.sending (length outgoing.now) }
+        requires rings { InFits self.old.receiving (length incoming.old) }
+        ensures out { OutFits self.new.sending (length outgoing.now) }
+        ensures rings { InFits self.new.receiving (length incoming.old) }
+        ensures set_up { (self.old.phase ≡ Open → ⊥) → endpoint_of self.new ≡ hears (endpoint_of self.old) (control_of segment.now) (room_of self.old.receiving (length incoming.old)) fresh }
+        ensures legal { (self.old.phase ≡ Open → ⊥) → IfSome result (λ r. IsLegal (endpoint_of self.new) r) }
+        ensures waits { self.old.phase ≡ Listen → self.new.phase ≡ SynReceived → Waits (happens (start fresh) (Send 0 1)) self.new.sending outgoing.now }
+        ensures stands { self.old.phase ≡ Listen → self.new.phase ≡ SynReceived → (initial : ℕ) (event : ℕ → Event) (rest : List Item) (buffer : List ℕ) → SegmentComes (start initial) event segment.now.number (Syn ∷ rest) → Stands (happens (start initial) (event 1)).receiver [] self.new.receiving buffer }
+        ensures goes { (self.old.phase ≡ Listen → ⊥) → (there back : World) (consumed : List ℕ) → Arrives there back segment.now → Stand there back consumed self.old outgoing.now incoming.old → Went there back consumed self.new outgoing.now incoming.new }
+        ensures beside { self.old.phase ≡ Open → segment.now.rst ≡ true → segment.now.number ≢ self.old.receiving.next → self.new ≡ self.old }
+        ensures syn { self.old.phase ≡ Open → segment.now.rst ≡ false → segment.now.syn ≡ true → self.new ≡ self.old }
+        ensures outside { self.old.phase ≡ Open → segment.now.rst ≡ false → is_acceptable_at self.old.receiving.next (room_of self.old.receiving (length incoming.old)) segment.now.number (len_of segment.now) ≡ false → self.new ≡ self.old }
+        ensures keeps { self.old.phase ≡ Open → segment.now.rst ≡ false → endpoint_of self.new ≡ endpoint_of self.old }
+        ensures acts { self.old.phase ≡ Open → (endpoint_of self.new ≡ endpoint_of self.old) ⊎ (endpoint_of self.new ≡ In_closed) }
+        ensures window { self.old.phase ≡ Open → ((ack : ℕ) → segment.now.ack ≡ Some ack → takes_window self.old segment.now ack ≡ false) → self.new.wnd ≡ self.old.wnd }
+        ensures answers { self.old.phase ≡ Open → IfSome result (λ r. (back : World) (consumed : List ℕ) → Stands back.receiver consumed self.new.receiving incoming.new → IsAnswered back r) }
+        ensures closed { state_from self.old ≡ State.Closed → result ≡ refused segment.now }
+    {
+        match self.phase {
+            Phase::Closed => refusal(segment),
+            Phase::Listen => self.in_listen(outgoing, incoming.len(), segment, fresh),
+            Phase::SynSent => self.in_syn_sent(outgoing, segment),
+            Phase::SynReceived => self.in_syn_received(outgoing, incoming, segment),
+            Phase::Open => {
+                if self.state() == State::Closed {
+                    return refusal(segment);
+                }
+                self.in_open(outgoing, incoming, segment)
+            }
+        }
+    }
+
+    // Section 3.10.7.2.
+    fn in_listen(
+        &mut self,
+        outgoing: &[u8],
+        incoming: usize,
+        segment: &Segment,
+        fresh: u32,
+    ) -> Option<Reply>
+        requires phase { self.old.phase ≡ Listen }
+        requires out { OutFits self.old.sending (length outgoing.now) }
+        requires rings { InFits self.old.receiving incoming }
+        ensures out { OutFits self.new.sending (length outgoing.now) }
+        ensures rings { InFits self.new.receiving incoming }
+        ensures endpoint { endpoint_of self.new ≡ hears_in_listen (control_of segment.now) fresh }
+        ensures legal { IfSome result (λ r. IsLegal (endpoint_of self.new) r) }
+        ensures waits { self.new.phase ≡ SynReceived → Waits (happens (start fresh) (Send 0 1)) self.new.sending outgoing.now }
+        ensures stands { self.new.phase ≡ SynReceived → (initial : ℕ) (event : ℕ → Event) (rest : List Item) (buffer : List ℕ) → SegmentComes (start initial) event segment.now.number (Syn ∷ rest) → Stands (happens (start initial) (event 1)).receiver [] self.new.receiving buffer }
+    {
+        if segment.rst {
+            return None;
+        }
+        if let Some(ack) = segment.ack {
+            return Some(Reply::reset(ack));
+        }
+        if !segment.syn {
+            return None;
+        }
+        self.begin(outgoing, fresh);
+        self.is_passive = true;
+        self.take_syn(segment);
+        Some(self.syn_ack())
+    }
+
+    // Section 3.10.7.3.
+    fn in_syn_sent(&mut self, outgoing: &[u8], segment: &Segment) -> Option<Reply>
+        requires phase { self.old.phase ≡ SynSent }
+        requires out { OutFits self.old.sending (length outgoing.now) }
+        ensures out { OutFits self.new.sending (length outgoing.now) }
+        ensures rings { (size : ℕ) → InFits self.old.receiving size → InFits self.new.receiving size }
+        ensures endpoint { endpoint_of self.new ≡ hears_in_syn_sent self.old.iss (control_of segment.now) }
+        ensures legal { IfSome result (λ r. IsLegal (endpoint_of self.new) r) }
+        ensures goes { (there back : World) (consumed buffer : List ℕ) → Arrives there back segment.now → Stand there back consumed self.old outgoing.now buffer → Went there back consumed self.new outgoing.now buffer }
+    {
+        match segment.ack {
+            Some(ack) => {
+                if ack != self.iss.wrapping_add(1) {
+                    return if segment.rst {
+                        None
+                    } else {
+                        Some(Reply::reset(ack))
+                    };
+                }
+                if segment.rst {
+                    self.phase = Phase::Closed;
+                    return None;
+                }
+                if !segment.syn {
+                    return None;
+                }
+                self.take_syn(segment);
+                self.establish(outgoing, segment, ack);
+                Some(self.first_ack())
+            }
+            None => {
+                if segment.rst || !segment.syn {
+                    return None;
+                }
+                self.is_passive = false;
+                self.take_syn(segment);
+                Some(self.syn_ack())
+            }
+        }
+    }
+
+    // Section 3.10.7.4 in SYN-RECEIVED. It is established only by a segment at RCV.NXT, or by the SYN of the peer that comes
+    // again with an acknowledgement (figure 7).
+    fn in_syn_received(
+        &mut self,
+        outgoing: &[u8],
+        incoming: &mut [u8],
+        segment: &Segment,
+    ) -> Option<Reply>
+        requires phase { self.old.phase ≡ SynReceived }
+        requires text { length segment.now.payload.now < 65536 }
+        requires out { OutFits self.old.sending (length outgoing.now) }
+        requires rings { InFits self.old.receiving (length incoming.old) }
+        ensures out { OutFits self.new.sending (length outgoing.now) }
+        ensures rings { InFits self.new.receiving (length incoming.old) }
+        ensures endpoint { endpoint_of self.new ≡ hears_in_syn_received self.old.is_passive self.old.iss self.old.irs (control_of segment.now) (room_of self.old.receiving (length incoming.old)) }
+        ensures legal { IfSome result (λ r. IsLegal (endpoint_of self.new) r) }
+        ensures goes { (there back : World) (consumed : List ℕ) → Arrives there back segment.now → Stand there back consumed self.old outgoing.now incoming.old → Went there back consumed self.new outgoing.now incoming.new }
+    {
+        let next = self.irs.wrapping_add(1);
+        let room = self.room(incoming.len());
+        if segment.rst {
+            return self.on_reset(segment.number, next, room, self.first_ack());
+        }
+        if segment.syn {
+            return self.on_syn_again(
+                outgoing,
+                segment,
+                is_acceptable(next, room, segment.number, segment.len()),
+            );
+        }
+        if !is_acceptable(next, room, segment.number, segment.len()) {
+            return Some(self.first_ack());
+        }
+        let Some(ack) = segment.ack else {
+            return None;
+        };
+        if !self.is_first_answer(segment.number, ack) {
+            return Some(self.objection(ack));
+        }
+        self.establish(outgoing, segment, ack);
+        self.take_text(incoming, segment)
+    }
+
+    // Whether a segment in SYN-RECEIVED acknowledges the SYN, and is at RCV.NXT.
+    fn is_first_answer(&self, number: u32, ack: u32) -> bool
+        ensures { result ≡ (is_ack_of self.now.iss (Some ack) && number == after self.now.irs) }
+    {
+        ack == self.iss.wrapping_add(1) && number == self.irs.wrapping_add(1)
+    }
+
+    // The reply to an acknowledgement that establishes nothing: a RST if it is not of the SYN.
+    fn objection(&self, ack: u32) -> Reply
+        requires { self.now.phase ≡ SynReceived }
+        ensures { IsLegal (endpoint_of self.now) result }
+    {
+        if ack == self.iss.wrapping_add(1) {
+            self.first_ack()
+        } else {
+            Reply::reset(ack)
+        }
+    }
+
+    // A SYN in SYN-RECEIVED.
+    fn on_syn_again(
+        &mut self,
+        outgoing: &[u8],
+        segment: &Segment,
+        acceptable: bool,
+    ) -> Option<Reply>
+        requires phase { self.old.phase ≡ SynReceived }
+        requires out { OutFits self.old.sending (length outgoing.now) }
+        ensures out { OutFits self.new.sending (length outgoing.now) }
+        ensures receiving { self.new.receiving ≡ self.old.receiving }
+        ensures endpoint { endpoint_of self.new ≡ hears_syn_again self.old.is_passive self.old.iss self.old.irs (control_of segment.now) acceptable }
+        ensures legal { IfSome result (λ r. IsLegal (endpoint_of self.new) r) }
+        ensures waits { (there : World) → IfSome segment.now.ack (λ number. (which : ℕ) × AckComes there which number) → Waits there self.old.sending outgoing.now → WaitsLater there self.new.sending outgoing.now }
+    {
+        if segment.number == self.irs
+            && let Some(ack) = segment.ack
+        {
+            if ack != self.iss.wrapping_add(1) {
+                return Some(self.first_ack());
+            }
+            self.establish(outgoing, segment, ack);
+            return None;
+        }
+        if acceptable && self.is_passive {
+            self.phase = Phase::Listen;
+            return None;
+        }
+        Some(self.first_ack())
+    }
+
+    // Section 3.10.7.4 in the synchronized states.
+    fn in_open(&mut self, outgoing: &[u8], incoming: &mut [u8], segment: &Segment) -> Option<Reply>
+        requires phase { self.old.phase ≡ Open }
+        requires text { length segment.now.payload.now < 65536 }
+        requires out { OutFits self.old.sending (length outgoing.now) }
+        requires rings { InFits self.old.receiving (length incoming.old) }
+        ensures out { OutFits self.new.sending (length outgoing.now) }
+        ensures rings { InFits self.new.receiving (length incoming.old) }
+        ensures goes { (there back : World) (consumed : List ℕ) → Arrives there back segment.now → Stand there back consumed self.old outgoing.now incoming.old → Went there back consumed self.new outgoing.now incoming.new }
+        ensures beside { segment.now.rst ≡ true → segment.now.number ≢ self.old.receiving.next → self.new ≡ self.old }
+        ensures syn { segment.now.rst ≡ false → segment.now.syn ≡ true → self.new ≡ self.old }
+        ensures outside { segment.now.rst ≡ false → is_acceptable_at self.old.receiving.next (room_of self.old.receiving (length incoming.old)) segment.now.number (len_of segment.now) ≡ false → self.new ≡ self.old }
+        ensures keeps { segment.now.rst ≡ false → endpoint_of self.new ≡ endpoint_of self.old }
+        ensures acts { (endpoint_of self.new ≡ endpoint_of self.old) ⊎ (endpoint_of self.new ≡ In_closed) }
+        ensures window { ((ack : ℕ) → segment.now.ack ≡ Some ack → takes_window self.old segment.now ack ≡ false) → self.new.wnd ≡ self.old.wnd }
+        ensures answers { IfSome result (λ r. (back : World) (consumed : List ℕ) → Stands back.receiver consumed self.new.receiving incoming.new → IsAnswered back r) }
+    {
+        let Some(next) = self.receiving.next() else {
+            return None;
+        };
+        let room = self.room(incoming.len());
+        if segment.rst {
+            return self.on_reset(segment.number, next, room, self.acknowledgement());
+        }
+        if segment.syn || !is_acceptable(next, room, segment.number, segment.len()) {
+            return Some(self.acknowledgement());
+        }
+        let Some(ack) = segment.ack else {
+            return None;
+        };
+        if is_before(self.sending.next(), ack) {
+            return Some(self.acknowledgement());
+        }
+        self.on_ack(outgoing, segment, ack);
+        self.take_text(incoming, segment)
+    }
+
+    // A RST acts only at RCV.NXT; elsewhere in the window it is challenged (RFC 5961, section 3.2).
+    fn on_reset(&mut self, number: u32, next: u32, room: u32, challenge: Reply) -> Option<Reply>
+        ensures sending { self.new.sending ≡ self.old.sending }
+        ensures receiving { self.new.receiving ≡ self.old.receiving }
+        ensures window { self.new.wnd ≡ self.old.wnd }
+        ensures beside { number ≢ next → self.new ≡ self.old }
+        ensures acts { number ≡ next → endpoint_of self.new ≡ reset_of (endpoint_of self.old) }
+        ensures ends { self.old.phase ≡ Open → (endpoint_of self.new ≡ endpoint_of self.old) ⊎ (endpoint_of self.new ≡ In_closed) }
+        ensures legal { IsLegal (endpoint_of self.old) challenge → IfSome result (λ r. IsLegal (endpoint_of self.new) r) }
+        ensures reply { IfSome result (λ r. r ≡ challenge) }
+    {
+        if number == next {
+            self.phase = if self.phase == Phase::SynReceived && self.is_passive {
+                Phase::Listen
+            } else {
+                Phase::Closed
+            };
+            return None;
+        }
+        if is_in_window(next, room, number) {
+            Some(challenge)
+        } else {
+            None
+        }
+    }
+
+    // Takes an acknowledgement that is not after SND.NXT, and the window that came with it.
+    fn on_ack(&mut self, outgoing: &[u8], segment: &Segment, ack: u32)
+        requires { OutFits self.old.sending (length outgoing.now) }
+        ensures out { OutFits self.new.sending (length outgoing.now) }
+        ensures receiving { self.new.receiving ≡ self.old.receiving }
+        ensures endpoint { endpoint_of self.new ≡ endpoint_of self.old }
+        ensures waits { (there : World) (which : ℕ) → AckComes there which ack → Waits there self.old.sending outgoing.now → WaitsLater there self.new.sending outgoing.now }
+        ensures window { self.new.wnd ≡ (if takes_window self.old segment.now ack then segment.now.window else self.old.wnd) }
+        ensures wl1 { self.new.wl1 ≡ (if takes_window self.old segment.now ack then segment.now.number else self.old.wl1) }
+        ensures wl2 { self.new.wl2 ≡ (if takes_window self.old segment.now ack then ack else self.old.wl2) }
+    {
+        let una = self.sending.una();
+        if ack.wrapping_sub(una) > self.sending.next().wrapping_sub(una) {
+            return;
+        }
+        self.sending.on_ack(outgoing, ack);
+        if is_before(self.wl1, segment.number)
+            || self.wl1 == segment.number && !is_before(ack, self.wl2)
+        {
+            self.wnd = segment.window;
+            self.wl1 = segment.number;
+            self.wl2 = ack;
+        }
+    }
+
+    // The peer's SYN came.
+    fn take_syn(&mut self, segment: &Segment)
+        ensures phase { self.new.phase ≡ SynReceived }
+        ensures passive { self.new.is_passive ≡ self.old.is_passive }
+        ensures iss { self.new.iss ≡ self.old.iss }
+        ensures irs { self.new.irs ≡ segment.now.number }
+        ensures sending { self.new.sending ≡ self.old.sending }
+        ensures rings { (size : ℕ) → InFits self.old.receiving size → InFits self.new.receiving size }
+        ensures stands { (back : World) (event : ℕ → Event) (rest : List Item) (consumed buffer : List ℕ) → SegmentComes back event segment.now.number (Syn ∷ rest) → Stands back.receiver consumed self.old.receiving buffer → StandsLater back consumed self.new.receiving buffer }
+        ensures opens { (back : World) (event : ℕ → Event) (rest : List Item) (consumed buffer : List ℕ) → back.receiver.is_open ≡ false → SegmentComes back event segment.now.number (Syn ∷ rest) → Stands back.receiver consumed self.old.receiving buffer → Stands (happens back (event 1)).receiver consumed self.new.receiving buffer }
+    {
+        self.irs = segment.number;
+        self.receiving.on_syn(segment.number);
+        self.wnd = segment.window;
+        self.wl1 = segment.number;
+        self.wl2 = self.iss;
+        self.phase = Phase::SynReceived;
+    }
+
+    // The SYN was acknowledged.
+    fn establish(&mut self, outgoing: &[u8], segment: &Segment, ack: u32)
+        requires { OutFits self.old.sending (length outgoing.now) }
+        ensures out { OutFits self.new.sending (length outgoing.now) }
+        ensures phase { self.new.phase ≡ Open }
+        ensures iss { self.new.iss ≡ self.old.iss }
+        ensures irs { self.new.irs ≡ self.old.irs }
+        ensures receiving { self.new.receiving ≡ self.old.receiving }
+        ensures waits { (there : World) (which : ℕ) → AckComes there which ack → Waits there self.old.sending outgoing.now → WaitsLater there self.new.sending outgoing.now }
+    {
+        self.sending.on_ack(outgoing, ack);
+        self.wnd = segment.window;
+        self.wl1 = segment.number;
+        self.wl2 = ack;
+        self.phase = Phase::Open;
+    }
+
+    // Takes text and FIN, and acknowledges them.
+    fn take_text(&mut self, incoming: &mut [u8], segment: &Segment) -> Option<Reply>
+        requires { InFits self.old.receiving (length incoming.old) }
+        ensures rings { InFits self.new.receiving (length incoming.old) }
+        ensures sending { self.new.sending ≡ self.old.sending }
+        ensures window { self.new.wnd ≡ self.old.wnd }
+        ensures endpoint { endpoint_of self.new ≡ endpoint_of self.old }
+        ensures stands { (back : World) (event : ℕ → Event) (consumed : List ℕ) → SegmentComes back event segment.now.number (items_of false segment.now.payload.now segment.now.fin) → Stands back.receiver consumed self.old.receiving incoming.old → StandsLater back consumed self.new.receiving incoming.new }
+        ensures reply { IfSome result (λ r. (r.syn ≡ false) × (r.rst ≡ false)) }
+        ensures answers { IfSome result (λ r. (back : World) (consumed : List ℕ) → Stands back.receiver consumed self.new.receiving incoming.new → IsAnswered back r) }
+    {
+        if segment.payload.is_empty() && !segment.fin {
+            return None;
+        }
+        self.receiving
+            .on_segment(incoming, segment.number, segment.payload, segment.fin);
+        Some(self.acknowledgement())
+    }
+
+    // SYN and acknowledgement in SYN-RECEIVED.
+    fn syn_ack(&self) -> Reply
+        ensures { result ≡ record { number = self.now.iss; ack = Some (after self.now.irs); syn = true; rst = false } }
+    {
+        Reply {
+            number: self.iss,
+            ack: Some(self.irs.wrapping_add(1)),
+            syn: true,
+            rst: false,
+        }
+    }
+
+    // The acknowledgement of the peer's SYN, before text is sent or comes.
+    fn first_ack(&self) -> Reply
+        ensures { result ≡ record { number = after self.now.iss; ack = Some (after self.now.irs); syn = false; rst = false } }
+    {
+        Reply {
+            number: self.iss.wrapping_add(1),
+            ack: Some(self.irs.wrapping_add(1)),
+            syn: false,
+            rst: false,
+        }
+    }
+}

@@ -1,0 +1,348 @@
+//! The connection, and the calls of its application (RFC 9293, sections 3.10.1 to 3.10.5).
+
+ghost use Rattle.std.specs.Prelude.{◌≡◌, ◌+◌, ◌%◌, ◌≤◌, ◌<◌, ◌++◌, ◌⊎◌, ℕ, List, [], length, true, false, IfSome, Some, None, take};
+ghost use Rattle.tcp_model.specs.Network.{World, Event, Close, Write, Send, happens, run, start, IsPrefixOf};
+ghost use Rattle.app_tcp.specs.Stands.{Stands, room_of, IsAnswer};
+ghost use Rattle.app_tcp.specs.Waits.{Waits, IsSend, from_of};
+ghost use Rattle.app_tcp.specs.Items.{items_of};
+ghost use Rattle.app_connection.specs.declared.state.Phase.TheVariants.{Open};
+ghost use Rattle.app_connection.specs.SetUp.{In_closed, In_listen, In_syn_sent};
+ghost use Rattle.app_connection.specs.Endpoints.{endpoint_of, OutFits, InFits, IsLegal};
+ghost use Rattle.app_connection.specs.States.{state_from, state_closed, may_close, has_peer};
+ghost use Rattle.app_connection.specs.Worlds.{Stand, TellsState, WaitsLater};
+
+use crate::segment::{Reply, Segment};
+use crate::state::{Phase, State, state_of};
+use app_tcp::{Receiving, Sending};
+
+/// One end of a connection. Its bytes are in two rings of the caller's, each of less than 2^30 bytes.
+#[derive(Debug, Clone, Copy)]
+pub struct Connection {
+    pub(crate) phase: Phase,
+    // Whether SYN-RECEIVED was reached from LISTEN.
+    pub(crate) is_passive: bool,
+    // ISS and IRS
+    pub(crate) iss: u32,
+    pub(crate) irs: u32,
+    pub(crate) sending: Sending,
+    pub(crate) receiving: Receiving,
+    // SND.WND, SND.WL1 and SND.WL2
+    pub(crate) wnd: u32,
+    pub(crate) wl1: u32,
+    pub(crate) wl2: u32,
+    // Whether the peer's FIN came before the application closed.
+    pub(crate) is_peer_first: bool,
+}
+
+impl Connection {
+    /// In CLOSED.
+    pub fn new() -> Connection
+        ensures endpoint { endpoint_of result ≡ In_closed }
+        ensures out { (size : ℕ) → 0 < size → size < 1073741824 → OutFits result.sending size }
+        ensures rings { (size : ℕ) → 0 < size → size < 1073741824 → InFits result.receiving size }
+    {
+        Connection {
+            phase: Phase::Closed,
+            is_passive: false,
+            iss: 0,
+            irs: 0,
+            sending: Sending::new(0),
+            receiving: Receiving::new(),
+            wnd: 0,
+            wl1: 0,
+            wl2: 0,
+            is_peer_first: false,
+        }
+    }
+
+    /// Its state.
+    pub fn state(&self) -> State
+        ensures value { result ≡ state_from self.now }
+        ensures tells { (there back : World) (consumed outgoing incoming : List ℕ) → Stand there back consumed self.now outgoing incoming → TellsState result there back }
+    {
+        match self.phase {
+            Phase::Closed => State::Closed,
+            Phase::Listen => State::Listen,
+            Phase::SynSent => State::SynSent,
+            Phase::SynReceived => State::SynReceived,
+            Phase::Open => state_of(
+                self.sending.is_closed(),
+                !self.sending.has_fin(),
+                self.receiving.has_fin(),
+                self.is_peer_first,
+            ),
+        }
+    }
+
+    /// How many bytes the peer has room for from SND.UNA on (SND.WND).
+    pub fn window(&self) -> u32
+        ensures { result ≡ self.now.wnd }
+    {
+        self.wnd
+    }
+
+    /// Whether the rings have sizes that fit: what other calls require, of the rings that they always get.
+    pub fn fits(&self, outgoing: usize, incoming: usize) -> bool
+        ensures out { result ≡ true → OutFits self.now.sending outgoing }
+        ensures rings { result ≡ true → InFits self.now.receiving incoming }
+        ensures all { OutFits self.now.sending outgoing → InFits self.now.receiving incoming → result ≡ true }
+    {
+        self.sending.fits(outgoing) && self.receiving.fits(incoming)
+    }
+
+    /// The passive open: CLOSED becomes LISTEN. Another state stays.
+    pub fn listen(&mut self)
+        ensures sending { self.new.sending ≡ self.old.sending }
+        ensures receiving { self.new.receiving ≡ self.old.receiving }
+        ensures listens { state_from self.old ≡ State.Closed → endpoint_of self.new ≡ In_listen }
+        ensures moves { (endpoint_of self.new ≡ endpoint_of self.old) ⊎ (endpoint_of self.new ≡ In_listen) }
+        ensures stays { (state_from self.old ≡ State.Closed → ⊥) → self.new ≡ self.old }
+    {
+        if self.state() == State::Closed {
+            self.phase = Phase::Listen;
+        }
+    }
+
+    /// The active open, with a fresh initial number (ISS, RFC 6528): CLOSED or LISTEN becomes SYN-SENT. Returns the SYN.
+    pub fn open(&mut self, outgoing: &[u8], iss: u32) -> Option<Reply>
+        requires some { 0 < length outgoing.now }
+        requires small { length outgoing.now < 1073741824 }
+        ensures opens { has_peer (state_from self.old) ≡ false → endpoint_of self.new ≡ In_syn_sent iss }
+        ensures syn { has_peer (state_from self.old) ≡ false → result ≡ Some (record { number = iss; ack = None; syn = true; rst = false }) }
+        ensures out { has_peer (state_from self.old) ≡ false → OutFits self.new.sending (length outgoing.now) }
+        ensures rings { has_peer (state_from self.old) ≡ false → (size : ℕ) → 0 < size → size < 1073741824 → InFits self.new.receiving size }
+        ensures waits { has_peer (state_from self.old) ≡ false → Waits (happens (start iss) (Send 0 1)) self.new.sending outgoing.now }
+        ensures stands { has_peer (state_from self.old) ≡ false → (initial : ℕ) (buffer : List ℕ) → Stands (start initial).receiver [] self.new.receiving buffer }
+        ensures stays { has_peer (state_from self.old) ≡ true → self.new ≡ self.old }
+        ensures none { has_peer (state_from self.old) ≡ true → result ≡ None }
+    {
+        match self.state() {
+            State::Closed | State::Listen => {
+                self.begin(outgoing, iss);
+                self.phase = Phase::SynSent;
+                Some(Reply {
+                    number: iss,
+                    ack: None,
+                    syn: true,
+                    rst: false,
+                })
+            }
+            _ => None,
+        }
+    }
+
+    /// Takes bytes of the application, as far as the ring has room, also before the connection is established. Returns how many:
+    /// 0 in CLOSED, LISTEN and after `close`.
+    pub fn write(&mut self, outgoing: &mut [u8], bytes: &[u8]) -> usize
+        requires { OutFits self.old.sending (length outgoing.old) }
+        ensures out { OutFits self.new.sending (length outgoing.old) }
+        ensures receiving { self.new.receiving ≡ self.old.receiving }
+        ensures endpoint { endpoint_of self.new ≡ endpoint_of self.old }
+        ensures waits { has_peer (state_from self.old) ≡ true → (w : World) → Waits w self.old.sending outgoing.old → Waits (happens w (Write (take result bytes.now))) self.new.sending outgoing.new }
+        ensures none { has_peer (state_from self.old) ≡ false → result ≡ 0 }
+        ensures stays { has_peer (state_from self.old) ≡ false → outgoing.new ≡ outgoing.old }
+    {
+        match self.state() {
+            State::Closed | State::Listen => 0,
+            _ => self.sending.write(outgoing, bytes),
+        }
+    }
+
+    /// The next bytes for the application, at most `count`, and none in LISTEN. They end at the end of the ring: then the next
+    /// call has the others.
+    pub fn read<'a>(&mut self, incoming: &'a [u8], count: usize) -> &'a [u8]
+        requires { InFits self.old.receiving (length incoming.now) }
+        ensures rings { InFits self.new.receiving (length incoming.now) }
+        ensures sending { self.new.sending ≡ self.old.sending }
+        ensures endpoint { endpoint_of self.new ≡ endpoint_of self.old }
+        ensures few { length result.now ≤ count }
+        ensures stands { (back : World) (consumed : List ℕ) → Stands back.receiver consumed self.old.receiving incoming.now → Stands back.receiver (consumed ++ result.now) self.new.receiving incoming.now }
+        ensures delivers { (initial : ℕ) (events : List Event) (consumed : List ℕ) → let back : World = run events (start initial) in Stands back.receiver consumed self.old.receiving incoming.now → IsPrefixOf (consumed ++ result.now) back.written }
+    {
+        let count = self.readable(count);
+        self.receiving.read(incoming, count)
+    }
+
+    // How many of so many bytes may be read: none in LISTEN, where what came belongs to an earlier connection.
+    fn readable(&self, count: usize) -> usize
+        ensures { result ≤ count }
+    {
+        if self.phase == Phase::Listen {
+            0
+        } else {
+            count
+        }
+    }
+
+    /// Whether the application has read all that the peer wrote, and the peer has closed.
+    pub fn is_ended(&self) -> bool
+        ensures { (initial : ℕ) (events : List Event) (consumed buffer : List ℕ) → result ≡ true → let back : World = run events (start initial) in Stands back.receiver consumed self.now.receiving buffer → (back.closed ≡ true) × (consumed ≡ back.written) }
+    {
+        self.receiving.is_ended()
+    }
+
+    /// The application writes no more. LISTEN and SYN-SENT become CLOSED, ESTABLISHED FIN-WAIT-1, CLOSE-WAIT LAST-ACK; in
+    /// SYN-RECEIVED the FIN waits until the connection is established. The FIN goes out by `send`.
+    pub fn close(&mut self)
+        ensures receiving { self.new.receiving ≡ self.old.receiving }
+        ensures out { (size : ℕ) → OutFits self.old.sending size → OutFits self.new.sending size }
+        ensures state { state_from self.new ≡ state_closed (state_from self.old) }
+        ensures moves { (endpoint_of self.new ≡ endpoint_of self.old) ⊎ (endpoint_of self.new ≡ In_closed) }
+        ensures waits { may_close (state_from self.old) ≡ true → (there : World) (outgoing : List ℕ) → Waits there self.old.sending outgoing → Waits (happens there Close) self.new.sending outgoing }
+        ensures stays { may_close (state_from self.old) ≡ false → self.new.sending ≡ self.old.sending }
+    {
+        match self.state() {
+            State::Listen | State::SynSent => self.phase = Phase::Closed,
+            State::SynReceived | State::Established | State::CloseWait => {
+                self.is_peer_first = self.receiving.has_fin();
+                self.sending.close();
+            }
+            _ => {}
+        }
+    }
+
+    /// Gives the connection up: CLOSED. Returns a RST for the peer if there may be one.
+    pub fn abort(&mut self) -> Option<Reply>
+        ensures endpoint { endpoint_of self.new ≡ In_closed }
+        ensures sending { self.new.sending ≡ self.old.sending }
+        ensures receiving { self.new.receiving ≡ self.old.receiving }
+        ensures reset { IfSome result (λ r. r.rst ≡ true) }
+    {
+        let state = self.state();
+        self.phase = Phase::Closed;
+        match state {
+            State::SynReceived
+            | State::Established
+            | State::FinWait1
+            | State::FinWait2
+            | State::CloseWait => Some(Reply::reset(self.sending.next())),
+            _ => None,
+        }
+    }
+
+    /// The next segment to send or to send again, from `offset` after SND.UNA on, with at most `count` bytes; a FIN counts as
+    /// one. Before the connection is established it is the SYN. `None`: there is nothing. The caller keeps to the window.
+    pub fn send<'a>(
+        &mut self,
+        outgoing: &'a [u8],
+        incoming: usize,
+        offset: usize,
+        count: usize,
+    ) -> Option<Segment<'a>>
+        requires out { OutFits self.old.sending (length outgoing.now) }
+        requires rings { InFits self.old.receiving incoming }
+        ensures out { OutFits self.new.sending (length outgoing.now) }
+        ensures receiving { self.new.receiving ≡ self.old.receiving }
+        ensures endpoint { endpoint_of self.new ≡ endpoint_of self.old }
+        ensures set_up { (self.old.phase ≡ Open → ⊥) → IfSome result (λ s. IsLegal (endpoint_of self.old) (record { number = s.number; ack = s.ack; syn = s.syn; rst = s.rst })) }
+        ensures sends { self.old.phase ≡ Open → IfSome result (λ s. (there : World) → Waits there self.old.sending outgoing.now → IsSend there (from_of self.old.sending offset) s.number (items_of s.syn s.payload.now s.fin)) }
+        ensures waits { (there : World) → Waits there self.old.sending outgoing.now → WaitsLater there self.new.sending outgoing.now }
+        ensures answers { self.old.phase ≡ Open → IfSome result (λ s. (back : World) (consumed buffer : List ℕ) → Stands back.receiver consumed self.old.receiving buffer → IfSome s.ack (λ number. IsAnswer back number)) }
+    {
+        match self.state() {
+            State::Closed | State::Listen => None,
+            State::SynSent => Some(self.set_up(outgoing, incoming, None)),
+            State::SynReceived => Some(self.set_up(
+                outgoing,
+                incoming,
+                Some(self.irs.wrapping_add(1)),
+            )),
+            _ if self.sending.has_next(offset, count) => self.cut(
+                outgoing, incoming, offset, count,
+            ),
+            _ => None,
+        }
+    }
+
+    // The SYN, with this acknowledgement.
+    fn set_up<'a>(&self, outgoing: &'a [u8], incoming: usize, ack: Option<u32>) -> Segment<'a>
+        requires { InFits self.now.receiving incoming }
+        ensures number { result.number ≡ self.now.iss }
+        ensures ack { result.ack ≡ ack }
+        ensures syn { result.syn ≡ true }
+        ensures rst { result.rst ≡ false }
+    {
+        Segment {
+            number: self.iss,
+            ack,
+            window: self.room(incoming),
+            syn: true,
+            rst: false,
+            fin: false,
+            payload: &outgoing[..0],
+        }
+    }
+
+    // The segment from an item on, with what is acknowledged.
+    fn cut<'a>(
+        &mut self,
+        outgoing: &'a [u8],
+        incoming: usize,
+        offset: usize,
+        count: usize,
+    ) -> Option<Segment<'a>>
+        requires out { OutFits self.old.sending (length outgoing.now) }
+        requires rings { InFits self.old.receiving incoming }
+        ensures out { OutFits self.new.sending (length outgoing.now) }
+        ensures receiving { self.new.receiving ≡ self.old.receiving }
+        ensures endpoint { endpoint_of self.new ≡ endpoint_of self.old }
+        ensures sends { IfSome result (λ s. (there : World) → Waits there self.old.sending outgoing.now → IsSend there (from_of self.old.sending offset) s.number (items_of s.syn s.payload.now s.fin)) }
+        ensures waits { (there : World) → Waits there self.old.sending outgoing.now → WaitsLater there self.new.sending outgoing.now }
+        ensures answers { IfSome result (λ s. (back : World) (consumed buffer : List ℕ) → Stands back.receiver consumed self.old.receiving buffer → IfSome s.ack (λ number. IsAnswer back number)) }
+    {
+        let part = self.sending.segment(outgoing, offset, count);
+        if !part.syn && part.payload.is_empty() && !part.fin {
+            return None;
+        }
+        Some(Segment {
+            number: part.number,
+            ack: self.receiving.next(),
+            window: self.room(incoming),
+            syn: part.syn,
+            rst: false,
+            fin: part.fin,
+            payload: part.payload,
+        })
+    }
+
+    /// An acknowledgement of all that came, in a state that has one.
+    pub fn acknowledgement(&self) -> Reply
+        ensures syn { result.syn ≡ false }
+        ensures rst { result.rst ≡ false }
+        ensures legal { (back : World) (consumed buffer : List ℕ) → Stands back.receiver consumed self.now.receiving buffer → IfSome result.ack (λ number. IsAnswer back number) }
+    {
+        Reply {
+            number: self.sending.next(),
+            ack: self.receiving.next(),
+            syn: false,
+            rst: false,
+        }
+    }
+
+    /// How many bytes there is room for (RCV.WND).
+    pub fn room(&self, incoming: usize) -> u32
+        requires { InFits self.now.receiving incoming }
+        ensures { result ≡ room_of self.now.receiving incoming }
+    {
+        self.receiving.room(incoming) as u32
+    }
+
+    // Begins to send at this initial number; its SYN is sent.
+    pub(crate) fn begin(&mut self, outgoing: &[u8], iss: u32)
+        requires some { 0 < length outgoing.now }
+        requires small { length outgoing.now < 1073741824 }
+        ensures phase { self.new.phase ≡ self.old.phase }
+        ensures iss { self.new.iss ≡ iss }
+        ensures out { OutFits self.new.sending (length outgoing.now) }
+        ensures rings { (size : ℕ) → 0 < size → size < 1073741824 → InFits self.new.receiving size }
+        ensures waits { Waits (happens (start iss) (Send 0 1)) self.new.sending outgoing.now }
+        ensures stands { (initial : ℕ) (buffer : List ℕ) → Stands (start initial).receiver [] self.new.receiving buffer }
+    {
+        self.iss = iss;
+        self.is_peer_first = false;
+        self.wnd = 0;
+        self.sending = Sending::new(iss);
+        self.receiving = Receiving::new();
+        let _ = self.sending.segment(outgoing, 0, 1);
+    }
+}

@@ -1,0 +1,19 @@
+//! A TCP connection: its states, its set-up and its end, over both halves of `app_tcp` (RFC 9293, section 3.10; RFC 5961).
+//! No input, output or timers.
+#![tactic(auto)]
+
+mod arrival;
+mod connection;
+pub mod laws;
+mod segment;
+mod sequence;
+mod state;
+mod step;
+
+pub use connection::Connection;
+pub use segment::{Reply, Segment};
+pub use state::State;
+pub use step::Event;
+
+#[cfg(test)]
+mod tests;

@@ -1,0 +1,36 @@
+//! Tests of sequence numbers (RFC 9293, sections 3.4 and 3.10.7.4).
+
+ghost use Rattle.std.specs.Prelude.{◌≡◌};
+ghost use Rattle.app_connection.specs.Sequence.{is_inside, is_acceptable_at, is_earlier};
+
+// Half of the sequence numbers.
+const HALF: u32 = 1 << 31;
+
+/// Whether a number is in a window that begins at `next`.
+pub(crate) fn is_in_window(next: u32, window: u32, number: u32) -> bool
+    ensures { result ≡ is_inside next window number }
+{
+    number.wrapping_sub(next) < window
+}
+
+/// Whether a segment of `len` numbers is acceptable: the four cases of section 3.10.7.4.
+pub(crate) fn is_acceptable(next: u32, window: u32, number: u32, len: u32) -> bool
+    ensures { result ≡ is_acceptable_at next window number len }
+{
+    if len == 0 {
+        return if window == 0 {
+            number == next
+        } else {
+            is_in_window(next, window, number)
+        };
+    }
+    let last = number.wrapping_add(len - 1);
+    is_in_window(next, window, number) || is_in_window(next, window, last)
+}
+
+/// Whether `a` is before `b`: less than 2^31 numbers.
+pub(crate) fn is_before(a: u32, b: u32) -> bool
+    ensures { result ≡ is_earlier a b }
+{
+    a != b && b.wrapping_sub(a) < HALF
+}

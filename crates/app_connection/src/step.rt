@@ -1,0 +1,90 @@
+//! One call for everything that can happen to a connection.
+
+ghost use Rattle.std.specs.Prelude.{◌≡◌, ℕ, List, length, IfSome};
+ghost use Rattle.tcp_model.specs.Network.{World};
+ghost use Rattle.app_tcp.specs.Stands.{room_of};
+ghost use Rattle.app_connection.specs.declared.state.Phase.TheVariants.{Listen, Open};
+ghost use Rattle.app_connection.specs.Endpoints.{endpoint_of, spoken, IsLegal, OutFits, InFits};
+ghost use Rattle.app_connection.specs.Worlds.{Stand, Went};
+ghost use Rattle.app_connection.specs.Events.{IsShort, ComesBy, IsMove};
+
+use crate::connection::Connection;
+use crate::segment::{Reply, Segment};
+
+/// What can happen.
+#[derive(Debug, Clone, Copy)]
+pub enum Event<'s> {
+    /// The application waits for a peer.
+    Listen,
+    /// The application opens, with a fresh number (ISS).
+    Open(u32),
+    /// A segment arrives; the number is a fresh one.
+    Arrives(&'s Segment<'s>, u32),
+    /// The caller has the next segment sent, or sent again: from this offset, with so many bytes.
+    Send(usize, usize),
+    /// The application closes.
+    Close,
+    /// The application gives up.
+    Abort,
+}
+
+impl Connection {
+    /// One event. Returns the segment to send, if any.
+    pub fn step<'a>(
+        &mut self,
+        outgoing: &'a [u8],
+        incoming: &mut [u8],
+        event: Event,
+    ) -> Option<Segment<'a>>
+        requires text { IsShort event }
+        requires out { OutFits self.old.sending (length outgoing.now) }
+        requires rings { InFits self.old.receiving (length incoming.old) }
+        ensures out { OutFits self.new.sending (length outgoing.now) }
+        ensures rings { InFits self.new.receiving (length incoming.old) }
+        ensures goes { (there back : World) (consumed : List ℕ) → (self.old.phase ≡ Listen → ⊥) → ComesBy event.entry there back → Stand there back consumed self.old outgoing.now incoming.old → Went there back consumed self.new outgoing.now incoming.new }
+        ensures moves { IsMove event.entry (room_of self.old.receiving (length incoming.old)) (endpoint_of self.old) (endpoint_of self.new) }
+        ensures legal { (self.old.phase ≡ Open → ⊥) → IfSome (spoken result) (λ r. IsLegal (endpoint_of self.new) r) }
+    {
+        let reply = match event {
+            Event::Send(offset, count) => {
+                return self.send(outgoing, incoming.len(), offset, count);
+            }
+            Event::Listen => {
+                self.listen();
+                return None;
+            }
+            Event::Close => {
+                self.close();
+                return None;
+            }
+            Event::Open(iss) => self.open(outgoing, iss),
+            Event::Arrives(segment, fresh) => self.on_segment(outgoing, incoming, segment, fresh),
+            Event::Abort => self.abort(),
+        };
+        self.without_text(outgoing, incoming.len(), reply)
+    }
+
+    // The segment of a reply, with the window.
+    fn without_text<'a>(
+        &self,
+        outgoing: &'a [u8],
+        incoming: usize,
+        reply: Option<Reply>,
+    ) -> Option<Segment<'a>>
+        requires { InFits self.now.receiving incoming }
+        ensures { spoken result ≡ reply }
+    {
+        let Some(reply) = reply else {
+            return None;
+        };
+        Some(Segment {
+            number: reply.number,
+            ack: reply.ack,
+            window: if reply.rst { 0 } else { self.room(incoming) },
+            syn: reply.syn,
+            rst: reply.rst,
+            fin: false,
+            payload: &outgoing[..0],
+        })
+    }
+}

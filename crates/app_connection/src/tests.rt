@@ -1,0 +1,3 @@
+//! The figures of RFC 9293.
+
+mod figures;
