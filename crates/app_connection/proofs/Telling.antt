@@ -82,4 +82,4 @@ tells_at true false true true there back is all some end = tt
 pub tells_open : (there back : World) (consumed : List ℕ) (c : Connection) (outgoing incoming : List ℕ) → Stand there back consumed c outgoing incoming
     → TellsState (state_at c.sending.is_closed (not c.sending.has_fin) c.receiving.has_fin c.is_peer_first) there back
 tells_open there back consumed c outgoing incoming stand =
-    tells_at c.sending.is_closed c.sending.has_fin c.receiving.has_fin c.is_peer_first there back stand.waits.closed (done there c.sending outgoing stand.waits) (waits_fin there c.sending outgoing stand.waits) stand.stands.ended
+    tells_at c.sending.is_closed c.sending.has_fin c.receiving.has_fin c.is_peer_first there back stand.waits.closed (done there c.sending outgoing stand.waits) (waits_fin there c.sending outgoing stand.waits) stand.stands.holds.ended

@@ -1,6 +1,7 @@
 -- What a connection of the code stands for in the set-up.
 -- Pinned by: `connection/figures`
 use Rattle.std.specs.Prelude.{ℕ, ◌≡◌, ◌+◌, ◌%◌, ◌&&◌, ◌<◌, ◌≤◌, Option, Some, None, length, Bool, true, false, if◌then◌else◌}
+use Rattle.app_tcp.specs.Stands.{reach}
 use Rattle.app_tcp.specs.declared.receiving.Receiving.{Receiving}
 use Rattle.app_tcp.specs.declared.sending.Sending.{Sending}
 use Rattle.app_connection.specs.Sequence.{is_of_sent, is_newer}
@@ -75,5 +76,5 @@ pub record OutFits (s : Sending) (size : ℕ) : Type 0 where
 -- The ring of the receiving half has this size.
 pub record InFits (r : Receiving) (size : ℕ) : Type 0 where
   pub begin : r.start < size
-  pub len : r.len ≤ size
+  pub len : reach r ≤ size
   pub small : size < 1073741824

@@ -2,7 +2,7 @@
 
 ghost use Rattle.std.specs.Prelude.{◌≡◌, ◌≢◌, ◌⊎◌, ◌&&◌, ◌==◌, ◌∷◌, ◌+◌, ◌%◌, ◌<◌, ℕ, List, [], length, Bool, true, false, if◌then◌else◌, IfSome, Some, None};
 ghost use Rattle.tcp_model.specs.Endpoint.{Item, Syn};
-ghost use Rattle.tcp_model.specs.Network.{World, Event, Send, happens, run, start};
+ghost use Rattle.tcp_model.specs.Network.{World, Event, Segment_comes, Send, happens, run, start};
 ghost use Rattle.app_tcp.specs.Items.{items_of};
 ghost use Rattle.app_tcp.specs.Stands.{Stands, SegmentComes, room_of};
 ghost use Rattle.app_tcp.specs.Waits.{Waits, AckComes};
@@ -36,7 +36,7 @@ impl Connection {
         ensures set_up { (self.old.phase ≡ Open → ⊥) → endpoint_of self.new ≡ hears (endpoint_of self.old) (control_of segment.now) (room_of self.old.receiving (length incoming.old)) fresh }
         ensures legal { (self.old.phase ≡ Open → ⊥) → IfSome result (λ r. IsLegal (endpoint_of self.new) r) }
         ensures waits { self.old.phase ≡ Listen → self.new.phase ≡ SynReceived → Waits (happens (start fresh) (Send 0 1)) self.new.sending outgoing.now }
-        ensures stands { self.old.phase ≡ Listen → self.new.phase ≡ SynReceived → (initial : ℕ) (event : ℕ → Event) (rest : List Item) (buffer : List ℕ) → SegmentComes (start initial) event segment.now.number (Syn ∷ rest) → Stands (happens (start initial) (event 1)).receiver [] self.new.receiving buffer }
+        ensures stands { self.old.phase ≡ Listen → self.new.phase ≡ SynReceived → (initial : ℕ) (which : ℕ) (rest : List Item) (buffer : List ℕ) → SegmentComes (start initial) which segment.now.number (Syn ∷ rest) → Stands (happens (start initial) (Segment_comes which 1)) [] self.new.receiving buffer }
         ensures goes { (self.old.phase ≡ Listen → ⊥) → (there back : World) (consumed : List ℕ) → Arrives there back segment.now → Stand there back consumed self.old outgoing.now incoming.old → Went there back consumed self.new outgoing.now incoming.new }
         ensures beside { self.old.phase ≡ Open → segment.now.rst ≡ true → segment.now.number ≢ self.old.receiving.next → self.new ≡ self.old }
         ensures syn { self.old.phase ≡ Open → segment.now.rst ≡ false → segment.now.syn ≡ true → self.new ≡ self.old }
@@ -44,7 +44,7 @@ impl Connection {
         ensures keeps { self.old.phase ≡ Open → segment.now.rst ≡ false → endpoint_of self.new ≡ endpoint_of self.old }
         ensures acts { self.old.phase ≡ Open → (endpoint_of self.new ≡ endpoint_of self.old) ⊎ (endpoint_of self.new ≡ In_closed) }
         ensures window { self.old.phase ≡ Open → ((ack : ℕ) → segment.now.ack ≡ Some ack → takes_window self.old segment.now ack ≡ false) → self.new.wnd ≡ self.old.wnd }
-        ensures answers { self.old.phase ≡ Open → IfSome result (λ r. (back : World) (consumed : List ℕ) → Stands back.receiver consumed self.new.receiving incoming.new → IsAnswered back r) }
+        ensures answers { self.old.phase ≡ Open → IfSome result (λ r. (back : World) (consumed : List ℕ) → Stands back consumed self.new.receiving incoming.new → IsAnswered back r) }
         ensures closed { state_from self.old ≡ State.Closed → result ≡ refused segment.now }
     {
         match self.phase {
@@ -77,7 +77,7 @@ impl Connection {
         ensures endpoint { endpoint_of self.new ≡ hears_in_listen (control_of segment.now) fresh }
         ensures legal { IfSome result (λ r. IsLegal (endpoint_of self.new) r) }
         ensures waits { self.new.phase ≡ SynReceived → Waits (happens (start fresh) (Send 0 1)) self.new.sending outgoing.now }
-        ensures stands { self.new.phase ≡ SynReceived → (initial : ℕ) (event : ℕ → Event) (rest : List Item) (buffer : List ℕ) → SegmentComes (start initial) event segment.now.number (Syn ∷ rest) → Stands (happens (start initial) (event 1)).receiver [] self.new.receiving buffer }
+        ensures stands { self.new.phase ≡ SynReceived → (initial : ℕ) (which : ℕ) (rest : List Item) (buffer : List ℕ) → SegmentComes (start initial) which segment.now.number (Syn ∷ rest) → Stands (happens (start initial) (Segment_comes which 1)) [] self.new.receiving buffer }
     {
         if segment.rst {
             return None;
@@ -243,7 +243,7 @@ impl Connection {
         ensures keeps { segment.now.rst ≡ false → endpoint_of self.new ≡ endpoint_of self.old }
         ensures acts { (endpoint_of self.new ≡ endpoint_of self.old) ⊎ (endpoint_of self.new ≡ In_closed) }
         ensures window { ((ack : ℕ) → segment.now.ack ≡ Some ack → takes_window self.old segment.now ack ≡ false) → self.new.wnd ≡ self.old.wnd }
-        ensures answers { IfSome result (λ r. (back : World) (consumed : List ℕ) → Stands back.receiver consumed self.new.receiving incoming.new → IsAnswered back r) }
+        ensures answers { IfSome result (λ r. (back : World) (consumed : List ℕ) → Stands back consumed self.new.receiving incoming.new → IsAnswered back r) }
     {
         let Some(next) = self.receiving.next() else {
             return None;
@@ -324,8 +324,8 @@ impl Connection {
         ensures irs { self.new.irs ≡ segment.now.number }
         ensures sending { self.new.sending ≡ self.old.sending }
         ensures rings { (size : ℕ) → InFits self.old.receiving size → InFits self.new.receiving size }
-        ensures stands { (back : World) (event : ℕ → Event) (rest : List Item) (consumed buffer : List ℕ) → SegmentComes back event segment.now.number (Syn ∷ rest) → Stands back.receiver consumed self.old.receiving buffer → StandsLater back consumed self.new.receiving buffer }
-        ensures opens { (back : World) (event : ℕ → Event) (rest : List Item) (consumed buffer : List ℕ) → back.receiver.is_open ≡ false → SegmentComes back event segment.now.number (Syn ∷ rest) → Stands back.receiver consumed self.old.receiving buffer → Stands (happens back (event 1)).receiver consumed self.new.receiving buffer }
+        ensures stands { (back : World) (which : ℕ) (rest : List Item) (consumed buffer : List ℕ) → SegmentComes back which segment.now.number (Syn ∷ rest) → Stands back consumed self.old.receiving buffer → StandsLater back consumed self.new.receiving buffer }
+        ensures opens { (back : World) (which : ℕ) (rest : List Item) (consumed buffer : List ℕ) → back.receiver.is_open ≡ false → SegmentComes back which segment.now.number (Syn ∷ rest) → Stands back consumed self.old.receiving buffer → Stands (happens back (Segment_comes which 1)) consumed self.new.receiving buffer }
     {
         self.irs = segment.number;
         self.receiving.on_syn(segment.number);
@@ -359,9 +359,9 @@ impl Connection {
         ensures sending { self.new.sending ≡ self.old.sending }
         ensures window { self.new.wnd ≡ self.old.wnd }
         ensures endpoint { endpoint_of self.new ≡ endpoint_of self.old }
-        ensures stands { (back : World) (event : ℕ → Event) (consumed : List ℕ) → SegmentComes back event segment.now.number (items_of false segment.now.payload.now segment.now.fin) → Stands back.receiver consumed self.old.receiving incoming.old → StandsLater back consumed self.new.receiving incoming.new }
+        ensures stands { (back : World) (which : ℕ) (consumed : List ℕ) → SegmentComes back which segment.now.number (items_of false segment.now.payload.now segment.now.fin) → Stands back consumed self.old.receiving incoming.old → StandsLater back consumed self.new.receiving incoming.new }
         ensures reply { IfSome result (λ r. (r.syn ≡ false) × (r.rst ≡ false)) }
-        ensures answers { IfSome result (λ r. (back : World) (consumed : List ℕ) → Stands back.receiver consumed self.new.receiving incoming.new → IsAnswered back r) }
+        ensures answers { IfSome result (λ r. (back : World) (consumed : List ℕ) → Stands back consumed self.new.receiving incoming.new → IsAnswered back r) }
     {
         if segment.payload.is_empty() && !segment.fin {
             return None;

@@ -112,7 +112,7 @@ impl Connection {
         ensures out { has_peer (state_from self.old) ≡ false → OutFits self.new.sending (length outgoing.now) }
         ensures rings { has_peer (state_from self.old) ≡ false → (size : ℕ) → 0 < size → size < 1073741824 → InFits self.new.receiving size }
         ensures waits { has_peer (state_from self.old) ≡ false → Waits (happens (start iss) (Send 0 1)) self.new.sending outgoing.now }
-        ensures stands { has_peer (state_from self.old) ≡ false → (initial : ℕ) (buffer : List ℕ) → Stands (start initial).receiver [] self.new.receiving buffer }
+        ensures stands { has_peer (state_from self.old) ≡ false → (initial : ℕ) (buffer : List ℕ) → Stands (start initial) [] self.new.receiving buffer }
         ensures stays { has_peer (state_from self.old) ≡ true → self.new ≡ self.old }
         ensures none { has_peer (state_from self.old) ≡ true → result ≡ None }
     {
@@ -156,8 +156,8 @@ impl Connection {
         ensures sending { self.new.sending ≡ self.old.sending }
         ensures endpoint { endpoint_of self.new ≡ endpoint_of self.old }
         ensures few { length result.now ≤ count }
-        ensures stands { (back : World) (consumed : List ℕ) → Stands back.receiver consumed self.old.receiving incoming.now → Stands back.receiver (consumed ++ result.now) self.new.receiving incoming.now }
-        ensures delivers { (initial : ℕ) (events : List Event) (consumed : List ℕ) → let back : World = run events (start initial) in Stands back.receiver consumed self.old.receiving incoming.now → IsPrefixOf (consumed ++ result.now) back.written }
+        ensures stands { (back : World) (consumed : List ℕ) → Stands back consumed self.old.receiving incoming.now → Stands back (consumed ++ result.now) self.new.receiving incoming.now }
+        ensures delivers { (initial : ℕ) (events : List Event) (consumed : List ℕ) → let back : World = run events (start initial) in Stands back consumed self.old.receiving incoming.now → IsPrefixOf (consumed ++ result.now) back.written }
     {
         let count = self.readable(count);
         self.receiving.read(incoming, count)
@@ -176,7 +176,7 @@ impl Connection {
 
     /// Whether the application has read all that the peer wrote, and the peer has closed.
     pub fn is_ended(&self) -> bool
-        ensures { (initial : ℕ) (events : List Event) (consumed buffer : List ℕ) → result ≡ true → let back : World = run events (start initial) in Stands back.receiver consumed self.now.receiving buffer → (back.closed ≡ true) × (consumed ≡ back.written) }
+        ensures { (initial : ℕ) (events : List Event) (consumed buffer : List ℕ) → result ≡ true → let back : World = run events (start initial) in Stands back consumed self.now.receiving buffer → (back.closed ≡ true) × (consumed ≡ back.written) }
     {
         self.receiving.is_ended()
     }
@@ -237,7 +237,7 @@ impl Connection {
         ensures set_up { (self.old.phase ≡ Open → ⊥) → IfSome result (λ s. IsLegal (endpoint_of self.old) (record { number = s.number; ack = s.ack; syn = s.syn; rst = s.rst })) }
         ensures sends { self.old.phase ≡ Open → IfSome result (λ s. (there : World) → Waits there self.old.sending outgoing.now → IsSend there (from_of self.old.sending offset) s.number (items_of s.syn s.payload.now s.fin)) }
         ensures waits { (there : World) → Waits there self.old.sending outgoing.now → WaitsLater there self.new.sending outgoing.now }
-        ensures answers { self.old.phase ≡ Open → IfSome result (λ s. (back : World) (consumed buffer : List ℕ) → Stands back.receiver consumed self.old.receiving buffer → IfSome s.ack (λ number. IsAnswer back number)) }
+        ensures answers { self.old.phase ≡ Open → IfSome result (λ s. (back : World) (consumed buffer : List ℕ) → Stands back consumed self.old.receiving buffer → IfSome s.ack (λ number. IsAnswer back number)) }
     {
         match self.state() {
             State::Closed | State::Listen => None,
@@ -288,7 +288,7 @@ impl Connection {
         ensures endpoint { endpoint_of self.new ≡ endpoint_of self.old }
         ensures sends { IfSome result (λ s. (there : World) → Waits there self.old.sending outgoing.now → IsSend there (from_of self.old.sending offset) s.number (items_of s.syn s.payload.now s.fin)) }
         ensures waits { (there : World) → Waits there self.old.sending outgoing.now → WaitsLater there self.new.sending outgoing.now }
-        ensures answers { IfSome result (λ s. (back : World) (consumed buffer : List ℕ) → Stands back.receiver consumed self.old.receiving buffer → IfSome s.ack (λ number. IsAnswer back number)) }
+        ensures answers { IfSome result (λ s. (back : World) (consumed buffer : List ℕ) → Stands back consumed self.old.receiving buffer → IfSome s.ack (λ number. IsAnswer back number)) }
     {
         let part = self.sending.segment(outgoing, offset, count);
         if !part.syn && part.payload.is_empty() && !part.fin {
@@ -309,7 +309,7 @@ impl Connection {
     pub fn acknowledgement(&self) -> Reply
         ensures syn { result.syn ≡ false }
         ensures rst { result.rst ≡ false }
-        ensures legal { (back : World) (consumed buffer : List ℕ) → Stands back.receiver consumed self.now.receiving buffer → IfSome result.ack (λ number. IsAnswer back number) }
+        ensures legal { (back : World) (consumed buffer : List ℕ) → Stands back consumed self.now.receiving buffer → IfSome result.ack (λ number. IsAnswer back number) }
     {
         Reply {
             number: self.sending.next(),
@@ -336,7 +336,7 @@ impl Connection {
         ensures out { OutFits self.new.sending (length outgoing.now) }
         ensures rings { (size : ℕ) → 0 < size → size < 1073741824 → InFits self.new.receiving size }
         ensures waits { Waits (happens (start iss) (Send 0 1)) self.new.sending outgoing.now }
-        ensures stands { (initial : ℕ) (buffer : List ℕ) → Stands (start initial).receiver [] self.new.receiving buffer }
+        ensures stands { (initial : ℕ) (buffer : List ℕ) → Stands (start initial) [] self.new.receiving buffer }
     {
         self.iss = iss;
         self.is_peer_first = false;

@@ -24,7 +24,7 @@ pub returns-clause-goes : goal.returns-clause-goes
 returns-clause-goes c = λ there back consumed comes stand.
     let s = c.args.segment.now in
     let acked = ack_of (λ number. (which : ℕ) × AckComes there which number) s.ack c.in-Some-ack.ack c.in-Some-ack.is comes.ack in
-    let still : Stands back.receiver consumed c.on_ack.new.self.receiving c.args.incoming.now = subst (λ (x : Receiving). Stands back.receiver consumed x c.args.incoming.now) (sym c.on_ack.ensures.receiving) stand.stands in
+    let still : Stands back consumed c.on_ack.new.self.receiving c.args.incoming.now = subst (λ (x : Receiving). Stands back consumed x c.args.incoming.now) (sym c.on_ack.ensures.receiving) stand.stands in
     went there back consumed c.take_text.new.self c.args.outgoing.now c.take_text.new.incoming
     (waits_as there c.on_ack.new.self.sending c.take_text.new.self.sending c.args.outgoing.now c.take_text.ensures.sending (c.on_ack.ensures.waits there acked.0 acked.1 stand.waits))
-    (c.take_text.ensures.stands back comes.event consumed (text_of back comes.event s.number s.syn s.payload.now s.fin c.if-segment-2.false comes.text) still)
+    (c.take_text.ensures.stands back comes.which consumed (text_of back comes.which s.number s.syn s.payload.now s.fin c.if-segment-2.false comes.text) still)

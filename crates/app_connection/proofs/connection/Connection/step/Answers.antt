@@ -28,7 +28,7 @@ returns-in-Close-clause-goes c = λ there back consumed other comes stand.
     let old = c.args.self.now in
     let new = c.close.new.self in
     let waits : WaitsLater there new.sending c.args.outgoing.now = elim (either (may_close (state_from old))) [
-      | inl may ↦ record { events = Close ∷ []; waits = c.close.ensures.waits may there c.args.outgoing.now stand.waits }
+      | inl may ↦ record { events = Close ∷ []; own = tt; waits = c.close.ensures.waits may there c.args.outgoing.now stand.waits }
       | inr cannot ↦ waits_as there old.sending new.sending c.args.outgoing.now (c.close.ensures.stays cannot) (waits_now there old.sending c.args.outgoing.now stand.waits)
     ] in
     went there back consumed new c.args.outgoing.now c.args.incoming.now waits
