@@ -5,7 +5,7 @@
 # make crate          makes a Rust crate with the library in it: out/crate
 # make dist           packs them for use without the kit: out/ip_wire-VERSION-x86_64-linux.tar.gz
 # make deb            packs them as Debian packages in out/deb, with dpkg-dev
-# make quick          runs the tests of the libraries and both programs, without proofs
+# make quick          runs the tests of the libraries and the programs, without proofs
 # make sketch         compiles the C library with rustc, without proofs, in out/sketch
 # make check          proves one crate, CRATE=name, over the libraries that make test proved
 # make affected       proves what the change since SINCE=HEAD reaches, with tests and wrong bodies

@@ -71,7 +71,7 @@ def reached(changed, restated):
     tests = {re.compile(rf"test_{crate.partition('_')[0]}s?") for crate in changed}
 
     def runs_it(name, named):
-        is_test = name.startswith("test_") or name == "ip_calls"
+        is_test = name.startswith("test_") or name in ("ip_calls", "tcp_steps")
         return is_test and (set(named) & set(changed) or any(kind.fullmatch(name) for kind in tests))
 
     return [

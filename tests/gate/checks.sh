@@ -50,7 +50,7 @@ copy_the_tree() {
     touch "$room/begun"
     tar --exclude=out --exclude=.git -cf - . | tar -xf - -C "$copy"
     tests/gate/proved.py apart "$copy"
-    mkdir -p out "${program%/*}" "${calls%/*}" "${archive%/*}"
+    mkdir -p out "${program%/*}" "${calls%/*}" "${steps%/*}" "${archive%/*}"
     rm -rf out/test.log out/proved
 }
 
@@ -92,12 +92,12 @@ run_the_gate() {
     (cd "$copy" && tests/gate/progress.py "$OLDPWD/out/test.log" rt ci $anew)
     gate=$?
     ln -s "$PWD/out" "$copy/out"
-    rm -rf "$program" "$calls"
-    for built in "$program" "$calls"; do
+    rm -rf "$program" "$calls" "$steps"
+    for built in "$program" "$calls" "$steps"; do
         [ -x "$copy/$built" ] && cp "$copy/$built" "$built"
     done
     # Dated back to the copy, so that make rebuilds them if a source has changed since.
-    touch -c -r "$room/begun" "$program" "$calls"
+    touch -c -r "$room/begun" "$program" "$calls" "$steps"
     if [[ $(tail -n 1 out/test.log) =~ ^([0-9]+)\ passed,\ ([0-9]+)\ failed$ ]]; then
         passed=${BASH_REMATCH[1]}
         failed=${BASH_REMATCH[2]}

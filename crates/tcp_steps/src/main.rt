@@ -1,0 +1,49 @@
+//! Lets events happen to a TCP connection, one on each input line, and prints the answer of each on one line. So it can be
+//! compared with a model, event by event.
+//!
+//! The words of a line are separated by single spaces:
+//!
+//! - `new OUT IN`: another connection, in CLOSED, with rings of these sizes in bytes.
+//! - `listen`, `open ISS`, `close` and `abort`: calls of the application.
+//! - `write TEXT` and `read COUNT`: bytes from and for the application.
+//! - `send OFFSET COUNT`: the next segment, or one again.
+//! - `arrives SEQ ACK FLAGS WINDOW TEXT FRESH`: a segment comes, and the number of a connection that it opens.
+//!
+//! ACK is `-` without the flag ACK. FLAGS is a dot and the letters of SYN, FIN and RST. TEXT is taken as it stands, and `-`
+//! is no text. A number that does not parse is 0.
+//!
+//! The answer is the state, and in other states than CLOSED and LISTEN also SND.NXT, RCV.NXT, RCV.WND and SND.WND. Then comes
+//! what the call returns: the segment that goes out as `SEQ ACK FLAGS WINDOW TEXT`, the count of `write`, or the text of `read`,
+//! and `-` for nothing.
+//!
+//! If reading or writing fails or memory runs out, the program ends with status 1.
+#![tactic(auto)]
+
+mod endpoint;
+mod words;
+
+use crate::endpoint::Endpoint;
+use crate::words::{NOTHING, Words};
+use std::io;
+use std::io::{BufWriter, Write};
+
+fn main(rt: HostRuntime) -> io::Result<()> {
+    let alloc = rt.alloc();
+    let mut endpoint = Endpoint::new(alloc, 1, 1)?;
+    let mut output = BufWriter::new(alloc, rt.stdout())?;
+    for line in rt.lines(alloc) {
+        let line = line?;
+        let words: Vec<&str> = line.split(' ').collect(alloc)?;
+        let mut words = Words::new(words.as_slice());
+        let result = match words.word() {
+            "new" => {
+                endpoint = Endpoint::new(alloc, words.size(), words.size())?;
+                String::from_str(alloc, NOTHING)?
+            }
+            name => endpoint.answer(alloc, name, &mut words)?,
+        };
+        let state = endpoint.variables(alloc)?;
+        writeln!(output, "{state} {result}")?;
+    }
+    output.flush()
+}

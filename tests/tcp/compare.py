@@ -1,0 +1,177 @@
+#!/usr/bin/env python3
+"""Compares the TCP of a program with a model of RFC 9293, event by event: tests/tcp/compare.py PROGRAM SEED COUNT
+
+The program is crates/tcp_steps. Both get the same random events, at least COUNT, and the first difference is shown.
+Each seed gives its own events, the same in each run.
+
+    tests/tcp/compare.py --counts SEED COUNT     prints how often each state meets each rule of the RFC
+    tests/tcp/compare.py --faults SEED COUNT     shows that each damaged copy of the model differs from it
+    tests/tcp/compare.py --answers < LINES       prints the answers of the model to lines for the program
+"""
+import collections
+import functools
+import multiprocessing
+import pathlib
+import shutil
+import subprocess
+import sys
+
+sys.path.append(str(pathlib.Path(__file__).resolve().parents[1] / "frames"))
+import faults  # noqa: E402
+import model  # noqa: E402
+import rules  # noqa: E402
+from dice import Random  # noqa: E402
+from lines import event_of, happens, line_of  # noqa: E402
+from schedules import Schedule  # noqa: E402
+
+# Events of a schedule after its first ones, and schedules of one run of the program.
+LENGTH = 150
+SCHEDULES = 100
+# How many lines before a difference are shown.
+BEFORE = 12
+
+
+def schedule(rng, counts):
+    """The lines and the answers of both endpoints of a schedule, each from its first event to its last."""
+    lines, answers = ([], []), ([], [])
+    plan = Schedule(rng, LENGTH)
+    for end, name, *operands in plan.events():
+        one = plan.ends[end]
+        answer = "Closed -"
+        if name != "new":
+            before = one.state
+            returned, answer = happens(one, name, operands)
+            plan.sent(end, returned)
+            counts.update((before, rule) for rule in one.met)
+        lines[end].append(line_of(name, operands))
+        answers[end].append(answer)
+    return lines, answers
+
+
+def part(seed):
+    """The lines and the answers of the schedules of a seed, and how often each state met each rule."""
+    rng, counts = Random(seed), collections.Counter()
+    lines, answers = [], []
+    for _ in range(SCHEDULES):
+        for more_lines, more_answers in zip(*schedule(rng, counts)):
+            lines += more_lines
+            answers += more_answers
+    return lines, answers, counts
+
+
+def difference(lines, ours, theirs):
+    """The first answer that differs, with the lines before it; None if there is none."""
+    for at, (one, other) in enumerate(zip(ours, theirs)):
+        if one != other:
+            first = max(0, at - BEFORE)
+            before = "".join(f"{line}\n    {answer}\n" for line, answer in zip(lines[first:at], ours[first:at]))
+            return f"{before}line {at + 1}: {lines[at]}\nthe model:   {one}\nthe program: {other}"
+    return None if len(ours) == len(theirs) else f"{len(ours)} answers of the model, {len(theirs)} of the program"
+
+
+def answers_of(program, lines):
+    """What the program prints for these lines."""
+    text = "".join(f"{line}\n" for line in lines)
+    return subprocess.run([program], input=text, stdout=subprocess.PIPE, text=True, check=True).stdout.splitlines()
+
+
+def keeps_later(program):
+    """Whether the program keeps text after a gap, which the RFC leaves to it (SHLD-31)."""
+    lines = ["new 8 8", "listen", "arrives 9 - .S 8 - 0", "arrives 10 1 . 8 - 0", "arrives 11 1 . 8 b 0", "arrives 10 1 . 8 a 0"]
+    return " 12 " in answers_of(program, lines)[-1]
+
+
+def compared(program, keeps, seed):
+    """How many events of a seed were compared, and the first difference."""
+    model.Connection.KEEPS_LATER = keeps
+    lines, answers, _ = part(seed)
+    return len(lines), difference(lines, answers, answers_of(program, lines))
+
+
+def seeds(seed, count):
+    """The seeds of so many events."""
+    return [f"{seed}.{at}" for at in range(-(-count // (SCHEDULES * LENGTH)))]
+
+
+def compare(program, seed, count):
+    total = 0
+    named = seeds(seed, count)
+    compared_part = functools.partial(compared, program, keeps_later(program))
+    with multiprocessing.Pool() as pool:
+        for each, (events, found) in zip(named, pool.imap(compared_part, named)):
+            if found:
+                sys.exit(f"seed {each}\n{found}")
+            total += events
+    print(f"{total} events, no difference")
+
+
+def is_noticed(fault, seed):
+    """Whether the damaged copy answers an event of the seed otherwise."""
+    rng = Random(seed)
+    for _ in range(SCHEDULES):
+        ends = [None, None]
+        plan = Schedule(rng, LENGTH)
+        for end, name, *operands in plan.events():
+            if name == "new":
+                ends[end] = fault(*operands)
+                continue
+            returned, answer = happens(plan.ends[end], name, operands)
+            plan.sent(end, returned)
+            if happens(ends[end], name, operands)[1] != answer:
+                return True
+    return False
+
+
+def try_faults(seed, count):
+    for fault in faults.FAULTS:
+        if not any(is_noticed(fault, each) for each in seeds(seed, count)):
+            sys.exit(f"not noticed: {fault.__doc__}")
+    print(f"{len(faults.FAULTS)} faults, all noticed")
+
+
+def print_counts(seed, count):
+    """Prints the table. Fails if a state never meets a rule of the RFC, or meets one that it cannot."""
+    with multiprocessing.Pool() as pool:
+        counts = sum(pool.imap(counted, seeds(seed, count)), collections.Counter())
+    print(f"{'':36}" + "".join(f"{state:>13}" for state in model.STATES))
+    for rule in rules.RULES:
+        print(f"{rule:36}" + "".join(f"{counts[state, rule] or '':>13}" for state in model.STATES))
+    wrong = [f"{state}, {rule}: {counts[state, rule]}" for rule, state in rules.wrong_cells(counts)]
+    if wrong:
+        sys.exit("\n".join(wrong))
+
+
+def counted(seed):
+    return part(seed)[2]
+
+
+def print_answers():
+    one = None
+    for line in sys.stdin:
+        name, operands = event_of(line)
+        if name == "new":
+            one = model.Connection(*operands)
+            print("Closed -")
+        else:
+            print(happens(one, name, operands)[1])
+
+
+def main():
+    if sys.argv[1:] == ["--answers"]:
+        print_answers()
+        return
+    if len(sys.argv) != 4 or not (sys.argv[2] + sys.argv[3]).isdecimal():
+        sys.exit(__doc__.strip())
+    seed, count = int(sys.argv[2]), int(sys.argv[3])
+    if sys.argv[1] == "--faults":
+        try_faults(seed, count)
+    elif sys.argv[1] == "--counts":
+        print_counts(seed, count)
+    elif not shutil.which(sys.argv[1]):
+        sys.exit(f"there is no program {sys.argv[1]}")
+    else:
+        compare(sys.argv[1], seed, count)
+
+
+if __name__ == "__main__":
+    main()

@@ -1,0 +1,146 @@
+"""Damaged copies of the model. Random events must show a difference for each."""
+import model
+from model import Connection
+
+
+class RstInWindow(Connection):
+    """A RST acts anywhere in the window."""
+
+    def resets(self, seg):
+        return self.is_in_window(seg.seq)
+
+
+class RstAnywhere(Connection):
+    """A RST acts without a look at its number."""
+
+    def resets(self, seg):
+        return True
+
+
+class SynEnds(Connection):
+    """A SYN in the window ends the connection."""
+
+    def in_other(self, seg):
+        if "S" in seg.bits and "R" not in seg.bits and self.is_acceptable(seg) and self.state != model.SYN_RECEIVED:
+            self.state = model.CLOSED
+            return None
+        return super().in_other(seg)
+
+
+class FirstNumberOnly(Connection):
+    """A segment is acceptable by its first number only."""
+
+    def is_acceptable(self, seg):
+        return seg.seq == self.rcv_nxt or self.is_in_window(seg.seq)
+
+
+class ZeroWindow(Connection):
+    """A window of 0 accepts text."""
+
+    def is_acceptable(self, seg):
+        return super().is_acceptable(seg) or self.rcv_wnd == 0 and seg.seq == self.rcv_nxt
+
+
+class OldWindow(Connection):
+    """Each acknowledgement sets the window, also an older one."""
+
+    def is_newer(self, seg):
+        return True
+
+
+class WindowByAck(Connection):
+    """SND.WL1 is not compared."""
+
+    def is_newer(self, seg):
+        return not model.is_before(seg.ack, self.snd_wl2)
+
+
+class AckOfUnsent(Connection):
+    """An acknowledgement of what was not sent is taken."""
+
+    def acknowledges_unsent(self, ack):
+        return False
+
+    def acknowledges_new(self, ack):
+        return 0 < model.distance(ack, self.snd_una) < model.HALF
+
+
+class AckOfNothing(Connection):
+    """An acknowledgement of SND.UNA establishes the connection."""
+
+    def acknowledges_new(self, ack):
+        return super().acknowledges_new(ack) or self.state == model.SYN_RECEIVED and ack == self.snd_una
+
+
+class FinNotCounted(Connection):
+    """The FIN takes no number."""
+
+    def take_fin(self):
+        super().take_fin()
+        self.rcv_nxt = (self.rcv_nxt - 1) & model.MASK
+
+
+class TextTwice(Connection):
+    """What comes twice is taken twice."""
+
+    def take_text(self, seg):
+        skip = model.distance(self.rcv_nxt, seg.seq)
+        return super().take_text(seg._replace(seq=self.rcv_nxt) if 0 < skip <= len(seg.text) else seg)
+
+
+class FinNotAcknowledged(Connection):
+    """The acknowledgement of the FIN changes no state."""
+
+    def take_ack_of_fin(self):
+        pass
+
+
+class NoModulo(Connection):
+    """SND.WL1 and SEG.SEQ are compared as numbers, not modulo 2^32."""
+
+    def is_newer(self, seg):
+        return self.snd_wl1 < seg.seq or self.snd_wl1 == seg.seq and not model.is_before(seg.ack, self.snd_wl2)
+
+
+class BlindRst(Connection):
+    """A RST without an acknowledgement ends an active open."""
+
+    def in_syn_sent(self, seg):
+        if "R" in seg.bits and seg.ack is None:
+            self.state = model.CLOSED
+            return None
+        return super().in_syn_sent(seg)
+
+
+class ListenTakesAcks(Connection):
+    """LISTEN takes a SYN with an acknowledgement."""
+
+    def in_listen(self, seg, iss):
+        return super().in_listen(seg._replace(ack=None) if seg.bits == "S" else seg, iss)
+
+
+class NoTimeWait(Connection):
+    """A simultaneous close ends without TIME-WAIT."""
+
+    def take_ack_of_fin(self):
+        super().take_ack_of_fin()
+        if self.state == model.TIME_WAIT:
+            self.state = model.CLOSED
+
+
+class WindowAfterFin(Connection):
+    """The window stays after the FIN of the peer."""
+
+    @property
+    def rcv_wnd(self):
+        return self.size_in - len(self.unread)
+
+
+class ToClosed(Connection):
+    """A RST ends a passive open: it does not return to LISTEN."""
+
+    def return_to_listen(self):
+        self.state = model.CLOSED
+
+
+FAULTS = Connection.__subclasses__()

@@ -1,0 +1,46 @@
+"""The lines of crates/tcp_steps: an event each, and the answer of the model in the words of the program."""
+import model
+
+# The states as the program prints them.
+SHOWN = {state: state.title().replace("-", "") for state in model.STATES}
+
+
+def shown(value):
+    """An operand or a result as words: a segment, a text or a number, and `-` for nothing."""
+    if isinstance(value, model.Segment):
+        seq, ack, bits, window, text = value
+        return f"{seq} {'-' if ack is None else ack} .{bits} {window} {text.decode() or '-'}"
+    return "-" if value is None else str(value) if isinstance(value, int) else value.decode() or "-"
+
+
+def line_of(name, operands):
+    return " ".join([name, *map(shown, operands)])
+
+
+def event_of(line):
+    """The name and the operands of a line."""
+    name, *words = line.split()
+    if name == "arrives":
+        seq, ack, flags, window, text, iss = words
+        ack = None if ack == "-" else int(ack)
+        return name, [model.Segment(int(seq), ack, flags[1:], int(window), text_of(text)), int(iss)]
+    return name, [text_of(word) if name == "write" else int(word) for word in words]
+
+
+def text_of(word):
+    return b"" if word == "-" else word.encode()
+
+
+def variables(one):
+    """The state, and the variables that it has."""
+    if one.state in (model.CLOSED, model.LISTEN):
+        return SHOWN[one.state]
+    rcv_nxt = "-" if one.state == model.SYN_SENT else one.rcv_nxt
+    return f"{SHOWN[one.state]} {one.snd_nxt} {rcv_nxt} {one.rcv_wnd} {one.snd_wnd}"
+
+
+def happens(one, name, operands):
+    """Lets an event happen. Returns what the call returns, and the answer of the program."""
+    one.met.clear()
+    returned = getattr(one, name)(*operands)
+    return returned, f"{variables(one)} {shown(returned)}"
