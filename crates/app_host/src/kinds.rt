@@ -1,5 +1,6 @@
 //! The answers of a host by what a frame carries. The headers are parsed one by one, and each kind has a function of its
-//! own: a value `Frame` in memory has room for every kind, and to fill and copy it takes longer than the reply.
+//! own: a value `Frame` in memory has room for every kind, and to fill and copy it takes longer than the reply. So does
+//! an IP header that may be of either version: each version has code of its own, in which all other functions are inlined.
 
 ghost use Rattle.std.specs.Prelude.{◌≡◌, List, drop, ℕ};
 ghost use Rattle.app_host.specs.Kinds.{TriesReply};
@@ -11,7 +12,7 @@ ghost use Rattle.ip_wire.specs.declared.Carried.TheVariants as carried;
 ghost use Rattle.ip_wire.specs.declared.EthernetProtocol.TheVariants as ethertype;
 ghost use Rattle.ip_wire.specs.declared.Transport.TheVariants as transport;
 
-use crate::host::{Host, dscp_in, port_unreachable};
+use crate::host::{Host, dscp_in, try_port_unreachable};
 use crate::{arp, icmp_echo, neighbour, parameter_problem, tcp_answer, udp_echo};
 use ip_wire::{
     ArpPacket, ArpRepr, Carried, ChecksumCapabilities, EthernetFrame, EthernetProtocol,
@@ -61,7 +62,7 @@ fn answer_arp(
 }
 
 // The reply to a frame with an IPv4 packet.
-#[inline(always)]
+#[inline(never)]
 fn answer_ipv4(
     host: &Host<'_>,
     link: EthernetRepr,
@@ -90,7 +91,7 @@ fn answer_ipv4(
 }
 
 // The reply to a frame with an IPv6 packet.
-#[inline(always)]
+#[inline(never)]
 fn answer_ipv6(
     host: &Host<'_>,
     link: EthernetRepr,
@@ -155,7 +156,7 @@ fn answer_packet(
 }
 
 // The reply to a UDP packet for the echo port, or the error about one for a closed port.
-#[inline(never)]
+#[inline(always)]
 fn answer_udp(
     host: &Host<'_>,
     link: EthernetRepr,
@@ -175,14 +176,11 @@ fn answer_udp(
     if let Some(echo) = udp_echo::echo(&request, &host.interface, host.echo_port) {
         return Some(send_inlined(&echo, out));
     }
-    match port_unreachable(host, &request, frame) {
-        Some(error) => Some(error.send(out)),
-        None => None,
-    }
+    try_port_unreachable(host, &request, frame, out)
 }
 
 // The reply to a TCP segment.
-#[inline(never)]
+#[inline(always)]
 fn answer_tcp(
     host: &Host<'_>,
     link: EthernetRepr,
@@ -204,7 +202,7 @@ fn answer_tcp(
 }
 
 // The reply to an echo request, to a neighbour solicitation, or to a packet with a faulty extension header.
-#[inline(never)]
+#[inline(always)]
 fn answer_other(
     host: &Host<'_>,
     link: EthernetRepr,
