@@ -1,6 +1,5 @@
 //! The answers of a host by what a frame carries. The headers are parsed one by one, and each kind has a function of its
-//! own: a value `Frame` in memory has room for every kind, and to fill and copy it takes longer than the reply. So does
-//! an IP header that may be of either version: each version has code of its own, in which all other functions are inlined.
+//! own: a value `Frame` in memory has room for every kind, and to fill and copy it takes longer than the reply.
 
 ghost use Rattle.std.specs.Prelude.{◌≡◌, List, drop, ℕ};
 ghost use Rattle.app_host.specs.Kinds.{TriesReply};
@@ -62,7 +61,7 @@ fn answer_arp(
 }
 
 // The reply to a frame with an IPv4 packet.
-#[inline(never)]
+#[inline(always)]
 fn answer_ipv4(
     host: &Host<'_>,
     link: EthernetRepr,
@@ -91,7 +90,7 @@ fn answer_ipv4(
 }
 
 // The reply to a frame with an IPv6 packet.
-#[inline(never)]
+#[inline(always)]
 fn answer_ipv6(
     host: &Host<'_>,
     link: EthernetRepr,
@@ -156,7 +155,7 @@ fn answer_packet(
 }
 
 // The reply to a UDP packet for the echo port, or the error about one for a closed port.
-#[inline(always)]
+#[inline(never)]
 fn answer_udp(
     host: &Host<'_>,
     link: EthernetRepr,
@@ -180,7 +179,7 @@ fn answer_udp(
 }
 
 // The reply to a TCP segment.
-#[inline(always)]
+#[inline(never)]
 fn answer_tcp(
     host: &Host<'_>,
     link: EthernetRepr,
@@ -202,7 +201,7 @@ fn answer_tcp(
 }
 
 // The reply to an echo request, to a neighbour solicitation, or to a packet with a faulty extension header.
-#[inline(always)]
+#[inline(never)]
 fn answer_other(
     host: &Host<'_>,
     link: EthernetRepr,
