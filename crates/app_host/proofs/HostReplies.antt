@@ -1,5 +1,5 @@
 -- Each kind of reply is a reply of a host, and what is sent of it is what a host sends.
-use Rattle.std.proofs.Common.{ℕ, ◌≡◌, ◌∙◌, ◌++◌, inl, inr, List, Option, Some, None, arith, ap, drop, refl, subst, sym}
+use Rattle.std.proofs.Common.{ℕ, ◌≡◌, ◌∙◌, ◌++◌, inl, inr, List, Option, Some, None, arith, ap, drop, refl}
 use Rattle.std.specs.Prelude.{IfSome}
 use Rattle.app_host.specs.Host.{Answers, IsServed, IsUnread, RepliesBytes, RepliesFrame, RepliesMessage, UnreachableFrame}
 use Rattle.app_host.specs.declared.host.Host.{Host}

@@ -42,7 +42,7 @@ no-reply host bytes request parsed no_frame no_message = λ h c (header, asked, 
     neither h c asked is (inl e) = no_frame h c (asked, is, e)
     neither h c asked is (inr e) = no_message h c (asked, is, e)
 
-always : {A : Type 0} (result : Option ℕ) → A → IfSome result (λ len. A)
+pub always : {A : Type 0} (result : Option ℕ) → A → IfSome result (λ len. A)
 always None a = tt
 always (Some len) a = a
 

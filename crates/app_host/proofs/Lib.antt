@@ -19,3 +19,4 @@ pub mod ParameterProblems
 pub mod RepliesOnce
 pub mod ReplyEnds
 pub mod TcpReplies
+pub mod Tried

@@ -33,7 +33,7 @@ use Rattle.wire_icmp.specs.declared.NdiscRepr.TheVariants.{NeighborSolicit}
 pub link-once : (frame : List ℕ) (a b : EthernetRepr) → ethernet.Reads frame a → ethernet.Reads frame b → a ≡ b
 link-once frame a b r s = Reads-is frame a r ∙ sym (Reads-is frame b s)
 
-header-once : (bytes : List ℕ) (v w : IpRepr) → Reads bytes true v → Reads bytes true w → v ≡ w
+pub header-once : (bytes : List ℕ) (v w : IpRepr) → Reads bytes true v → Reads bytes true w → v ≡ w
 header-once bytes (Ipv4 v) (Ipv4 w) r s = ap Ipv4 (ipv4.Reads-is true bytes v r.header ∙ sym (ipv4.Reads-is true bytes w s.header))
 header-once bytes (Ipv6 v) (Ipv6 w) r s = ap Ipv6 (ipv6.Reads-is bytes v r.header ∙ sym (ipv6.Reads-is bytes w s.header))
 header-once bytes (Ipv4 v) (Ipv6 w) r s = absurd (omega (arith, r.version.number, s.version.number))

@@ -3,17 +3,16 @@
 ghost use Rattle.std.specs.Prelude.{◌≡◌, ◌↔◌, ◌<◌, ◌≤◌, IfSome, IsTrue, None, drop, length};
 ghost use Rattle.app_host.specs.Host.{Answers, IsServed, IsUnread, RepliesBytes, UnreachableFrame};
 ghost use Rattle.app_host.specs.IcmpEcho.{KeepsDscp, reply_dscp};
-ghost use Rattle.app_host.specs.Kinds.{TriesReply};
-ghost use Rattle.app_host.specs.Message as message;
+ghost use Rattle.app_host.specs.Kinds.{Tries, TriesReply};
 ghost use Rattle.app_host.specs.Message.{dscp_of};
 ghost use Rattle.ip_wire.specs.Ip.{version_of};
-ghost use Rattle.ip_wire.specs.Reply.{Sends};
+ghost use Rattle.ip_wire.specs.Reply.{Sends, unmarked};
 ghost use Rattle.ip_wire.specs.Types.{IpRepr};
 ghost use Rattle.ip_wire.specs.declared.Carried.TheVariants.{Packet};
 ghost use Rattle.ip_wire.specs.declared.Transport.{Transport as Inner};
 
 use crate::tcp_reply::Offer;
-use crate::{Interface, MessageFrame, icmp_error, kinds};
+use crate::{Interface, icmp_error, kinds};
 use ip_wire::{Carried, ETHERNET_HEADER_LEN, Frame, IpVersion, Ipv4Packet, Ipv6Packet, Transport};
 use wire_icmp::{IcmpRepr, Unreachable};
 
@@ -74,15 +73,16 @@ pub(crate) fn dscp_in(request: &Frame<'_>, frame: &[u8]) -> u8
     }
 }
 
-// The error about a UDP packet for a port that the host does not serve.
+// Writes the error about a UDP packet for a port that the host does not serve. `Some(None)` if it does not fit, and
+// `None` if there is none.
 #[inline(always)]
-pub(crate) fn port_unreachable<'a>(
+pub(crate) fn try_port_unreachable(
     host: &Host<'_>,
     request: &Frame<'_>,
-    frame: &'a [u8],
-) -> Option<MessageFrame<'a>>
-    ensures error { message.Gives (UnreachableFrame host.now frame.now request.now) result }
-    ensures unmarked { IfSome result (λ error. error.dscp ≡ 0) }
+    frame: &[u8],
+    out: &mut [u8],
+) -> Option<Option<usize>>
+    ensures { Tries unmarked (UnreachableFrame host.now frame.now request.now) out.old out.new result }
 {
     match &request.carried {
         Carried::Packet(header, inner) => match inner {
@@ -96,7 +96,7 @@ pub(crate) fn port_unreachable<'a>(
                 let message = IcmpRepr::DstUnreachable {
                     reason: Unreachable::Port,
                 };
-                icmp_error::error_inlined(frame, &host.interface, message, false)
+                icmp_error::try_error(frame, &host.interface, message, out)
             }
             _ => None,
         },

@@ -1,12 +1,15 @@
 //! ICMP errors about the packet of a frame (RFC 1122, section 3.2.2; RFC 1812, section 4.3.2; RFC 4443,
 //! section 2.4).
 
-ghost use Rattle.std.specs.Prelude.{◌≡◌, ◌↔◌, IfSome, IsTrue, true};
+ghost use Rattle.std.specs.Prelude.{◌≡◌, ◌↔◌, IfSome, IsTrue, drop, true};
 ghost use Rattle.app_host.specs.IcmpError.{IsBetweenHosts, IsError, IsErrorTo, IsIcmpError, IsOurGroup, IsToGroup, IsToReceiver, IsToldOf, header_from, quoted};
+ghost use Rattle.app_host.specs.Kinds.{Tries};
 ghost use Rattle.app_host.specs.Message.{Gives};
+ghost use Rattle.ip_wire.specs.Ethernet as ethernet;
 ghost use Rattle.ip_wire.specs.Ip.{Reads, version_of};
 ghost use Rattle.ip_wire.specs.Ipv4 as ipv4;
 ghost use Rattle.ip_wire.specs.Ipv6 as ipv6;
+ghost use Rattle.ip_wire.specs.Reply.{unmarked};
 ghost use Rattle.ip_wire.specs.Types.{Ipv4, Ipv6};
 
 use crate::interface::{Interface, header_back, is_host_addr};
@@ -36,7 +39,7 @@ const IPV6_QUOTE_LEN: usize = 1232;
 /// - It carries an ICMP error or redirect, or may be part of one: it is a later fragment of ICMPv6.
 ///
 /// The broadcast address of a subnet is not known here, so it counts as that of a host.
-#[inline(always)]
+#[inline(never)]
 pub fn error<'a>(frame: &'a [u8], ours: &Interface, message: IcmpRepr) -> Option<MessageFrame<'a>>
     ensures error { Gives (IsError ours.now frame.now message) result }
     ensures unmarked { IfSome result (λ error. error.dscp ≡ 0) }
@@ -45,22 +48,8 @@ pub fn error<'a>(frame: &'a [u8], ours: &Interface, message: IcmpRepr) -> Option
 }
 
 /// As `error`. If `to_groups`, also about a packet to a multicast group of the interface (RFC 4443, section 2.4 e.3).
-#[inline(never)]
-pub(crate) fn error_to<'a>(
-    frame: &'a [u8],
-    ours: &Interface,
-    message: IcmpRepr,
-    to_groups: bool,
-) -> Option<MessageFrame<'a>>
-    ensures error { Gives (IsErrorTo to_groups ours.now frame.now message) result }
-    ensures unmarked { IfSome result (λ error. error.dscp ≡ 0) }
-{
-    error_inlined(frame, ours, message, to_groups)
-}
-
-/// As `error_to`, for a caller that sends the error itself: its parts need not be in memory then.
 #[inline(always)]
-pub(crate) fn error_inlined<'a>(
+pub(crate) fn error_to<'a>(
     frame: &'a [u8],
     ours: &Interface,
     message: IcmpRepr,
@@ -73,19 +62,87 @@ pub(crate) fn error_inlined<'a>(
     let Ok(link) = EthernetRepr::parse(&view) else {
         return None;
     };
-    let packet = view.payload();
     let caps = ChecksumCapabilities::default();
-    let Ok(header) = IpRepr::parse(&IpPacket::new_unchecked(packet), &caps) else {
+    match IpRepr::parse(&IpPacket::new_unchecked(view.payload()), &caps) {
+        Ok(header) => error_about(&link, &header, frame, ours, message, to_groups),
+        Err(_) => None,
+    }
+}
+
+/// Writes the error that `error` returns to the front of `out`, and returns its length. `Some(None)` if it does not
+/// fit, and `None` if the sender may not get one; then `out` is unchanged.
+#[inline(never)]
+pub fn try_error(
+    frame: &[u8],
+    ours: &Interface,
+    message: IcmpRepr,
+    out: &mut [u8],
+) -> Option<Option<usize>>
+    ensures { Tries unmarked (IsError ours.now frame.now message) out.old out.new result }
+{
+    let view = EthernetFrame::new_unchecked(frame);
+    let Ok(link) = EthernetRepr::parse(&view) else {
         return None;
     };
-    if !is_to_receiver(to_groups, &link, &header, ours) {
+    let caps = ChecksumCapabilities::default();
+    // Each version has code of its own: an IP header that may be of either takes longer.
+    match IpRepr::parse(&IpPacket::new_unchecked(view.payload()), &caps) {
+        Ok(header) => match header {
+            IpRepr::Ipv4(value) => {
+                try_error_about(&link, &IpRepr::Ipv4(value), frame, ours, message, out)
+            }
+            IpRepr::Ipv6(value) => {
+                try_error_about(&link, &IpRepr::Ipv6(value), frame, ours, message, out)
+            }
+        },
+        Err(_) => None,
+    }
+}
+
+// Writes the error about a packet with this header to one host, as `try_error`.
+#[inline(always)]
+fn try_error_about(
+    link: &EthernetRepr,
+    header: &IpRepr,
+    frame: &[u8],
+    ours: &Interface,
+    message: IcmpRepr,
+    out: &mut [u8],
+) -> Option<Option<usize>>
+    requires link { ethernet.Reads frame.now link.now }
+    requires header { Reads (drop 14 frame.now) true header.now }
+    ensures { Tries unmarked (IsError ours.now frame.now message) out.old out.new result }
+{
+    match error_about(link, header, frame, ours, message, false) {
+        Some(error) => Some(error.send(out)),
+        None => None,
+    }
+}
+
+// The error about a packet with this header, in a frame with this Ethernet header.
+#[inline(always)]
+fn error_about<'a>(
+    link: &EthernetRepr,
+    header: &IpRepr,
+    frame: &'a [u8],
+    ours: &Interface,
+    message: IcmpRepr,
+    to_groups: bool,
+) -> Option<MessageFrame<'a>>
+    requires link { ethernet.Reads frame.now link.now }
+    requires header { Reads (drop 14 frame.now) true header.now }
+    ensures error { Gives (IsErrorTo to_groups ours.now frame.now message) result }
+    ensures unmarked { IfSome result (λ error. error.dscp ≡ 0) }
+{
+    let packet = EthernetFrame::new_unchecked(frame).payload();
+    if !is_to_receiver(to_groups, link, header, ours) {
         return None;
     }
-    if !is_told_of(&header, packet) {
+    if !is_told_of(header, packet) {
         return None;
     }
     let (src_addr, dst_addr) = (ours.hardware_addr, link.src_addr);
-    let (back, quote) = (header_from(ours, &header), quoted(&header, packet));
+    let (back, quote) = (header_from(ours, header), quoted(header, packet));
     Some(MessageFrame::icmp(src_addr, dst_addr, back, message, quote))
 }
 
@@ -148,6 +205,7 @@ pub(crate) fn is_our_group(ours: &Interface, group: &Ipv6Address) -> bool
 }
 
 // Whether an error may be sent about what the packet carries.
+#[inline(always)]
 fn is_told_of(header: &IpRepr, packet: &[u8]) -> bool
     requires { Reads packet.now true header.now }
     ensures { IsTrue result ↔ IsToldOf header.now packet.now }
@@ -189,6 +247,7 @@ fn is_icmp_error(version: IpVersion, protocol: u8, message: &[u8]) -> bool
 }
 
 // What an error quotes of the packet.
+#[inline(always)]
 fn quoted<'a>(header: &IpRepr, packet: &'a [u8]) -> &'a [u8]
     requires { Reads packet.now true header.now }
     ensures { result.now ≡ quoted (version_of header.now) packet.now }
@@ -207,6 +266,7 @@ fn quoted<'a>(header: &IpRepr, packet: &'a [u8]) -> &'a [u8]
 }
 
 // The header of a packet from our address back to the sender.
+#[inline(always)]
 fn header_from(ours: &Interface, header: &IpRepr) -> IpRepr
     ensures { result ≡ header_from ours.now header.now }
 {

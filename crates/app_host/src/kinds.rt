@@ -11,7 +11,7 @@ ghost use Rattle.ip_wire.specs.declared.Carried.TheVariants as carried;
 ghost use Rattle.ip_wire.specs.declared.EthernetProtocol.TheVariants as ethertype;
 ghost use Rattle.ip_wire.specs.declared.Transport.TheVariants as transport;
 
-use crate::host::{Host, dscp_in, port_unreachable};
+use crate::host::{Host, dscp_in, try_port_unreachable};
 use crate::{arp, icmp_echo, neighbour, parameter_problem, tcp_answer, udp_echo};
 use ip_wire::{
     ArpPacket, ArpRepr, Carried, ChecksumCapabilities, EthernetFrame, EthernetProtocol,
@@ -175,10 +175,7 @@ fn answer_udp(
     if let Some(echo) = udp_echo::echo(&request, &host.interface, host.echo_port) {
         return Some(send_inlined(&echo, out));
     }
-    match port_unreachable(host, &request, frame) {
-        Some(error) => Some(error.send(out)),
-        None => None,
-    }
+    try_port_unreachable(host, &request, frame, out)
 }
 
 // The reply to a TCP segment.

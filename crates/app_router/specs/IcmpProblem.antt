@@ -1,9 +1,9 @@
 -- The ICMP errors of a router (RFC 1812, section 5.2.7; RFC 4443, section 3).
 -- Pinned by: `worked/icmp`
-use Rattle.std.specs.Prelude.{ℕ, ◌≡◌, ◌<◌, ◌≤◌, ⊤, List, drop}
+use Rattle.std.specs.Prelude.{ℕ, ◌≡◌, ◌<◌, ◌≤◌, ⊤, List, drop, length, true}
 use Rattle.ip_wire.specs.Field.{field}
 use Rattle.ip_wire.specs.Frame.{Carried}
-use Rattle.ip_wire.specs.Ip.{hop_limit_of}
+use Rattle.ip_wire.specs.Ip.{Reads, hop_limit_of}
 use Rattle.ip_wire.specs.Ipv4 as ipv4
 use Rattle.ip_wire.specs.Ipv6 as ipv6
 use Rattle.ip_wire.specs.Types.{EthernetRepr, IpRepr, Ipv4, Ipv6}
@@ -27,6 +27,13 @@ abbrev pub HasProblem : Problem → IpRepr → List ℕ → Type 0
 HasProblem Expired v bytes = hop_limit_of v ≤ 1
 HasProblem (TooLong mtu) v bytes = IsTooLong mtu v bytes
 HasProblem _ v bytes = ⊤
+
+-- the frame carries a packet, and this has the problem
+pub record IsIn (problem : Problem) (frame : List ℕ) : Type 0 where
+  pub header : IpRepr
+  pub long : 14 ≤ length frame
+  pub reads : Reads (drop 14 frame) true header
+  pub has : HasProblem problem header (drop 14 frame)
 
 -- the ICMP message that reports a problem
 abbrev pub message_of : Problem → IcmpRepr

@@ -9,5 +9,5 @@ mod router;
 pub mod source;
 pub mod table;
 
-pub use problem::{Problem, error};
+pub use problem::{Problem, error, try_error};
 pub use router::forward;

@@ -1,9 +1,11 @@
 //! The ICMP errors of a router (RFC 1812, section 5.2.7; RFC 4443, section 3).
 
 ghost use Rattle.std.specs.Prelude.{◌≡◌, ◌↔◌, IfSome, IsTrue, true};
-ghost use Rattle.app_router.specs.IcmpProblem.{HasProblem, IsTooLong, Tells, message_of};
+ghost use Rattle.app_router.specs.IcmpProblem.{HasProblem, IsIn, IsTooLong, Tells, message_of};
+ghost use Rattle.app_host.specs.Kinds.{Tries};
 ghost use Rattle.app_host.specs.Message.{Gives};
 ghost use Rattle.ip_wire.specs.Ip.{Reads};
+ghost use Rattle.ip_wire.specs.Reply.{unmarked};
 
 use app_host::{Interface, MessageFrame, icmp_error};
 use ip_wire::{
@@ -34,23 +36,46 @@ pub fn error<'a>(frame: &'a [u8], ours: &Interface, problem: Problem) -> Option<
     ensures error { Gives (Tells ours.now frame.now problem) result }
     ensures unmarked { IfSome result (λ error. error.dscp ≡ 0) }
 {
-    if frame.len() < ETHERNET_HEADER_LEN {
-        return None;
+    if problem.is_in(frame) {
+        icmp_error::error(frame, ours, problem.message())
+    } else {
+        None
     }
-    let packet = EthernetFrame::new_unchecked(frame).payload();
-    let caps = ChecksumCapabilities::default();
-    match IpRepr::parse(&IpPacket::new_unchecked(packet), &caps) {
-        Ok(header) => {
-            if !problem.is_of(&header, packet) {
-                return None;
-            }
-            icmp_error::error(frame, ours, problem.message())
-        }
-        Err(_) => None,
+}
+
+/// Writes the error that `error` returns to the front of `out`, and returns its length. `Some(None)` if it does not
+/// fit, and `None` if there is none; then `out` is unchanged.
+pub fn try_error(
+    frame: &[u8],
+    ours: &Interface,
+    problem: Problem,
+    out: &mut [u8],
+) -> Option<Option<usize>>
+    ensures { Tries unmarked (Tells ours.now frame.now problem) out.old out.new result }
+{
+    if problem.is_in(frame) {
+        icmp_error::try_error(frame, ours, problem.message(), out)
+    } else {
+        None
     }
 }
 
 impl Problem {
+    // Whether a frame carries a packet that has the problem, as far as its bytes show that.
+    fn is_in(&self, frame: &[u8]) -> bool
+        ensures { IsTrue result ↔ IsIn self.now frame.now }
+    {
+        if frame.len() < ETHERNET_HEADER_LEN {
+            return false;
+        }
+        let packet = EthernetFrame::new_unchecked(frame).payload();
+        let caps = ChecksumCapabilities::default();
+        match IpRepr::parse(&IpPacket::new_unchecked(packet), &caps) {
+            Ok(header) => self.is_of(&header, packet),
+            Err(_) => false,
+        }
+    }
+
     // Whether the packet has the problem, as far as its bytes show that.
     fn is_of(&self, header: &IpRepr, packet: &[u8]) -> bool
         requires { Reads packet.now true header.now }

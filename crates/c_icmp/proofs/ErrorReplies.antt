@@ -1,13 +1,17 @@
 -- What C gets for a frame with a message.
-use Rattle.std.proofs.Common.{◌≡◌, ◌∙◌, ◌≤◌, ◌<◌, ◌++◌, inl, inr, ℕ, ℤ, pos, SFits, to_z, of_z, w64, List, drop, length, Option, Some, None, ap, refl, subst, subst₂, sym}
+use Rattle.std.proofs.Common.{◌≡◌, ◌∙◌, ◌≤◌, ◌<◌, inl, inr, ℕ, ℤ, pos, SFits, to_z, of_z, w64, List, length, Option, Some, None, ap, refl, subst, sym}
 use Rattle.std.proofs.lemmas.Bool.{cases_lt}
 use Rattle.std.proofs.lemmas.Int.{to_z-of_z}
 use Rattle.std.specs.Option.{option_map_or}
-use Rattle.app_host.specs.Message.{Gives, IsSent, values_of}
+use Rattle.app_host.specs.Message.{IsSent, values_of}
+use Rattle.app_host.proofs.Tried.{tries-to}
+use Rattle.app_host.specs.Kinds.{Tries}
 use Rattle.app_host.specs.declared.interface.Interface.{Interface}
 use Rattle.app_host.specs.declared.message.MessageFrame.{MessageFrame}
+use Rattle.app_router.specs.IcmpProblem.{Tells}
+use Rattle.app_router.specs.declared.problem.Problem as router
 use Rattle.ip_wire.specs.Frame.{Carried}
-use Rattle.ip_wire.specs.Reply.{reply_bytes, unmarked}
+use Rattle.ip_wire.specs.Reply.{unmarked}
 use Rattle.ip_wire.specs.declared.EthernetRepr.{EthernetRepr}
 use Rattle.c_icmp.proofs.FrameReplies.{replied}
 use Rattle.c_icmp.specs.Errors.{TellsOf, WritesError}
@@ -49,30 +53,13 @@ written f old new sent answer beyond within is fits = elim (cases_lt max_len (le
   | inr room ↦ sent-within f old new sent _ room (within room) (to_z-of_z w64 answer fits ∙ is)
 ]
 
--- the reply that a call gives is written
-pub given : (P : EthernetRepr → Carried → Type 0) (f : MessageFrame) (old new : List ℕ) (answer : ℤ) → Gives P (Some f) → f.dscp ≡ 0
-    → WritesReply (λ c. f.dscp) (HasMessage f) old new answer → WritesReply unmarked P old new answer
-given P f old new answer (sendable, p) zero (inl (n, is, room, w)) = inl (
-  n,
-  is,
-  room,
-  record {
-    header = w.header;
-    carried = w.carried;
-    replies = subst₂ P w.replies.0 w.replies.1 p;
-    reads = w.reads;
-    size = w.size;
-    fits = w.fits;
-    rest = w.rest;
-    bytes = w.bytes ∙ ap (λ m. reply_bytes w.header w.carried m ++ drop n old) zero;
-  },
-)
-given P f old new answer (sendable, p) zero (inr (inl (is, stays, (h, c, has, short)))) = inr (inl (is, stays, (h, c, subst₂ P has.0 has.1 p, short)))
-given P f old new answer (sendable, p) zero (inr (inr (is, stays, none))) = absurd (none f.header (values_of f) (refl, refl))
-
--- where there is no reply, nothing is written
-pub silent : (P : EthernetRepr → Carried → Type 0) (old : List ℕ) → Gives P None → WritesReply unmarked P old old (pos 0)
-silent P old none = inr (inr (refl, refl, none))
+-- the error of a router about a problem is that about the problem with its number
+pub by-router : (ours : Interface) (frame : List ℕ) (p q : Problem) (told like : router.Problem) (mtu : ℕ) (old new : List ℕ) (tried : Option (Option ℕ)) → told ≡ like → p ≡ q
+    → ((h : EthernetRepr) (c : Carried) → Tells ours frame like h c → TellsOf ours frame q mtu h c) → ((h : EthernetRepr) (c : Carried) → TellsOf ours frame q mtu h c → Tells ours frame like h c)
+    → Tries unmarked (Tells ours frame told) old new tried → Tries unmarked (TellsOf ours frame p mtu) old new tried
+by-router ours frame p q told like mtu old new tried is same to from tries =
+    subst (λ x. Tries unmarked (TellsOf ours frame x mtu) old new tried) (sym same)
+    (tries-to unmarked (Tells ours frame like) (TellsOf ours frame q mtu) old new tried to from (subst (λ x. Tries unmarked (Tells ours frame x) old new tried) is tries))
 
 -- the error of the interface that a struct describes
 pub of_interface : (described : Option Interface) (ours : Interface) (frame : List ℕ) (p : Problem) (mtu : ℕ) (old new : List ℕ) (answer : ℤ) → described ≡ Some ours

@@ -2,7 +2,7 @@
 
 ghost use Rattle.std.specs.Prelude.{◌≡◌, IfSome};
 ghost use Rattle.app_host.specs.IcmpError.{IsError};
-ghost use Rattle.app_host.specs.Message.{Gives};
+ghost use Rattle.app_host.specs.Kinds.{Tries};
 ghost use Rattle.ip_wire.specs.Reply.{unmarked};
 ghost use Rattle.wire_icmp.specs.declared.icmp.reason.Exceeded.TheVariants.{Reassembly};
 ghost use Rattle.wire_icmp.specs.declared.icmp.reason.Unreachable.TheVariants.{Port};
@@ -10,10 +10,10 @@ ghost use Rattle.wire_icmp.specs.declared.icmp.repr.IcmpRepr.TheVariants.{DstUnr
 ghost use Rattle.c_icmp.specs.Errors.{TellsOf, WritesError, own_interface, problem_by};
 ghost use Rattle.c_icmp.specs.Interfaces.{WritesReply};
 
-use crate::interfaces::{interface, write_message};
+use crate::interfaces::{interface, returned};
 use crate::types::InterfaceFields;
-use app_host::{Interface, MessageFrame, icmp_error};
-use c_structs::{Failure, MAX_LEN};
+use app_host::{Interface, icmp_error};
+use c_structs::{Failure, MAX_LEN, usable};
 use wire_icmp::{Exceeded, IcmpRepr, Unreachable};
 
 /// `enum lk_problem`: why a packet was dropped.
@@ -77,56 +77,38 @@ impl InterfaceFields {
 fn write_error(ours: &Interface, problem: Problem, mtu: u32, frame: &[u8], out: &mut [u8]) -> isize
     ensures { WritesReply unmarked (TellsOf ours.now frame.now problem mtu) out.old out.new result }
 {
-    match error(ours, problem, mtu, frame) {
-        Some(error) => write_message(&error, out),
+    let (front, _) = out.split_at_mut(usable(out.len()));
+    match try_error(ours, problem, mtu, frame, front) {
+        Some(sent) => returned(sent),
         None => 0,
     }
 }
 
-// The error of an interface.
-fn error<'a>(
+// Writes the error of an interface. `Some(None)` if it does not fit, and `None` if there is none.
+fn try_error(
     ours: &Interface,
     problem: Problem,
     mtu: u32,
-    frame: &'a [u8],
-) -> Option<MessageFrame<'a>>
-    ensures error { Gives (TellsOf ours.now frame.now problem mtu) result }
-    ensures unmarked { IfSome result (λ error. error.dscp ≡ 0) }
+    frame: &[u8],
+    out: &mut [u8],
+) -> Option<Option<usize>>
+    ensures { Tries unmarked (TellsOf ours.now frame.now problem mtu) out.old out.new result }
 {
-    match problem {
-        Problem::None => None,
-        Problem::HopLimitExpired => app_router::error(frame, ours, app_router::Problem::Expired),
-        Problem::PacketTooBig => app_router::error(
-            frame,
-            ours,
-            app_router::Problem::TooLong { mtu },
-        ),
-        Problem::RouteMissing => app_router::error(frame, ours, app_router::Problem::NoRoute),
-        Problem::NeighbourMissing => app_router::error(
-            frame,
-            ours,
-            app_router::Problem::NoNeighbour,
-        ),
-        Problem::PortClosed => port_error(ours, frame),
-        Problem::Prohibited => app_router::error(frame, ours, app_router::Problem::Prohibited),
-        Problem::FragmentMissing => fragment_error(ours, frame),
-    }
-}
-
-// The error about a packet to a closed port.
-fn port_error<'a>(ours: &Interface, frame: &'a [u8]) -> Option<MessageFrame<'a>>
-    ensures error { Gives (IsError ours.now frame.now (DstUnreachable Port)) result }
-    ensures unmarked { IfSome result (λ error. error.dscp ≡ 0) }
-{
-    let reason = Unreachable::Port;
-    icmp_error::error(frame, ours, IcmpRepr::DstUnreachable { reason })
-}
-
-// The error about the first fragment of a packet that is not complete.
-fn fragment_error<'a>(ours: &Interface, frame: &'a [u8]) -> Option<MessageFrame<'a>>
-    ensures error { Gives (IsError ours.now frame.now (TimeExceeded Reassembly)) result }
-    ensures unmarked { IfSome result (λ error. error.dscp ≡ 0) }
-{
-    let reason = Exceeded::Reassembly;
-    icmp_error::error(frame, ours, IcmpRepr::TimeExceeded { reason })
+    let told = match problem {
+        Problem::None => return None,
+        Problem::HopLimitExpired => app_router::Problem::Expired,
+        Problem::PacketTooBig => app_router::Problem::TooLong { mtu },
+        Problem::RouteMissing => app_router::Problem::NoRoute,
+        Problem::NeighbourMissing => app_router::Problem::NoNeighbour,
+        Problem::Prohibited => app_router::Problem::Prohibited,
+        Problem::PortClosed => {
+            let reason = Unreachable::Port;
+            return icmp_error::try_error(frame, ours, IcmpRepr::DstUnreachable { reason }, out);
+        }
+        Problem::FragmentMissing => {
+            let reason = Exceeded::Reassembly;
+            return icmp_error::try_error(frame, ours, IcmpRepr::TimeExceeded { reason }, out);
+        }
+    };
+    app_router::try_error(frame, ours, told, out)
 }
