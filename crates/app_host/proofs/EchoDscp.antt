@@ -121,11 +121,6 @@ pub error-marked : (P : EthernetRepr → frame.Carried → Type 0) (bytes : List
     → message.Gives P (Some f) → f.dscp ≡ 0 → f.dscp ≡ reply_dscp bytes (values_of f)
 error-marked P bytes f zeros (sendable, p) zero = zero ∙ sym (zeros f.header (values_of f) p)
 
-pub errors-marked : (P : EthernetRepr → frame.Carried → Type 0) (bytes : List ℕ) (result : Option MessageFrame) → ((h : EthernetRepr) (c : frame.Carried) → P h c → reply_dscp bytes c ≡ 0)
-    → message.Gives P result → IfSome result (λ f. f.dscp ≡ 0) → IfSome result (λ f. f.dscp ≡ reply_dscp bytes (values_of f))
-errors-marked P bytes None zeros none zero = tt
-errors-marked P bytes (Some f) zeros gives zero = error-marked P bytes f zeros gives zero
-
 -- a reply without a message has DSCP 0
 frame-values : (host : Host) (bytes : List ℕ) (asked_header header : EthernetRepr) (asked c : frame.Carried) → IsFrameReply host asked_header asked header c → 0 ≡ reply_dscp bytes c
 frame-values host bytes asked_header header asked c (inl e) = sym (ap (reply_dscp bytes) e.carries)

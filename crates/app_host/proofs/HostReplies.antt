@@ -1,13 +1,11 @@
 -- Each kind of reply is a reply of a host, and what is sent of it is what a host sends.
 use Rattle.std.proofs.Common.{ℕ, ◌≡◌, ◌∙◌, ◌++◌, inl, inr, List, Option, Some, None, arith, ap, drop, refl}
 use Rattle.std.specs.Prelude.{IfSome}
-use Rattle.app_host.specs.Host.{Answers, IsServed, IsUnread, RepliesBytes, RepliesFrame, RepliesMessage, UnreachableFrame}
+use Rattle.app_host.specs.Host.{Answers, IsUnread, RepliesBytes, RepliesFrame, RepliesMessage}
 use Rattle.app_host.specs.declared.host.Host.{Host}
 use Rattle.app_host.proofs.RepliesOnce.{IsOne}
 use Rattle.app_host.specs.Arp.{ArpRepliesFrame}
 use Rattle.app_host.specs.IcmpEcho.{RepliesEchoFrame, reply_dscp}
-use Rattle.app_host.specs.IcmpError.{IsError}
-use Rattle.app_host.specs.Interface.{IsForUs}
 use Rattle.app_host.specs.Message as message
 use Rattle.app_host.specs.Message.{values_of}
 use Rattle.app_host.specs.Neighbour.{AdvertisesFrame}
@@ -16,16 +14,10 @@ use Rattle.app_host.specs.TcpReply.{TcpRepliesFrame}
 use Rattle.app_host.specs.UdpEcho.{EchoesFrame}
 use Rattle.app_host.specs.declared.message.MessageFrame.{MessageFrame}
 use Rattle.ip_wire.proofs.Sent as wire
-use Rattle.ip_wire.specs.Frame.{Carried, datagram, packet}
-use Rattle.ip_wire.specs.FrameValue.{carried_of}
+use Rattle.ip_wire.specs.Frame.{Carried}
 use Rattle.ip_wire.specs.Reply.{Gives, HasValues, IsSendable, IsSent, Sends, reply_bytes, reply_len, unmarked}
-use Rattle.ip_wire.specs.Types.{EthernetRepr, IpRepr, UdpRepr}
-use Rattle.ip_wire.specs.declared.Carried.TheVariants as carried
+use Rattle.ip_wire.specs.Types.{EthernetRepr}
 use Rattle.ip_wire.specs.declared.Frame.{Frame}
-use Rattle.ip_wire.specs.declared.Transport.TheVariants as transport
-use Rattle.std.specs.Borrow.{Bor}
-use Rattle.wire_icmp.specs.declared.IcmpRepr.TheVariants.{DstUnreachable}
-use Rattle.wire_icmp.specs.declared.Unreachable.TheVariants as unreachable
 
 -- ---- the reply to a frame, as a frame
 
@@ -55,29 +47,9 @@ pub by_neighbour : (host : Host) (bytes : List ℕ) (request : Frame) (f : Messa
     → message.Gives (RepliesMessage host bytes request) (Some f)
 by_neighbour host bytes request f (sendable, (asked, is, e)) = (sendable, (asked, is, inr (inl e)))
 
-pub by_port : (host : Host) (bytes : List ℕ) (request : Frame) (f : MessageFrame) → message.Gives (UnreachableFrame host bytes request) (Some f)
-    → message.Gives (RepliesMessage host bytes request) (Some f)
-by_port host bytes request f (sendable, (asked, is, e)) = (sendable, (asked, is, inr (inr (inl e))))
-
 pub by_problem : (host : Host) (bytes : List ℕ) (request : Frame) (f : MessageFrame) → message.Gives (ProblemFrame host.interface bytes request) (Some f)
     → message.Gives (RepliesMessage host bytes request) (Some f)
 by_problem host bytes request f (sendable, (asked, is, e)) = (sendable, (asked, is, inr (inr (inr e))))
-
--- ---- errors about UDP packets
-
--- a packet for a closed port gets the error about it, if there is one
-pub told : (host : Host) (bytes : List ℕ) (request : Frame) (v : IpRepr) (u : UdpRepr) (payload : Bor (List ℕ)) (result : Option MessageFrame)
-    → request.carried ≡ carried.Packet v (transport.Udp u payload) → IsForUs host.interface request.header v → ¬ IsServed host u.dst_port
-    → message.Gives (IsError host.interface bytes (DstUnreachable unreachable.Port)) result → message.Gives (UnreachableFrame host bytes request) result
-told host bytes request v u payload None is for_us closed none = λ h c (asked, same, e). none h c e.tells
-told host bytes request v u payload (Some f) is for_us closed (sendable, e) = (
-  sendable,
-  (
-    packet v (datagram u payload.now),
-    ap carried_of is,
-    record { ip = v; udp = u; payload = payload.now; asks = refl; for_us = for_us; closed = closed; tells = e },
-  ),
-)
 
 -- ---- bytes
 
