@@ -75,15 +75,8 @@ def answers_of(program, lines):
     return subprocess.run([program], input=text, stdout=subprocess.PIPE, text=True, check=True).stdout.splitlines()
 
 
-def keeps_later(program):
-    """Whether the program keeps text after a gap, which the RFC leaves to it (SHLD-31)."""
-    lines = ["new 8 8", "listen", "arrives 9 - .S 8 - 0", "arrives 10 1 . 8 - 0", "arrives 11 1 . 8 b 0", "arrives 10 1 . 8 a 0"]
-    return " 12 " in answers_of(program, lines)[-1]
-
-
-def compared(program, keeps, seed):
+def compared(program, seed):
     """How many events of a seed were compared, and the first difference."""
-    model.Connection.KEEPS_LATER = keeps
     lines, answers, _ = part(seed)
     return len(lines), difference(lines, answers, answers_of(program, lines))
 
@@ -96,7 +89,7 @@ def seeds(seed, count):
 def compare(program, seed, count):
     total = 0
     named = seeds(seed, count)
-    compared_part = functools.partial(compared, program, keeps_later(program))
+    compared_part = functools.partial(compared, program)
     with multiprocessing.Pool() as pool:
         for each, (events, found) in zip(named, pool.imap(compared_part, named)):
             if found:

@@ -3,10 +3,11 @@
 The names of states and variables are those of the RFC. Each event returns the segment that the endpoint sends, or None. `met`
 has the rules that handled the last event.
 
-The RFC leaves some choices to an endpoint. This one acknowledges each segment with text or FIN at once, also after a gap. It
-sends text only if the user asks for a segment. Of a SYN it takes the window, and neither text nor FIN: the peer sends them
-again. In SYN-RECEIVED it takes the acknowledgement of its SYN only at RCV.NXT, or with the SYN of the peer (figure 7). The
-window is 0 after the FIN of the peer. Both buffers are rings, and a text ends where its ring ends.
+The RFC leaves some choices to an endpoint. This one acknowledges each segment with text or FIN at once, also after a gap.
+It keeps one piece of text after a gap (SHLD-31). It sends text only if the user asks for a segment. Of a SYN it takes the
+window, and neither text nor FIN: the peer sends them again. In SYN-RECEIVED it takes the acknowledgement of its SYN only at
+RCV.NXT, or with the SYN of the peer (figure 7). The window is 0 after the FIN of the peer. Both buffers are rings, and a
+text ends where its ring ends.
 """
 from typing import NamedTuple, Optional
 
@@ -47,9 +48,6 @@ def is_before(x, y):
 
 class Connection:
     """The transmission control block. `size_out` and `size_in` are the sizes of the buffers in bytes."""
-
-    # Whether one piece of text after a gap is kept until the gap is filled (SHLD-31). If not, it is dropped.
-    KEEPS_LATER = False
 
     def __init__(self, size_out, size_in):
         self.size_out, self.size_in = size_out, size_in
@@ -410,11 +408,11 @@ class Connection:
             self.take_fin()
 
     def take_later(self, seg):
-        """Text after a gap is dropped, or kept as far as it is in the window and joins what is kept. The newest is kept."""
+        """Text after a gap is kept as far as it is in the window and joins what is kept. The newest counts."""
         self.met.append("text after a gap")
         ahead = distance(seg.seq, self.rcv_nxt)
         text = seg.text[: max(0, self.rcv_wnd - ahead)]
-        if not self.KEEPS_LATER or not text:
+        if not text:
             return
         at = ahead - self.later_at if self.later else 0
         if not self.later:
