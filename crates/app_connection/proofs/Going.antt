@@ -2,7 +2,7 @@
 use Rattle.std.proofs.Common.{◌≡◌, sym, subst, ℕ, List, [], ◌∷◌, ◌++◌, Bool, true, false, map}
 use Rattle.std.specs.Prelude.{Option, Some, IfSome}
 use Rattle.tcp_model.specs.Endpoint.{Syn, Byte}
-use Rattle.tcp_model.specs.Network.{World, Event, end_of}
+use Rattle.tcp_model.specs.Network.{World, end_of}
 use Rattle.app_tcp.specs.Items.{items_of}
 use Rattle.app_tcp.specs.Stands.{Stands, SegmentComes, Use, Nothing, Keeping, Merging, Joining, events_of}
 use Rattle.app_tcp.specs.Waits.{Waits}

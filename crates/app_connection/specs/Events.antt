@@ -1,7 +1,7 @@
 -- The events of a connection.
 -- Pinned by: `connection/figures`
-use Rattle.std.specs.Prelude.{ℕ, ◌≡◌, ◌⊎◌, ◌<◌, length}
-use Rattle.tcp_model.specs.Network.{World}
+use Rattle.std.specs.Prelude.{ℕ, ◌≡◌, ◌⊎◌, ◌<◌, length, Bool, if◌then◌else◌}
+use Rattle.tcp_model.specs.Network.{World, Close, happens}
 use Rattle.app_connection.specs.Endpoints.{control_of}
 use Rattle.app_connection.specs.SetUp.{Endpoint, In_closed, In_listen, In_syn_sent, hears}
 use Rattle.app_connection.specs.Worlds.{Arrives}
@@ -25,6 +25,15 @@ ComesBy (event.Arrives segment iss) there back = Arrives there back segment.now
 ComesBy (event.Send offset count) there back = Unit {0}
 ComesBy event.Close there back = Unit {0}
 ComesBy event.Abort there back = Unit {0}
+
+-- The history that the endpoint writes, after the application's call: CLOSE ends its stream, in a state that may close.
+abbrev pub called : Event → Bool → World → World
+called event.Listen may there = there
+called (event.Open iss) may there = there
+called (event.Arrives segment iss) may there = there
+called (event.Send offset count) may there = there
+called event.Close may there = if may then happens there Close else there
+called event.Abort may there = there
 
 -- What an event makes of an endpoint with this window: a move of the set-up. A segment is heard, or resets the connection.
 abbrev pub IsMove : Event → ℕ → Endpoint → Endpoint → Type 0

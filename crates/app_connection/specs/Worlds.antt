@@ -2,7 +2,7 @@
 -- reads.
 -- Pinned by: `connection/figures`
 use Rattle.std.specs.Prelude.{ℕ, ◌≡◌, ◌<◌, ◌⊎◌, List, [], ◌∷◌, length, true, false, IfSome}
-use Rattle.tcp_model.specs.Network.{World, Event, Close, Send, Segment_comes, Keep, Merge, Join, Ack_comes, run, stream, is_ended}
+use Rattle.tcp_model.specs.Network.{World, Event, Send, Segment_comes, Keep, Merge, Join, Ack_comes, run, stream, is_ended}
 use Rattle.app_tcp.specs.Items.{items_of}
 use Rattle.app_tcp.specs.Stands.{Stands, SegmentComes, IsAnswer}
 use Rattle.app_tcp.specs.Waits.{Waits, AckComes}
@@ -25,10 +25,9 @@ pub record Stand (there back : World) (consumed : List ℕ) (c : Connection) (ou
   pub waits : Waits there c.sending outgoing
   pub stands : Stands back consumed c.receiving incoming
 
--- events of the sending half: it sends, closes, or takes an acknowledgement that was sent
+-- events of the sending half: it sends, or takes an acknowledgement that was sent
 abbrev pub OfSender : List Event → Type 0
 OfSender [] = Unit {0}
-OfSender (Close ∷ events) = OfSender events
 OfSender (Send offset count ∷ events) = OfSender events
 OfSender (Ack_comes which ∷ events) = OfSender events
 OfSender (event ∷ events) = ⊥
@@ -42,7 +41,7 @@ OfReceiver (Merge which count ∷ events) = OfReceiver events
 OfReceiver (Join room ∷ events) = OfReceiver events
 OfReceiver (event ∷ events) = ⊥
 
--- They stand for these histories after further events, which are the endpoint's own: nothing is written, and the peer does nothing.
+-- They stand for these histories after further events, which are the endpoint's own: nothing is written or closed, and the peer does nothing.
 pub record Went (there back : World) (consumed : List ℕ) (c : Connection) (outgoing incoming : List ℕ) : Type 0 where
   pub acks : List Event
   pub texts : List Event

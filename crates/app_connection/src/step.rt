@@ -6,7 +6,8 @@ ghost use Rattle.app_tcp.specs.Stands.{room_of};
 ghost use Rattle.app_connection.specs.declared.state.Phase.TheVariants.{Listen, Open};
 ghost use Rattle.app_connection.specs.Endpoints.{endpoint_of, spoken, IsLegal, OutFits, InFits};
 ghost use Rattle.app_connection.specs.Worlds.{Stand, Went};
-ghost use Rattle.app_connection.specs.Events.{IsShort, ComesBy, IsMove};
+ghost use Rattle.app_connection.specs.Events.{IsShort, ComesBy, IsMove, called};
+ghost use Rattle.app_connection.specs.States.{may_close, state_from};
 
 use crate::connection::Connection;
 use crate::segment::{Reply, Segment};
@@ -41,7 +42,7 @@ impl Connection {
         requires rings { InFits self.old.receiving (length incoming.old) }
         ensures out { OutFits self.new.sending (length outgoing.now) }
         ensures rings { InFits self.new.receiving (length incoming.old) }
-        ensures goes { (there back : World) (consumed : List ℕ) → (self.old.phase ≡ Listen → ⊥) → ComesBy event.entry there back → Stand there back consumed self.old outgoing.now incoming.old → Went there back consumed self.new outgoing.now incoming.new }
+        ensures goes { (there back : World) (consumed : List ℕ) → (self.old.phase ≡ Listen → ⊥) → ComesBy event.entry there back → Stand there back consumed self.old outgoing.now incoming.old → Went (called event.entry (may_close (state_from self.old)) there) back consumed self.new outgoing.now incoming.new }
         ensures moves { IsMove event.entry (room_of self.old.receiving (length incoming.old)) (endpoint_of self.old) (endpoint_of self.new) }
         ensures legal { (self.old.phase ≡ Open → ⊥) → IfSome (spoken result) (λ r. IsLegal (endpoint_of self.new) r) }
     {

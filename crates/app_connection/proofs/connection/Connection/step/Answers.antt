@@ -1,17 +1,19 @@
-use Rattle.std.proofs.Common.{◌≡◌, ◌⊎◌, inl, inr, refl, sym, ◌∙◌, subst, ap, ℕ, List, [], ◌∷◌, Bool, true, false, length}
-use Rattle.tcp_model.specs.Network.{World, Close}
+use Rattle.std.proofs.Common.{◌≡◌, ◌⊎◌, inl, inr, refl, sym, ◌∙◌, subst, ap, ℕ, List, Bool, true, false, length}
+use Rattle.tcp_model.specs.Network.{World, Close, happens}
 use Rattle.app_tcp.specs.Stands.{room_of}
+use Rattle.app_tcp.specs.Waits.{Waits}
+use Rattle.app_tcp.specs.declared.sending.Sending.{Sending}
 use Rattle.app_connection.specs.declared.step.Event.{Event}
 use Rattle.app_connection.specs.declared.step.Event.TheVariants as event
 use Rattle.app_connection.specs.declared.state.Phase.{Phase}
 use Rattle.app_connection.specs.declared.state.Phase.TheVariants as phase
 use Rattle.app_connection.specs.declared.connection.Connection.{Connection}
 use Rattle.app_connection.specs.Endpoints.{endpoint_in, endpoint_of, control_of}
-use Rattle.app_connection.specs.Events.{ComesBy, IsMove}
+use Rattle.app_connection.specs.Events.{ComesBy, IsMove, called}
 use Rattle.app_connection.specs.SetUp.{Endpoint, In_closed, In_syn_sent, Control, hears}
 use Rattle.app_connection.specs.States.{may_close, has_peer, state_from}
-use Rattle.app_connection.specs.Worlds.{Went, WaitsLater, Arrives}
-use Rattle.app_connection.proofs.Going.{went, went_still, waits_as, waits_now, stands_as, stands_now}
+use Rattle.app_connection.specs.Worlds.{Went, Arrives}
+use Rattle.app_connection.proofs.Going.{went, went_still, waits_now, stands_as, stands_now}
 use Rattle.app_connection.proofs.connection.Connection.step.Goals as goal
 use Rattle.app_connection.proofs.connection.Connection.step.Goals.{in-Open, in-Arrives, in-Abort}
 
@@ -19,20 +21,44 @@ either : (b : Bool) → (b ≡ true) ⊎ (b ≡ false)
 either true = inl refl
 either false = inr refl
 
+-- the history after the same call
+went_called : (e f : Event) (may : Bool) (there back : World) (consumed : List ℕ) (c : Connection) (outgoing incoming : List ℕ) → e ≡ f
+    → Went (called f may there) back consumed c outgoing incoming → Went (called e may there) back consumed c outgoing incoming
+went_called e f may there back consumed c outgoing incoming is w = subst (λ (x : Event). Went (called x may there) back consumed c outgoing incoming) (sym is) w
+
+-- the sending half after CLOSE
+close_waits : (may : Bool) (there : World) (old new : Sending) (outgoing : List ℕ) → (may ≡ true → Waits (happens there Close) new outgoing) → (may ≡ false → new ≡ old)
+    → Waits there old outgoing → Waits (called event.Close may there) new outgoing
+close_waits true there old new outgoing closes stays waits = closes refl
+close_waits false there old new outgoing closes stays waits = subst (λ (x : Sending). Waits there x outgoing) (sym (stays refl)) waits
+
 pub returns-in-Listen-clause-goes : goal.returns-in-Listen-clause-goes
 returns-in-Listen-clause-goes c = λ there back consumed other comes stand.
-    went_still there back consumed c.args.self.now c.listen.new.self c.args.outgoing.now c.args.incoming.now c.listen.ensures.sending c.listen.ensures.receiving stand
+    let old = c.args.self.now in
+    let new = c.listen.new.self in
+    went_called c.args.event event.Listen (may_close (state_from old)) there back consumed new c.args.outgoing.now c.args.incoming.now c.in-Listen.is
+    (went_still there back consumed old new c.args.outgoing.now c.args.incoming.now c.listen.ensures.sending c.listen.ensures.receiving stand)
+
+pub returns-in-Send-clause-goes : goal.returns-in-Send-clause-goes
+returns-in-Send-clause-goes c = λ there back consumed other comes stand.
+    let old = c.args.self.now in
+    let new = c.send.new.self in
+    went_called c.args.event (event.Send c.in-Send.offset c.in-Send.count) (may_close (state_from old)) there back consumed new c.args.outgoing.now c.args.incoming.now c.in-Send.is
+    (went there back consumed new c.args.outgoing.now c.args.incoming.now (c.send.ensures.waits there stand.waits)
+    (stands_as back consumed old.receiving new.receiving c.args.incoming.now c.send.ensures.receiving (stands_now back consumed old.receiving c.args.incoming.now stand.stands)))
 
 pub returns-in-Close-clause-goes : goal.returns-in-Close-clause-goes
 returns-in-Close-clause-goes c = λ there back consumed other comes stand.
     let old = c.args.self.now in
     let new = c.close.new.self in
-    let waits : WaitsLater there new.sending c.args.outgoing.now = elim (either (may_close (state_from old))) [
-      | inl may ↦ record { events = Close ∷ []; own = tt; waits = c.close.ensures.waits may there c.args.outgoing.now stand.waits }
-      | inr cannot ↦ waits_as there old.sending new.sending c.args.outgoing.now (c.close.ensures.stays cannot) (waits_now there old.sending c.args.outgoing.now stand.waits)
-    ] in
-    went there back consumed new c.args.outgoing.now c.args.incoming.now waits
-    (stands_as back consumed old.receiving new.receiving c.args.incoming.now c.close.ensures.receiving (stands_now back consumed old.receiving c.args.incoming.now stand.stands))
+    let may = may_close (state_from old) in
+    let after = called event.Close may there in
+    let waits : Waits after new.sending c.args.outgoing.now =
+    close_waits may there old.sending new.sending c.args.outgoing.now (λ is. c.close.ensures.waits is there c.args.outgoing.now stand.waits) c.close.ensures.stays stand.waits
+    in
+    went_called c.args.event event.Close may there back consumed new c.args.outgoing.now c.args.incoming.now c.in-Close.is
+    (went after back consumed new c.args.outgoing.now c.args.incoming.now (waits_now after new.sending c.args.outgoing.now waits)
+    (stands_as back consumed old.receiving new.receiving c.args.incoming.now c.close.ensures.receiving (stands_now back consumed old.receiving c.args.incoming.now stand.stands)))
 
 -- an active open begins other histories
 opens_none : (e : Event) (iss : ℕ) (there back : World) → e ≡ event.Open iss → ComesBy e there back → ⊥
@@ -45,17 +71,20 @@ went_as there back consumed c d outgoing new old is same w =
 
 pub returns-clause-goes : goal.returns-clause-goes
 returns-clause-goes c = λ there back consumed other comes stand.
+    let may = may_close (state_from c.args.self.now) in
     elim c.match-event.branch [
       | in-Open w ↦ absurd (opens_none c.args.event w.in-Open.iss there back w.in-Open.is comes)
       | in-Arrives w ↦
           let s = w.in-Arrives.segment in
           let arrives : Arrives there back s.now = subst (λ (x : Event). ComesBy x there back) w.in-Arrives.is comes in
-          went_as there back consumed w.on_segment-reply.new.self c.match-event.self c.args.outgoing.now c.match-event.incoming w.on_segment-reply.new.incoming w.self-is w.incoming-is
-          (w.on_segment-reply.ensures.goes other there back consumed arrives stand)
+          went_called c.args.event (event.Arrives s w.in-Arrives.fresh) may there back consumed c.match-event.self c.args.outgoing.now c.match-event.incoming w.in-Arrives.is
+          (went_as there back consumed w.on_segment-reply.new.self c.match-event.self c.args.outgoing.now c.match-event.incoming w.on_segment-reply.new.incoming w.self-is w.incoming-is
+          (w.on_segment-reply.ensures.goes other there back consumed arrives stand))
       | in-Abort w ↦
           let new = w.abort-reply.new.self in
-          went_as there back consumed new c.match-event.self c.args.outgoing.now c.match-event.incoming c.args.incoming.now w.self-is w.incoming-is
-          (went_still there back consumed c.args.self.now new c.args.outgoing.now c.args.incoming.now w.abort-reply.ensures.sending w.abort-reply.ensures.receiving stand)
+          went_called c.args.event event.Abort may there back consumed c.match-event.self c.args.outgoing.now c.match-event.incoming w.in-Abort.is
+          (went_as there back consumed new c.match-event.self c.args.outgoing.now c.match-event.incoming c.args.incoming.now w.self-is w.incoming-is
+          (went_still there back consumed c.args.self.now new c.args.outgoing.now c.args.incoming.now w.abort-reply.ensures.sending w.abort-reply.ensures.receiving stand))
     ]
 
 is_open : (p : Phase) → (p ≡ phase.Open) ⊎ (p ≡ phase.Open → ⊥)

@@ -1,4 +1,4 @@
-use Rattle.std.proofs.Common.{[], ◌∷◌, length}
+use Rattle.std.proofs.Common.{◌∷◌, length}
 use Rattle.tcp_model.specs.Network.{Segment_comes}
 use Rattle.app_tcp.specs.Stands.{events_of, room_of}
 use Rattle.app_connection.proofs.Going.{used}
