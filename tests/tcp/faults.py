@@ -143,4 +143,59 @@ class ToClosed(Connection):
         self.state = model.CLOSED
 
 
+class AfterWindow(Connection):
+    """An acknowledgement after the window is answered, so that two endpoints can answer each other for ever."""
+
+    def is_old(self, seg):
+        return True
+
+
+class NoAllowance(Connection):
+    """An acknowledgement after a window of 0 is not taken."""
+
+    def has_allowance(self, seg):
+        return False
+
+
+class EdgeOnly(Connection):
+    """An acknowledgement is taken at the right edge, and not one past it."""
+
+    def has_allowance(self, seg):
+        return model.distance(seg.seq, self.rcv_nxt) <= self.rcv_wnd
+
+
+class TwoPastEdge(Connection):
+    """An acknowledgement is taken two past the right edge."""
+
+    def has_allowance(self, seg):
+        return model.distance(seg.seq, self.rcv_nxt) <= self.rcv_wnd + 2
+
+
+class NoKeepAlive(Connection):
+    """An acknowledgement before RCV.NXT is not answered."""
+
+    def is_old(self, seg):
+        return False
+
+
+class MovesEdge(Connection):
+    """SND.WND stays where only an acknowledgement is taken, so that the right edge moves without an offer."""
+
+    def keep_edge(self, edge):
+        pass
+
+
+class Hole(Connection):
+    """Text is sent from after SND.NXT, and what is before it counts as sent."""
+
+    def send(self, offset, count):
+        before, flight = self.snd_nxt, model.distance(self.snd_nxt, self.snd_una)
+        if not self.syn and flight < offset <= len(self.text):
+            self.snd_nxt = (self.snd_una + offset) & model.MASK
+        segment = super().send(offset, count)
+        if segment is None:
+            self.snd_nxt = before
+        return segment
+
+
 FAULTS = Connection.__subclasses__()

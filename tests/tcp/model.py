@@ -4,10 +4,14 @@ The names of states and variables are those of the RFC. Each event returns the s
 has the rules that handled the last event.
 
 The RFC leaves some choices to an endpoint. This one acknowledges each segment with text or FIN at once, also after a gap.
-It keeps one piece of text after a gap (SHLD-31). It sends text only if the user asks for a segment. Of a SYN it takes the
-window, and neither text nor FIN: the peer sends them again. In SYN-RECEIVED it takes the acknowledgement of its SYN only at
+It keeps one piece of text after a gap (SHLD-31). It sends text only if the user asks for a segment, and none from after
+SND.NXT. Of a SYN it takes the window, and neither text nor FIN: the peer sends them again. In SYN-RECEIVED it takes the acknowledgement of its SYN only at
 RCV.NXT, or with the SYN of the peer (figure 7). The window is 0 after the FIN of the peer. Both buffers are rings, and a
 text ends where its ring ends.
+
+Section 3.10.7.4 asks for "special allowance" for valid acknowledgements if RCV.WND is 0. A peer that probes the window sends
+the number at its right edge (section 3.8.6.1), so its next acknowledgement is one past the edge. A synchronized endpoint takes
+such an acknowledgement if it has no text, SYN or FIN. Later ones say nothing about what came, so they are not answered.
 """
 from typing import NamedTuple, Optional
 
@@ -154,6 +158,8 @@ class Connection:
             return self.done("send: error")
         if self.syn:
             return self.done("send SYN", self.syn_segment())
+        if offset > distance(self.snd_nxt, self.snd_una):
+            return self.done("send: after SND.NXT")
         offset = min(offset, len(self.text))
         text = bytes(self.text[offset : offset + min(count, self.size_out - (self.at_out + offset) % self.size_out)])
         end = offset + len(text)
@@ -242,6 +248,8 @@ class Connection:
         if "R" in seg.bits:
             return self.reset_by(seg)
         if not is_acceptable:
+            if seg.length == 0 and self.state != SYN_RECEIVED:
+                return self.beside_window(seg)
             return self.acknowledgement()
         if "S" in seg.bits:
             if self.state == SYN_RECEIVED and self.is_passive:
@@ -268,6 +276,23 @@ class Connection:
         length = "numbers" if seg.length else "no number"
         window = "a window" if self.rcv_wnd else "window 0"
         self.met.append(f"{'' if is_acceptable else 'not '}acceptable: {length}, {window}")
+
+    def beside_window(self, seg):
+        """A segment that takes no number, and that the table does not accept."""
+        if self.has_allowance(seg):
+            self.met.append("special allowance")
+            return self.with_ack(seg) if seg.ack is not None else self.done("no ACK")
+        if self.is_old(seg):
+            return self.done("old SEG.SEQ", self.acknowledgement())
+        return self.done("after the window")
+
+    def has_allowance(self, seg):
+        """RCV.NXT =< SEG.SEQ =< RCV.NXT + RCV.WND + 1: the peer has sent at most one number that is not in the window."""
+        return distance(seg.seq, self.rcv_nxt) <= self.rcv_wnd + 1
+
+    def is_old(self, seg):
+        """SEG.SEQ < RCV.NXT, as in a keep-alive probe (section 3.8.4)."""
+        return is_before(seg.seq, self.rcv_nxt)
 
     def reset_by(self, seg):
         """The second check."""
@@ -330,7 +355,9 @@ class Connection:
             return self.done("ACK of unsent", self.acknowledgement())
         if self.acknowledges_new(seg.ack):
             self.met.append("ACK")
+            edge = self.snd_una + self.snd_wnd
             self.take_ack(seg.ack)
+            self.keep_edge(edge)
             self.update_window(seg)
         elif seg.ack == self.snd_una:
             self.met.append("ACK again")
@@ -361,6 +388,10 @@ class Connection:
             self.fin = False
         self.at_out = (self.at_out + min(count, len(self.text))) % self.size_out
         del self.text[:count]
+
+    def keep_edge(self, edge):
+        """Of an acknowledgement without its window: the peer has offered nothing after this edge."""
+        self.snd_wnd = max(0, self.snd_wnd - distance(self.snd_una + self.snd_wnd, edge))
 
     def update_window(self, seg):
         is_newer = self.is_newer(seg)

@@ -31,6 +31,7 @@ RULES = {
     "send again": SENDING,
     "send SYN": (SYN_SENT, SYN_RECEIVED),
     "send: nothing": SYNCHRONIZED,
+    "send: after SND.NXT": SYNCHRONIZED,
     "send: error": (CLOSED, LISTEN),
     # Segments: sections 3.10.7.1 to 3.10.7.3
     "RST": (CLOSED, LISTEN),
@@ -49,6 +50,9 @@ RULES = {
     "not acceptable: no number, window 0": SYNCHRONIZED,
     "not acceptable: numbers, a window": (SYN_RECEIVED,) + TAKING,
     "not acceptable: numbers, window 0": SYNCHRONIZED,
+    "special allowance": SYNCHRONIZED,
+    "old SEG.SEQ": SYNCHRONIZED,
+    "after the window": SYNCHRONIZED,
     # RST and SYN
     "RST: closed": OPEN,
     "RST: to LISTEN": (SYN_RECEIVED,),

@@ -135,7 +135,7 @@ class Schedule:
         edges = (one.rcv_nxt + one.rcv_wnd, one.rcv_nxt + one.rcv_wnd // 2, one.rcv_nxt - length, one.irs, one.snd_wl1)
         seq = rng.choice((one.rcv_nxt,) * 6 + edges)
         ack = rng.choice((one.snd_una, one.snd_nxt) * 3 + (one.iss, one.snd_wl2))
-        seq += rng.choice((0, 0, 0, 0, -1, 1)) + self.far()
+        seq += rng.choice((0, 0, 0, 0, -1, 1, 2)) + self.far()
         ack += rng.choice((0, 0, 0, -1, 1)) + self.far()
         window = rng.choice((0, 1, 10, 200, one.snd_wnd, 65535))
         is_ack = rng.random() < 0.8

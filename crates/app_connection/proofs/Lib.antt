@@ -1,3 +1,4 @@
 pub mod Agreement
 pub mod Going
+pub mod Quiet
 pub mod Telling

@@ -1,7 +1,7 @@
 -- What a connection stands for in the histories of both directions: `there` is the stream that it writes, `back` the one that it
 -- reads.
 -- Pinned by: `connection/figures`
-use Rattle.std.specs.Prelude.{ℕ, ◌≡◌, ◌<◌, ◌⊎◌, List, [], ◌∷◌, length, true, false, IfSome}
+use Rattle.std.specs.Prelude.{ℕ, ◌≡◌, ◌+◌, ◌<◌, ◌≤◌, ◌⊎◌, List, [], ◌∷◌, length, true, false, IfSome}
 use Rattle.tcp_model.specs.Network.{World, Event, Send, Segment_comes, Keep, Merge, Join, Ack_comes, run, stream, is_ended}
 use Rattle.app_tcp.specs.Items.{items_of}
 use Rattle.app_tcp.specs.Stands.{Stands, SegmentComes, IsAnswer}
@@ -60,6 +60,12 @@ pub record StandsLater (back : World) (consumed : List ℕ) (r : Receiving) (inc
   pub events : List Event
   pub own : OfReceiver events
   pub stands : Stands (run events back) consumed r incoming
+
+-- An acknowledgement that an endpoint made in these histories comes to its peer after further events. The peer has received
+-- nothing that was sent after it, and it is not older than the sequence space allows.
+pub record ComesNext (there back : World) (sent received : List Event) : Type 0 where
+  pub first : length (run sent there).receiver.got ≤ there.sent
+  pub alive : (run received back).sent ≤ length back.receiver.got + 2147483648
 
 -- all that was written and the end were acknowledged
 abbrev pub IsDone : World → Type 0

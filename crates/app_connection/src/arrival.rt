@@ -1,21 +1,21 @@
 //! A segment arrives (RFC 9293, section 3.10.7; RFC 5961).
 
-ghost use Rattle.std.specs.Prelude.{◌≡◌, ◌≢◌, ◌⊎◌, ◌&&◌, ◌==◌, ◌∷◌, ◌+◌, ◌%◌, ◌<◌, ℕ, List, [], length, Bool, true, false, if◌then◌else◌, IfSome, Some, None};
+ghost use Rattle.std.specs.Prelude.{◌≡◌, ◌≢◌, ◌⊎◌, ◌&&◌, ◌==◌, ◌∷◌, ◌+◌, ◌%◌, ◌<◌, ◌≤◌, ℕ, List, [], length, Bool, true, false, if◌then◌else◌, not, IfSome, Some, None};
 ghost use Rattle.tcp_model.specs.Endpoint.{Item, Syn};
 ghost use Rattle.tcp_model.specs.Network.{World, Event, Segment_comes, Send, happens, run, start};
 ghost use Rattle.app_tcp.specs.Items.{items_of};
 ghost use Rattle.app_tcp.specs.Stands.{Stands, SegmentComes, room_of};
 ghost use Rattle.app_tcp.specs.Waits.{Waits, AckComes};
 ghost use Rattle.app_connection.specs.declared.state.Phase.TheVariants.{Listen, SynSent, SynReceived, Open};
-ghost use Rattle.app_connection.specs.Sequence.{after, is_acceptable_at};
+ghost use Rattle.app_connection.specs.Sequence.{after, is_acceptable_at, is_taken_at, is_earlier};
 ghost use Rattle.app_connection.specs.SetUp.{is_ack_of, hears, hears_in_listen, hears_in_syn_sent, hears_syn_again, hears_in_syn_received, reset_of, In_closed};
-ghost use Rattle.app_connection.specs.Endpoints.{endpoint_of, control_of, len_of, OutFits, InFits, IsLegal, refused, takes_window};
+ghost use Rattle.app_connection.specs.Endpoints.{endpoint_of, control_of, len_of, OutFits, InFits, IsLegal, refused, takes_window, window_after, TakesAck, acknowledgement_of, is_of_unsent, is_bare, answers_bare, edge_of};
 ghost use Rattle.app_connection.specs.States.{state_from};
 ghost use Rattle.app_connection.specs.Worlds.{Arrives, Stand, Went, WaitsLater, StandsLater, IsAnswered};
 
 use crate::connection::Connection;
 use crate::segment::{Reply, Segment, refusal};
-use crate::sequence::{is_acceptable, is_before, is_in_window};
+use crate::sequence::{is_acceptable, is_before, is_in_window, is_taken};
 use crate::state::{Phase, State};
 
 impl Connection {
@@ -40,11 +40,16 @@ impl Connection {
         ensures goes { (self.old.phase ≡ Listen → ⊥) → (there back : World) (consumed : List ℕ) → Arrives there back segment.now → Stand there back consumed self.old outgoing.now incoming.old → Went there back consumed self.new outgoing.now incoming.new }
         ensures beside { self.old.phase ≡ Open → segment.now.rst ≡ true → segment.now.number ≢ self.old.receiving.next → self.new ≡ self.old }
         ensures syn { self.old.phase ≡ Open → segment.now.rst ≡ false → segment.now.syn ≡ true → self.new ≡ self.old }
-        ensures outside { self.old.phase ≡ Open → segment.now.rst ≡ false → is_acceptable_at self.old.receiving.next (room_of self.old.receiving (length incoming.old)) segment.now.number (len_of segment.now) ≡ false → self.new ≡ self.old }
+        ensures outside { self.old.phase ≡ Open → segment.now.rst ≡ false → is_taken_at self.old.receiving.next (room_of self.old.receiving (length incoming.old)) segment.now.number (len_of segment.now) ≡ false → self.new ≡ self.old }
         ensures keeps { self.old.phase ≡ Open → segment.now.rst ≡ false → endpoint_of self.new ≡ endpoint_of self.old }
         ensures acts { self.old.phase ≡ Open → (endpoint_of self.new ≡ endpoint_of self.old) ⊎ (endpoint_of self.new ≡ In_closed) }
-        ensures window { self.old.phase ≡ Open → ((ack : ℕ) → segment.now.ack ≡ Some ack → takes_window self.old segment.now ack ≡ false) → self.new.wnd ≡ self.old.wnd }
+        ensures window { self.old.phase ≡ Open → ((ack : ℕ) → segment.now.ack ≡ Some ack → takes_window self.old segment.now.number ack ≡ false) → self.new.wnd ≤ self.old.wnd }
         ensures answers { self.old.phase ≡ Open → IfSome result (λ r. (back : World) (consumed : List ℕ) → Stands back consumed self.new.receiving incoming.new → IsAnswered back r) }
+        ensures takes { self.old.phase ≡ Open → (state_from self.old ≡ State.Closed → ⊥) → self.old.receiving.is_open ≡ true → segment.now.rst ≡ false → segment.now.syn ≡ false → is_taken_at self.old.receiving.next (room_of self.old.receiving (length incoming.old)) segment.now.number (len_of segment.now) ≡ true → is_of_unsent self.old segment.now.ack ≡ false → IfSome segment.now.ack (λ ack. TakesAck self.old self.new segment.now.number segment.now.window ack) }
+        ensures replies { self.old.phase ≡ Open → (state_from self.old ≡ State.Closed → ⊥) → IfSome result (λ r. r ≡ acknowledgement_of self.new) }
+        ensures bare { self.old.phase ≡ Open → (state_from self.old ≡ State.Closed → ⊥) → is_bare segment.now ≡ true → result ≡ (if answers_bare self.old (room_of self.old.receiving (length incoming.old)) segment.now.number segment.now.ack then Some (acknowledgement_of self.old) else None) }
+        ensures answered { self.old.phase ≡ Open → (state_from self.old ≡ State.Closed → ⊥) → self.old.receiving.is_open ≡ true → segment.now.rst ≡ false → len_of segment.now ≢ 0 → IfSome segment.now.ack (λ ack. result ≡ Some (acknowledgement_of self.new)) }
+        ensures edge { self.old.phase ≡ Open → self.old.receiving.has_fin ≡ false → self.new.receiving.has_fin ≡ false → edge_of self.new.receiving (length incoming.old) ≡ edge_of self.old.receiving (length incoming.old) }
         ensures closed { state_from self.old ≡ State.Closed → result ≡ refused segment.now }
     {
         match self.phase {
@@ -239,10 +244,15 @@ impl Connection {
         ensures goes { (there back : World) (consumed : List ℕ) → Arrives there back segment.now → Stand there back consumed self.old outgoing.now incoming.old → Went there back consumed self.new outgoing.now incoming.new }
         ensures beside { segment.now.rst ≡ true → segment.now.number ≢ self.old.receiving.next → self.new ≡ self.old }
         ensures syn { segment.now.rst ≡ false → segment.now.syn ≡ true → self.new ≡ self.old }
-        ensures outside { segment.now.rst ≡ false → is_acceptable_at self.old.receiving.next (room_of self.old.receiving (length incoming.old)) segment.now.number (len_of segment.now) ≡ false → self.new ≡ self.old }
+        ensures outside { segment.now.rst ≡ false → is_taken_at self.old.receiving.next (room_of self.old.receiving (length incoming.old)) segment.now.number (len_of segment.now) ≡ false → self.new ≡ self.old }
         ensures keeps { segment.now.rst ≡ false → endpoint_of self.new ≡ endpoint_of self.old }
         ensures acts { (endpoint_of self.new ≡ endpoint_of self.old) ⊎ (endpoint_of self.new ≡ In_closed) }
-        ensures window { ((ack : ℕ) → segment.now.ack ≡ Some ack → takes_window self.old segment.now ack ≡ false) → self.new.wnd ≡ self.old.wnd }
+        ensures window { ((ack : ℕ) → segment.now.ack ≡ Some ack → takes_window self.old segment.now.number ack ≡ false) → self.new.wnd ≤ self.old.wnd }
+        ensures takes { self.old.receiving.is_open ≡ true → segment.now.rst ≡ false → segment.now.syn ≡ false → is_taken_at self.old.receiving.next (room_of self.old.receiving (length incoming.old)) segment.now.number (len_of segment.now) ≡ true → is_of_unsent self.old segment.now.ack ≡ false → IfSome segment.now.ack (λ ack. TakesAck self.old self.new segment.now.number segment.now.window ack) }
+        ensures replies { IfSome result (λ r. r ≡ acknowledgement_of self.new) }
+        ensures answered { self.old.receiving.is_open ≡ true → segment.now.rst ≡ false → len_of segment.now ≢ 0 → IfSome segment.now.ack (λ ack. result ≡ Some (acknowledgement_of self.new)) }
+        ensures bare { is_bare segment.now ≡ true → result ≡ (if answers_bare self.old (room_of self.old.receiving (length incoming.old)) segment.now.number segment.now.ack then Some (acknowledgement_of self.old) else None) }
+        ensures edge { self.old.receiving.has_fin ≡ false → self.new.receiving.has_fin ≡ false → edge_of self.new.receiving (length incoming.old) ≡ edge_of self.old.receiving (length incoming.old) }
         ensures answers { IfSome result (λ r. (back : World) (consumed : List ℕ) → Stands back consumed self.new.receiving incoming.new → IsAnswered back r) }
     {
         let Some(next) = self.receiving.next() else {
@@ -252,8 +262,8 @@ impl Connection {
         if segment.rst {
             return self.on_reset(segment.number, next, room, self.acknowledgement());
         }
-        if segment.syn || !is_acceptable(next, room, segment.number, segment.len()) {
-            return Some(self.acknowledgement());
+        if segment.syn || !is_taken(next, room, segment.number, segment.len()) {
+            return self.outside(next, segment);
         }
         let Some(ack) = segment.ack else {
             return None;
@@ -263,6 +273,19 @@ impl Connection {
         }
         self.on_ack(outgoing, segment, ack);
         self.take_text(incoming, segment)
+    }
+
+    // The reply to a segment that is not taken. There is none to an acknowledgement after the window, so that acknowledgements of
+    // acknowledgements end. One before RCV.NXT is answered, as a keep-alive probe needs it.
+    fn outside(&self, next: u32, segment: &Segment) -> Option<Reply>
+        requires text { length segment.now.payload.now < 65536 }
+        ensures value { result ≡ (if len_of segment.now == 0 && not (is_earlier segment.now.number next) then None else Some (acknowledgement_of self.now)) }
+        ensures legal { IfSome result (λ r. (back : World) (consumed buffer : List ℕ) → Stands back consumed self.now.receiving buffer → IsAnswered back r) }
+    {
+        if segment.len() == 0 && !is_before(segment.number, next) {
+            return None;
+        }
+        Some(self.acknowledgement())
     }
 
     // A RST acts only at RCV.NXT; elsewhere in the window it is challenged (RFC 5961, section 3.2).
@@ -298,12 +321,13 @@ impl Connection {
         ensures receiving { self.new.receiving ≡ self.old.receiving }
         ensures endpoint { endpoint_of self.new ≡ endpoint_of self.old }
         ensures waits { (there : World) (which : ℕ) → AckComes there which ack → Waits there self.old.sending outgoing.now → WaitsLater there self.new.sending outgoing.now }
-        ensures window { self.new.wnd ≡ (if takes_window self.old segment.now ack then segment.now.window else self.old.wnd) }
-        ensures wl1 { self.new.wl1 ≡ (if takes_window self.old segment.now ack then segment.now.number else self.old.wl1) }
-        ensures wl2 { self.new.wl2 ≡ (if takes_window self.old segment.now ack then ack else self.old.wl2) }
+        ensures takes { TakesAck self.old self.new segment.now.number segment.now.window ack }
+        ensures window { self.new.wnd ≡ window_after self.old segment.now.number segment.now.window ack }
+        ensures wl1 { self.new.wl1 ≡ (if takes_window self.old segment.now.number ack then segment.now.number else self.old.wl1) }
+        ensures wl2 { self.new.wl2 ≡ (if takes_window self.old segment.now.number ack then ack else self.old.wl2) }
     {
-        let una = self.sending.una();
-        if ack.wrapping_sub(una) > self.sending.next().wrapping_sub(una) {
+        let newly = ack.wrapping_sub(self.sending.una());
+        if newly > self.sending.flight() {
             return;
         }
         self.sending.on_ack(outgoing, ack);
@@ -313,6 +337,8 @@ impl Connection {
             self.wnd = segment.window;
             self.wl1 = segment.number;
             self.wl2 = ack;
+        } else {
+            self.wnd = self.wnd.saturating_sub(newly);
         }
     }
 
@@ -361,6 +387,10 @@ impl Connection {
         ensures endpoint { endpoint_of self.new ≡ endpoint_of self.old }
         ensures stands { (back : World) (which : ℕ) (consumed : List ℕ) → SegmentComes back which segment.now.number (items_of false segment.now.payload.now segment.now.fin) → Stands back consumed self.old.receiving incoming.old → StandsLater back consumed self.new.receiving incoming.new }
         ensures reply { IfSome result (λ r. (r.syn ≡ false) × (r.rst ≡ false)) }
+        ensures replies { IfSome result (λ r. r ≡ acknowledgement_of self.new) }
+        ensures none { len_of segment.now ≡ 0 → result ≡ None }
+        ensures some { segment.now.syn ≡ false → len_of segment.now ≢ 0 → result ≡ Some (acknowledgement_of self.new) }
+        ensures edge { self.old.receiving.has_fin ≡ false → self.new.receiving.has_fin ≡ false → edge_of self.new.receiving (length incoming.old) ≡ edge_of self.old.receiving (length incoming.old) }
         ensures answers { IfSome result (λ r. (back : World) (consumed : List ℕ) → Stands back consumed self.new.receiving incoming.new → IsAnswered back r) }
     {
         if segment.payload.is_empty() && !segment.fin {

@@ -3,11 +3,11 @@
 ghost use Rattle.std.specs.Prelude.{◌≡◌, ◌+◌, ◌%◌, ◌≤◌, ◌<◌, ◌++◌, ◌⊎◌, ℕ, List, [], length, true, false, IfSome, Some, None, take};
 ghost use Rattle.tcp_model.specs.Network.{World, Event, Close, Write, Send, happens, run, start, IsPrefixOf};
 ghost use Rattle.app_tcp.specs.Stands.{Stands, room_of, IsAnswer};
-ghost use Rattle.app_tcp.specs.Waits.{Waits, IsSend, from_of};
+ghost use Rattle.app_tcp.specs.Waits.{Waits, IsSend, from_of, unsent_of};
 ghost use Rattle.app_tcp.specs.Items.{items_of};
 ghost use Rattle.app_connection.specs.declared.state.Phase.TheVariants.{Open};
 ghost use Rattle.app_connection.specs.SetUp.{In_closed, In_listen, In_syn_sent};
-ghost use Rattle.app_connection.specs.Endpoints.{endpoint_of, OutFits, InFits, IsLegal};
+ghost use Rattle.app_connection.specs.Endpoints.{endpoint_of, OutFits, InFits, IsLegal, acknowledgement_of, edge_of};
 ghost use Rattle.app_connection.specs.States.{state_from, state_closed, may_close, has_peer};
 ghost use Rattle.app_connection.specs.Worlds.{Stand, TellsState, WaitsLater};
 
@@ -79,6 +79,27 @@ impl Connection {
         ensures { result ≡ self.now.wnd }
     {
         self.wnd
+    }
+
+    /// The oldest number that the peer has not acknowledged (SND.UNA).
+    pub fn una(&self) -> u32
+        ensures { result ≡ self.now.sending.una }
+    {
+        self.sending.una()
+    }
+
+    /// How many numbers were sent and not acknowledged (SND.NXT - SND.UNA), with those of a SYN and a FIN.
+    pub fn flight(&self) -> u32
+        ensures { result ≡ self.now.sending.flight }
+    {
+        self.sending.flight()
+    }
+
+    /// How many items after SND.NXT wait in the ring: bytes and a FIN.
+    pub fn unsent(&self) -> usize
+        ensures { (size : ℕ) → OutFits self.now.sending size → result ≡ unsent_of self.now.sending }
+    {
+        self.sending.unsent()
     }
 
     /// Whether the rings have sizes that fit: what other calls require, of the rings that they always get.
@@ -156,6 +177,7 @@ impl Connection {
         ensures sending { self.new.sending ≡ self.old.sending }
         ensures endpoint { endpoint_of self.new ≡ endpoint_of self.old }
         ensures few { length result.now ≤ count }
+        ensures edge { self.old.receiving.has_fin ≡ false → edge_of self.new.receiving (length incoming.now) ≡ (edge_of self.old.receiving (length incoming.now) + length result.now) % 4294967296 }
         ensures stands { (back : World) (consumed : List ℕ) → Stands back consumed self.old.receiving incoming.now → Stands back (consumed ++ result.now) self.new.receiving incoming.now }
         ensures delivers { (initial : ℕ) (events : List Event) (consumed : List ℕ) → let back : World = run events (start initial) in Stands back consumed self.old.receiving incoming.now → IsPrefixOf (consumed ++ result.now) back.written }
     {
@@ -221,7 +243,8 @@ impl Connection {
     }
 
     /// The next segment to send or to send again, from `offset` after SND.UNA on, with at most `count` bytes; a FIN counts as
-    /// one. Before the connection is established it is the SYN. `None`: there is nothing. The caller keeps to the window.
+    /// one. Before the connection is established it is the SYN. `None`: there is nothing, or `offset` is after SND.NXT. The caller
+    /// keeps to the window.
     pub fn send<'a>(
         &mut self,
         outgoing: &'a [u8],
@@ -235,6 +258,7 @@ impl Connection {
         ensures receiving { self.new.receiving ≡ self.old.receiving }
         ensures endpoint { endpoint_of self.new ≡ endpoint_of self.old }
         ensures set_up { (self.old.phase ≡ Open → ⊥) → IfSome result (λ s. IsLegal (endpoint_of self.old) (record { number = s.number; ack = s.ack; syn = s.syn; rst = s.rst })) }
+        ensures after { self.old.phase ≡ Open → self.old.sending.flight < offset → (result ≡ None) × (self.new ≡ self.old) }
         ensures sends { self.old.phase ≡ Open → IfSome result (λ s. (there : World) → Waits there self.old.sending outgoing.now → IsSend there (from_of self.old.sending offset) s.number (items_of s.syn s.payload.now s.fin)) }
         ensures waits { (there : World) → Waits there self.old.sending outgoing.now → WaitsLater there self.new.sending outgoing.now }
         ensures answers { self.old.phase ≡ Open → IfSome result (λ s. (back : World) (consumed buffer : List ℕ) → Stands back consumed self.old.receiving buffer → IfSome s.ack (λ number. IsAnswer back number)) }
@@ -247,6 +271,7 @@ impl Connection {
                 incoming,
                 Some(self.irs.wrapping_add(1)),
             )),
+            _ if offset > self.sending.flight() as usize => None,
             _ if self.sending.has_next(offset, count) => self.cut(
                 outgoing, incoming, offset, count,
             ),
@@ -309,6 +334,7 @@ impl Connection {
     pub fn acknowledgement(&self) -> Reply
         ensures syn { result.syn ≡ false }
         ensures rst { result.rst ≡ false }
+        ensures value { result ≡ acknowledgement_of self.now }
         ensures legal { (back : World) (consumed buffer : List ℕ) → Stands back consumed self.now.receiving buffer → IfSome result.ack (λ number. IsAnswer back number) }
     {
         Reply {

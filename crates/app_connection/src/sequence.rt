@@ -1,7 +1,7 @@
 //! Tests of sequence numbers (RFC 9293, sections 3.4 and 3.10.7.4).
 
-ghost use Rattle.std.specs.Prelude.{◌≡◌};
-ghost use Rattle.app_connection.specs.Sequence.{is_inside, is_acceptable_at, is_earlier};
+ghost use Rattle.std.specs.Prelude.{◌≡◌, ◌<◌};
+ghost use Rattle.app_connection.specs.Sequence.{is_inside, is_acceptable_at, is_taken_at, is_earlier};
 
 // Half of the sequence numbers.
 const HALF: u32 = 1 << 31;
@@ -26,6 +26,18 @@ pub(crate) fn is_acceptable(next: u32, window: u32, number: u32, len: u32) -> bo
     }
     let last = number.wrapping_add(len - 1);
     is_in_window(next, window, number) || is_in_window(next, window, last)
+}
+
+/// Whether the acknowledgement and the window of a segment of `len` numbers are taken in a synchronized state: an acceptable
+/// segment, or one of no number at most one past the window, where a peer is that probed a closed window.
+pub(crate) fn is_taken(next: u32, window: u32, number: u32, len: u32) -> bool
+    requires { window < 1073741824 }
+    ensures { result ≡ is_taken_at next window number len }
+{
+    if len == 0 {
+        return is_in_window(next, window + 2, number);
+    }
+    is_acceptable(next, window, number, len)
 }
 
 /// Whether `a` is before `b`: less than 2^31 numbers.

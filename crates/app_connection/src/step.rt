@@ -1,10 +1,10 @@
 //! One call for everything that can happen to a connection.
 
-ghost use Rattle.std.specs.Prelude.{◌≡◌, ℕ, List, length, IfSome};
+ghost use Rattle.std.specs.Prelude.{◌≡◌, ℕ, List, length, false, IfSome};
 ghost use Rattle.tcp_model.specs.Network.{World};
 ghost use Rattle.app_tcp.specs.Stands.{room_of};
 ghost use Rattle.app_connection.specs.declared.state.Phase.TheVariants.{Listen, Open};
-ghost use Rattle.app_connection.specs.Endpoints.{endpoint_of, spoken, IsLegal, OutFits, InFits};
+ghost use Rattle.app_connection.specs.Endpoints.{endpoint_of, spoken, IsLegal, OutFits, InFits, edge_of};
 ghost use Rattle.app_connection.specs.Worlds.{Stand, Went};
 ghost use Rattle.app_connection.specs.Events.{IsShort, ComesBy, IsMove, called};
 ghost use Rattle.app_connection.specs.States.{may_close, state_from};
@@ -44,6 +44,7 @@ impl Connection {
         ensures rings { InFits self.new.receiving (length incoming.old) }
         ensures goes { (there back : World) (consumed : List ℕ) → (self.old.phase ≡ Listen → ⊥) → ComesBy event.entry there back → Stand there back consumed self.old outgoing.now incoming.old → Went (called event.entry (may_close (state_from self.old)) there) back consumed self.new outgoing.now incoming.new }
         ensures moves { IsMove event.entry (room_of self.old.receiving (length incoming.old)) (endpoint_of self.old) (endpoint_of self.new) }
+        ensures edge { self.old.phase ≡ Open → self.old.receiving.has_fin ≡ false → self.new.receiving.has_fin ≡ false → edge_of self.new.receiving (length incoming.old) ≡ edge_of self.old.receiving (length incoming.old) }
         ensures legal { (self.old.phase ≡ Open → ⊥) → IfSome (spoken result) (λ r. IsLegal (endpoint_of self.new) r) }
     {
         let reply = match event {

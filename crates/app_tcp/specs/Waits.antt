@@ -1,6 +1,6 @@
 -- What the state of the sending half stands for in a history of the network.
 -- Pinned by: `tcp/stream`
-use Rattle.std.specs.Prelude.{ℕ, ◌≡◌, ◌+◌, ◌≤◌, ◌++◌, List, ◌∷◌, length, map, take, drop, min, true, false, Some, slice_get}
+use Rattle.std.specs.Prelude.{ℕ, ◌≡◌, ◌+◌, ◌-◌, ◌≤◌, ◌++◌, List, ◌∷◌, length, map, take, drop, min, true, false, Some, slice_get}
 use Rattle.tcp_model.specs.Endpoint.{Item, Byte}
 use Rattle.tcp_model.specs.Network.{World, Ack, Send, happens, stream, end_of, number_at, is_alive}
 use Rattle.app_tcp.specs.Items.{syn_of}
@@ -24,9 +24,13 @@ pub record Waits (w : World) (c : Sending) (buffer : List ℕ) : Type 0 where
   pub still : c.is_closed ≡ false → c.has_fin ≡ false
   pub held : drop w.acked (stream w.written w.closed) ≡ pending c buffer
 
--- the item from which a segment is cut: at most that of the FIN
+-- how many items were never sent: those that are not acknowledged, without those in flight
+abbrev pub unsent_of : Sending → ℕ
+unsent_of c = length (syn_of c.has_syn) + c.len + length (end_of c.has_fin) - c.flight
+
+-- the item from which a segment is cut: at most SND.NXT, and that of the FIN
 abbrev pub from_of : Sending → ℕ → ℕ
-from_of c offset = min offset (length (syn_of c.has_syn) + c.len)
+from_of c offset = min (min offset c.flight) (length (syn_of c.has_syn) + c.len)
 
 -- These items with this number are what the event Send puts on the network.
 pub record IsSend (w : World) (offset number : ℕ) (items : List Item) : Type 0 where

@@ -153,6 +153,8 @@ impl Receiving {
         requires small { length ring.now < 1073741824 }
         ensures begin { self.new.start < length ring.now }
         ensures len { reach self.new ≤ length ring.now }
+        ensures reads { self.new ≡ record self.old { start = self.new.start; len = self.new.len } }
+        ensures fewer { self.new.len + length result.now ≡ self.old.len }
         ensures few { length result.now ≤ count }
         ensures some { 0 < count → 0 < self.old.len → 0 < length result.now }
         ensures stands { (w : World) (consumed : List ℕ) → Stands w consumed self.old ring.now → Stands w (consumed ++ result.now) self.new ring.now }

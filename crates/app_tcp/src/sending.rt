@@ -1,10 +1,10 @@
 //! The sending half: what the application wrote and the peer did not acknowledge yet (RFC 9293, section 3.3.1).
 
-ghost use Rattle.std.specs.Prelude.{◌≡◌, ◌&&◌, ◌||◌, nat_lt, ◌+◌, ◌-◌, ◌%◌, ◌≤◌, ◌<◌, ℕ, Bool, List, [], ◌∷◌, length, take, drop, min, true, false, if◌then◌else◌};
-ghost use Rattle.tcp_model.specs.Endpoint.{Item, Syn};
+ghost use Rattle.std.specs.Prelude.{◌≡◌, ◌&&◌, ◌||◌, nat_lt, ◌+◌, ◌-◌, ◌%◌, ◌≤◌, ◌<◌, ℕ, Bool, List, [], ◌∷◌, length, take, drop, min, max, true, false, if◌then◌else◌};
+ghost use Rattle.tcp_model.specs.Endpoint.{Item, Syn, distance};
 ghost use Rattle.tcp_model.specs.Network.{World, Event, Write, Close, Send, Ack_comes, happens, run, start, number_at};
 ghost use Rattle.app_tcp.specs.Items.{items_of, syn_of};
-ghost use Rattle.app_tcp.specs.Waits.{Waits, AckComes, IsSend, from_of, pending, rest_of};
+ghost use Rattle.app_tcp.specs.Waits.{Waits, AckComes, IsSend, from_of, pending, rest_of, unsent_of};
 
 use crate::ring::{RING_LIMIT, put, wrapped};
 
@@ -106,6 +106,7 @@ impl Sending {
         requires small { length ring.now < 1073741824 }
         ensures start { self.new.start < length ring.now }
         ensures len { self.new.len ≤ length ring.now }
+        ensures una { self.new.una ≡ (if nat_lt self.old.flight (distance number self.old.una) then self.old.una else number) }
         ensures waits { (w : World) (which : ℕ) → AckComes w which number → Waits w self.old ring.now → Waits (happens w (Ack_comes which)) self.new ring.now }
         ensures counted { (initial : ℕ) (events : List Event) (which : ℕ) → AckComes (run events (start initial)) which number → let v : World = happens (run events (start initial)) (Ack_comes which) in v.acked ≤ length v.receiver.got }
     {
@@ -118,8 +119,8 @@ impl Sending {
         self.let_go(ring.len(), newly as usize);
     }
 
-    /// The next segment to send, from `offset` after SND.UNA on, with at most `count` bytes; a FIN counts as one. The SYN goes
-    /// by itself. The bytes end at the end of the ring: then the next call has the others.
+    /// The next segment to send, from `offset` after SND.UNA on, with at most `count` bytes; a FIN counts as one. An offset after
+    /// SND.NXT counts as SND.NXT. The SYN goes by itself. The bytes end at the end of the ring: then the next call has the others.
     pub fn segment<'a>(&mut self, ring: &'a [u8], offset: usize, count: usize) -> Segment<'a>
         requires start { self.old.start < length ring.now }
         requires len { self.old.len ≤ length ring.now }
@@ -128,13 +129,16 @@ impl Sending {
         ensures len { self.new.len ≡ self.old.len }
         ensures legal { (w : World) → Waits w self.old ring.now → IsSend w (from_of self.old offset) result.number (items_of result.syn result.payload.now result.fin) }
         ensures waits { (w : World) → Waits w self.old ring.now → Waits (happens w (Send (from_of self.old offset) (length (items_of result.syn result.payload.now result.fin)))) self.new ring.now }
+        ensures flight { self.new.flight ≡ max self.old.flight (from_of self.old offset + length (items_of result.syn result.payload.now result.fin)) }
         ensures some { 0 < count → offset < length (pending self.old ring.now) → 0 < length (items_of result.syn result.payload.now result.fin) }
         ensures few { length result.payload.now ≤ count }
         ensures inner { length result.payload.now ≤ length ring.now }
         ensures syn { self.old.has_syn ≡ false → result.syn ≡ false }
         ensures first { self.old.has_syn ≡ true → offset ≡ 0 → items_of result.syn result.payload.now result.fin ≡ Syn ∷ [] }
     {
-        let from = offset.min(self.syn_len() + self.len);
+        let from = offset
+            .min(self.flight as usize)
+            .min(self.syn_len() + self.len);
         let segment = self.cut(ring, from, count);
         let end = from
             + usize::from(segment.syn)
@@ -245,6 +249,23 @@ impl Sending {
         ensures { result ≡ (self.now.una + self.now.flight) % 4294967296 }
     {
         self.una.wrapping_add(self.flight)
+    }
+
+    /// How many numbers were sent and not acknowledged (SND.NXT - SND.UNA).
+    pub fn flight(&self) -> u32
+        ensures { result ≡ self.now.flight }
+    {
+        self.flight
+    }
+
+    /// How many items wait to be sent for the first time: bytes and a FIN, and the SYN before it is sent.
+    pub fn unsent(&self) -> usize
+        ensures { self.now.len < 1073741824 → result ≡ unsent_of self.now }
+    {
+        let flags = self.syn_len() + usize::from(self.has_fin);
+        self.len
+            .saturating_add(flags)
+            .saturating_sub(self.flight as usize)
     }
 
     /// Whether `close` was called.

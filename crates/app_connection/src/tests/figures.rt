@@ -1,4 +1,4 @@
-//! Figures 6 to 13 of RFC 9293 (sections 3.5 and 3.6), each as both ends see it.
+//! Figures 6 to 13 of RFC 9293 (sections 3.5 and 3.6), each as both ends see it, and acknowledgements beside the window.
 
 ghost use Rattle.app_connection.specs.Events.{IsShort};
 
@@ -317,4 +317,18 @@ fn figure_13(rt: HostRuntime) {
         (Gets(ack(301, 101)), None, S::TimeWait),
     ];
     check(&rt, "13, A", &[], &rows);
+}
+
+#[test]
+fn acknowledgements_beside_the_window(rt: HostRuntime) {
+    let rows = [
+        (Open(99), Some(syn(99)), S::SynSent),
+        (Gets(syn_ack(299, 100)), Some(ack(100, 300)), S::Established),
+        (Close, None, S::FinWait1),
+        (Send, Some(fin(100, 300)), S::FinWait1),
+        (Gets(ack(299, 101)), Some(ack(101, 300)), S::FinWait1),
+        (Gets(ack(366, 101)), None, S::FinWait1),
+        (Gets(ack(365, 101)), None, S::FinWait2),
+    ];
+    check(&rt, "of the window", &[], &rows);
 }
