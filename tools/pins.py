@@ -14,6 +14,7 @@ PATHS = {
     "fragments": "crates/test_fragments/src/tests/{}.rt",
     "tcp": "crates/app_tcp/src/tests/{}.rt",
     "connection": "crates/app_connection/src/tests/{}.rt",
+    "congestion": "crates/app_congestion/src/tests/{}.rt",
     "promises": "crates/promises/src/{}.rt",
     "cases": "tests/data/cases/{}.hex",
     "calls": "tests/data/calls/{}.call",

@@ -22,7 +22,8 @@ GROUPS = {
     "wire_link": "Link-layer headers", "wire_extensions": "IPv6 extension headers", "app_host": "Host",
     "app_router": "Router", "app_nat": "NAT", "app_edit": "Edits of a field",
     "app_fragment": "Fragments", "app_mld": "Multicast listener discovery", "app_tcp": "TCP streams",
-    "app_connection": "TCP connections", "tcp_model": "TCP over a network",
+    "app_connection": "TCP connections", "app_congestion": "TCP timers and congestion control",
+    "tcp_model": "TCP over a network",
 }
 # What types come first below a heading, by the end of their names.
 ORDER = "Frame", "Packet", "Header", "Repr", "Address", "Cidr"

@@ -1,0 +1,1 @@
+-- The files with lemmas: none.

@@ -1,0 +1,123 @@
+-- The congestion window (RFC 5681) with NewReno (RFC 6582): what each event makes of it, in bytes.
+-- Pinned by: `congestion/windows`
+use Rattle.std.specs.Prelude.{ℕ, ◌+◌, ◌-◌, ◌*◌, ◌/◌, ◌%◌, ◌==◌, ◌&&◌, Bool, true, false, not, nat_lt, if◌then◌else◌, min, max}
+use Rattle.app_congestion.specs.declared.congestion.Congestion.{Congestion}
+use Rattle.app_congestion.specs.declared.phase.Phase.{Phase}
+use Rattle.app_congestion.specs.declared.phase.Phase.TheVariants.{Open, Recovery, Recovered}
+
+-- A sender: SMSS, cwnd, ssthresh, the bytes acknowledged since cwnd grew, the duplicate acknowledgements, fast recovery and
+-- `recover`, and whether the timer has sent the first segment again. `recover` is one more than in RFC 6582: a next number.
+pub record Sender : Type 0 where
+  pub mss : ℕ
+  pub cwnd : ℕ
+  pub ssthresh : ℕ
+  pub acked : ℕ
+  pub duplicates : ℕ
+  pub phase : Phase
+  pub is_resent : Bool
+
+-- the sender that the state stands for
+abbrev pub sender_of : Congestion → Sender
+sender_of c = record { mss = c.mss; cwnd = c.cwnd; ssthresh = c.ssthresh; acked = c.acked; duplicates = c.duplicates; phase = c.phase; is_resent = c.is_resent }
+
+-- at most the largest window
+abbrev pub capped : ℕ → ℕ
+capped n = min 1073741824 n
+
+-- the initial window (RFC 6928, section 2)
+abbrev pub initial_window : ℕ → ℕ
+initial_window mss = min (10 * mss) (max (2 * mss) 14600)
+
+-- a sender that begins (RFC 5681, section 3.1)
+abbrev pub begins : ℕ → Sender
+begins mss = record { mss = mss; cwnd = initial_window mss; ssthresh = 1073741824; acked = 0; duplicates = 0; phase = Open; is_resent = false }
+
+-- whether a is before b (RFC 9293, section 3.4)
+abbrev pub is_earlier : ℕ → ℕ → Bool
+is_earlier a b = not (a == b) && nat_lt ((b + (4294967296 - a)) % 4294967296) 2147483648
+
+-- ssthresh after a loss (RFC 5681, section 3.1, equation 4)
+abbrev pub halved : Sender → ℕ → ℕ
+halved s flight = capped (max (flight / 2) (2 * s.mss))
+
+-- slow start (RFC 5681, section 3.1, equation 2)
+abbrev pub slow_start : Sender → ℕ → Sender
+slow_start s newly = record s { cwnd = capped (s.cwnd + min newly s.mss) }
+
+-- congestion avoidance (RFC 5681, section 3.1): when as many bytes as cwnd are acknowledged, it grows
+abbrev pub avoidance : Sender → ℕ → Sender
+avoidance s newly =
+    if nat_lt (s.acked + newly) s.cwnd
+    then record s { acked = s.acked + newly }
+    else record s { acked = 0; cwnd = capped (s.cwnd + s.mss) }
+
+-- new data is acknowledged outside fast recovery
+abbrev pub grown : Sender → ℕ → Sender
+grown s newly = if nat_lt s.cwnd s.ssthresh then slow_start s newly else avoidance s newly
+
+-- whether more than `recover` is acknowledged; there is no `recover` before the first loss
+abbrev pub is_past : Phase → ℕ → Bool
+is_past Open una = true
+is_past (Recovery recover) una = is_earlier recover una
+is_past (Recovered recover) una = is_earlier recover una
+
+-- the phase outside fast recovery
+abbrev pub outside_of : ℕ → ℕ → Phase
+outside_of recover una = if is_earlier recover una then Open else Recovered recover
+
+-- a partial acknowledgement (RFC 6582, section 3.2, step 3): cwnd is deflated, and at least a segment
+abbrev pub partial : Sender → ℕ → Sender
+partial s newly = record s { acked = 0; cwnd = max s.mss (capped (s.cwnd - newly + (if nat_lt newly s.mss then 0 else s.mss))) }
+
+-- a full acknowledgement (RFC 6582, section 3.2, step 3, option 1)
+abbrev pub full : Sender → ℕ → ℕ → ℕ → Sender
+full s flight recover una = record s { acked = 0; cwnd = min s.ssthresh (max flight s.mss + s.mss); phase = outside_of recover una }
+
+-- new data is acknowledged, in a phase
+abbrev pub acknowledged_in : Phase → Sender → ℕ → ℕ → ℕ → Sender
+acknowledged_in Open s newly flight una = grown s newly
+acknowledged_in (Recovered recover) s newly flight una = grown (record s { phase = outside_of recover una }) newly
+acknowledged_in (Recovery recover) s newly flight una = if is_earlier una recover then partial s newly else full s flight recover una
+
+-- an acknowledgement of `newly` bytes, after which `flight` bytes are in flight (FlightSize) from `una` on
+abbrev pub acknowledged : Sender → ℕ → ℕ → ℕ → Sender
+acknowledged s newly flight una =
+    if newly == 0
+    then s
+    else acknowledged_in s.phase (record s { duplicates = 0; is_resent = false }) newly flight una
+
+-- whether the sender is in fast recovery
+abbrev pub is_in_recovery : Phase → Bool
+is_in_recovery Open = false
+is_in_recovery (Recovered recover) = false
+is_in_recovery (Recovery recover) = true
+
+-- whether it is a partial acknowledgement
+abbrev pub is_partial : Phase → ℕ → Bool
+is_partial Open una = false
+is_partial (Recovered recover) una = false
+is_partial (Recovery recover) una = is_earlier una recover
+
+-- fast retransmit (RFC 5681, section 3.2, steps 2 and 3), and `recover` (RFC 6582, section 3.2, step 2)
+abbrev pub fast_retransmit : Sender → ℕ → ℕ → Sender
+fast_retransmit s flight next = record s { ssthresh = halved s flight; cwnd = capped (halved s flight + 3 * s.mss); acked = 0; phase = Recovery next }
+
+-- whether this duplicate acknowledgement is the third one, of more than `recover` (RFC 6582, section 3.2, step 2)
+abbrev pub is_third : Sender → ℕ → Bool
+is_third s una = s.duplicates == 2 && is_past s.phase una
+
+-- a duplicate acknowledgement; in fast recovery (RFC 5681, section 3.2, step 4) it inflates cwnd
+abbrev pub duplicated : Sender → ℕ → ℕ → ℕ → Sender
+duplicated s flight una next =
+    if is_in_recovery s.phase
+    then record s { cwnd = capped (s.cwnd + s.mss) }
+    else (if is_third s una then fast_retransmit (record s { duplicates = 3 }) flight next else record s { duplicates = min 255 (s.duplicates + 1) })
+
+-- the retransmission timer expires (RFC 5681, section 3.1, equation 4; RFC 6582, section 3.2, step 4)
+abbrev pub timed_out : Sender → ℕ → ℕ → Sender
+timed_out s flight next =
+    record s { ssthresh = if s.is_resent then s.ssthresh else halved s flight; cwnd = s.mss; acked = 0; duplicates = 0; phase = Recovered next; is_resent = true }
+
+-- the connection was idle (RFC 5681, section 4.1)
+abbrev pub restarted : Sender → Sender
+restarted s = record s { cwnd = min (initial_window s.mss) s.cwnd; acked = 0 }

@@ -1,0 +1,4 @@
+//! Tests of both.
+
+mod rto;
+mod windows;
