@@ -19,7 +19,8 @@ DOCUMENT = "docs/audit/REQUIREMENTS.md"
 # The crates with test functions, by the first word of their names in the tables.
 TESTS = {
     "wire": "test_wire", "apps": "test_apps", "fragments": "test_fragments", "tcp": "app_tcp",
-    "connection": "app_connection", "congestion": "app_congestion", "frames": "ip_frames",
+    "connection": "app_connection", "congestion": "app_congestion", "socket": "app_socket",
+    "frames": "ip_frames",
 }
 LIBRARY = re.compile(r"net_base|ip_wire|wire_\w+")
 # The libraries whose types a Rattle program uses, also those of `wire_*` that `ip_wire` does not export. The types of the
@@ -58,7 +59,7 @@ class Statements:
             self.definitions |= {f"{path[-1]}.{d.name}" for path, module in crate.specs.items() for d in module.items}
         crates = (
             "ip_wire", "wire_icmp", "app_nat", "app_host", "app_edit", "app_fragment", "app_tcp", "app_connection",
-            "app_congestion", "c_read", "c_write", "c_icmp",
+            "app_congestion", "app_socket", "c_read", "c_write", "c_icmp",
         )
         self.laws = {name[-1] for crate in crates
                      for name, target in sources.exports(crate).items() if name[0] == "laws" and name[-1][0].islower()}

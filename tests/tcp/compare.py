@@ -1,8 +1,9 @@
 #!/usr/bin/env python3
 """Compares the TCP of a program with a model of RFC 9293, event by event: tests/tcp/compare.py PROGRAM SEED COUNT
 
-The program is crates/tcp_steps. Both get the same random events, at least COUNT, and the first difference is shown.
-Each seed gives its own events, the same in each run.
+The program is crates/tcp_steps. Both get the same random events, at least COUNT of connections and as many of sockets, and the
+first difference is shown. Of sockets it also checks what must hold by itself (watch.py). Each seed gives its own events, the
+same in each run.
 
     tests/tcp/compare.py --counts SEED COUNT     prints how often each state meets each rule of the RFC
     tests/tcp/compare.py --faults SEED COUNT     shows that each damaged copy of the model differs from it
@@ -21,24 +22,37 @@ import faults  # noqa: E402
 import model  # noqa: E402
 import rules  # noqa: E402
 from dice import Random  # noqa: E402
-from lines import event_of, happens, line_of  # noqa: E402
+from lines import event_of, happens, line_of, parsed  # noqa: E402
 from schedules import Schedule  # noqa: E402
+from socket_model import Socket  # noqa: E402
+from socket_schedules import SocketSchedule  # noqa: E402
+from watch import Watch  # noqa: E402
 
-# Events of a schedule after its first ones, and schedules of one run of the program.
+# Events of a schedule after its first ones.
 LENGTH = 150
-SCHEDULES = 100
 # How many lines before a difference are shown.
 BEFORE = 12
+# The first events of an endpoint, and the answers.
+FIRST = {"new": "Closed -", "socket": "Closed - -"}
+# The schedules of one run of the program, which has at least so many events, by the end of the seed.
+SOCKETS = " sockets"
+SCHEDULES, EVENTS = {"": 100, SOCKETS: 25}, 15000
 
 
-def schedule(rng, counts):
+def plans(rng, seed):
+    """The schedules of a seed, of connections or of sockets."""
+    is_timed = seed.endswith(SOCKETS)
+    for _ in range(SCHEDULES[SOCKETS if is_timed else ""]):
+        yield (SocketSchedule if is_timed else Schedule)(rng, LENGTH)
+
+
+def schedule(plan, counts):
     """The lines and the answers of both endpoints of a schedule, each from its first event to its last."""
     lines, answers = ([], []), ([], [])
-    plan = Schedule(rng, LENGTH)
     for end, name, *operands in plan.events():
         one = plan.ends[end]
-        answer = "Closed -"
-        if name != "new":
+        answer = FIRST.get(name)
+        if not answer:
             before = one.state
             returned, answer = happens(one, name, operands)
             plan.sent(end, returned)
@@ -52,8 +66,8 @@ def part(seed):
     """The lines and the answers of the schedules of a seed, and how often each state met each rule."""
     rng, counts = Random(seed), collections.Counter()
     lines, answers = [], []
-    for _ in range(SCHEDULES):
-        for more_lines, more_answers in zip(*schedule(rng, counts)):
+    for plan in plans(rng, seed):
+        for more_lines, more_answers in zip(*schedule(plan, counts)):
             lines += more_lines
             answers += more_answers
     return lines, answers, counts
@@ -75,20 +89,36 @@ def answers_of(program, lines):
     return subprocess.run([program], input=text, stdout=subprocess.PIPE, text=True, check=True).stdout.splitlines()
 
 
+def broken(lines, answers):
+    """What must hold of sockets by itself and does not; None if there is nothing."""
+    watch = None
+    for line, answer in zip(lines, answers):
+        name, operands = event_of(line)
+        if name == "socket":
+            watch = Watch()
+        try:
+            watch.sees(name, operands, parsed(answer))
+        except AssertionError as error:
+            return f"{line}\n    {answer}\n{error}"
+    return None
+
+
 def compared(program, seed):
-    """How many events of a seed were compared, and the first difference."""
+    """How many events of a seed were compared, and the first difference, or what is wrong by itself."""
     lines, answers, _ = part(seed)
-    return len(lines), difference(lines, answers, answers_of(program, lines))
+    theirs = answers_of(program, lines)
+    found = difference(lines, answers, theirs)
+    return len(lines), found or seed.endswith(SOCKETS) and broken(lines, theirs)
 
 
-def seeds(seed, count):
+def seeds(seed, count, kind=""):
     """The seeds of so many events."""
-    return [f"{seed}.{at}" for at in range(-(-count // (SCHEDULES * LENGTH)))]
+    return [f"{seed}.{at}{kind}" for at in range(-(-count // EVENTS))]
 
 
 def compare(program, seed, count):
     total = 0
-    named = seeds(seed, count)
+    named = seeds(seed, count) + seeds(seed, count, SOCKETS)
     compared_part = functools.partial(compared, program)
     with multiprocessing.Pool() as pool:
         for each, (events, found) in zip(named, pool.imap(compared_part, named)):
@@ -101,11 +131,10 @@ def compare(program, seed, count):
 def is_noticed(fault, seed):
     """Whether the damaged copy answers an event of the seed otherwise."""
     rng = Random(seed)
-    for _ in range(SCHEDULES):
+    for plan in plans(rng, seed):
         ends = [None, None]
-        plan = Schedule(rng, LENGTH)
         for end, name, *operands in plan.events():
-            if name == "new":
+            if name in FIRST:
                 ends[end] = fault(*operands)
                 continue
             returned, answer = happens(plan.ends[end], name, operands)
@@ -116,22 +145,29 @@ def is_noticed(fault, seed):
 
 
 def try_faults(seed, count):
-    for fault in faults.FAULTS:
-        if not any(is_noticed(fault, each) for each in seeds(seed, count)):
-            sys.exit(f"not noticed: {fault.__doc__}")
-    print(f"{len(faults.FAULTS)} faults, all noticed")
+    # Faults of sockets show in fewer schedules.
+    for found, every in ((faults.FAULTS, seeds(seed, count)), (faults.SOCKET_FAULTS, seeds(seed, 4 * count, SOCKETS))):
+        for fault in found:
+            if not any(is_noticed(fault, each) for each in every):
+                sys.exit(f"not noticed: {fault.__doc__}")
+    print(f"{len(faults.FAULTS)} faults and {len(faults.SOCKET_FAULTS)} of sockets, all noticed")
 
 
 def print_counts(seed, count):
-    """Prints the table. Fails if a state never meets a rule of the RFC, or meets one that it cannot."""
-    with multiprocessing.Pool() as pool:
-        counts = sum(pool.imap(counted, seeds(seed, count)), collections.Counter())
-    print(f"{'':36}" + "".join(f"{state:>13}" for state in model.STATES))
-    for rule in rules.RULES:
-        print(f"{rule:36}" + "".join(f"{counts[state, rule] or '':>13}" for state in model.STATES))
-    wrong = [f"{state}, {rule}: {counts[state, rule]}" for rule, state in rules.wrong_cells(counts)]
+    """Prints the tables. Fails if a state never meets a rule of the RFCs, or meets one that it cannot."""
+    wrong = table(rules.RULES, seeds(seed, count)) + table(rules.SOCKET_RULES, seeds(seed, count // 2, SOCKETS))
     if wrong:
         sys.exit("\n".join(wrong))
+
+
+def table(named, every):
+    """Prints how often each state meets these rules with the seeds. Returns what is wrong."""
+    with multiprocessing.Pool() as pool:
+        counts = sum(pool.imap(counted, every), collections.Counter())
+    print(f"{'':36}" + "".join(f"{state:>13}" for state in model.STATES))
+    for rule in named:
+        print(f"{rule:36}" + "".join(f"{counts[state, rule] or '':>13}" for state in model.STATES))
+    return [f"{state}, {rule}: {counts[state, rule]}" for rule, state in rules.wrong_cells(named, counts)]
 
 
 def counted(seed):
@@ -142,9 +178,9 @@ def print_answers():
     one = None
     for line in sys.stdin:
         name, operands = event_of(line)
-        if name == "new":
-            one = model.Connection(*operands)
-            print("Closed -")
+        if name in FIRST:
+            one = (model.Connection if name == "new" else Socket)(*operands)
+            print(FIRST[name])
         else:
             print(happens(one, name, operands)[1])
 

@@ -1,6 +1,8 @@
 """Damaged copies of the model. Random events must show a difference for each."""
 import model
+import socket_model
 from model import Connection
+from socket_model import Socket
 
 
 class RstInWindow(Connection):
@@ -198,4 +200,142 @@ class Hole(Connection):
         return segment
 
 
+class SampleOfTwo(Socket):
+    """The time of a segment that was sent again is a sample (Karn)."""
+
+    def send_first(self):
+        timing = self.timing
+        segment = super().send_first()
+        self.timing = timing
+        return segment
+
+
+class NoBackOff(Socket):
+    """The timeout is not doubled."""
+
+    def begin(self, iss):
+        super().begin(iss)
+        self.rto.back_off = lambda: None
+
+
+class ShortAfterSyn(Socket):
+    """A lost SYN does not count."""
+
+    def establish(self):
+        self.timing = self.timing or (self.snd_una, self.now)
+        super().establish()
+
+
+class AllAgain(Socket):
+    """After a time-out only the first segment goes again."""
+
+    def time_out(self):
+        flight = self.flight
+        segment = super().time_out()
+        self.cursor = max(self.cursor, flight)
+        return segment
+
+
+class TextAsDuplicate(Socket):
+    """A segment with text is a duplicate acknowledgement."""
+
+    def is_duplicate(self, seg, una, flight, window):
+        return super().is_duplicate(seg._replace(text=b""), una, flight, window)
+
+
+class AnyWindowAsDuplicate(Socket):
+    """A segment with another window is a duplicate acknowledgement."""
+
+    def is_duplicate(self, seg, una, flight, window):
+        return super().is_duplicate(seg._replace(window=window), una, flight, window)
+
+
+class RecoveryEnds(Socket):
+    """A partial acknowledgement ends fast recovery (RFC 5681 without RFC 6582)."""
+
+    def take_ack(self, *operands):
+        self.congestion.recover = self.snd_una if self.congestion.is_recovering else self.congestion.recover
+        super().take_ack(*operands)
+
+
+class WindowHalved(Socket):
+    """A loss halves cwnd instead of FlightSize, as RFC 5681 warns."""
+
+    def establish(self):
+        super().establish()
+        lose, congestion = self.congestion.lose, self.congestion
+        self.congestion.lose = lambda flight: lose(congestion.cwnd)
+
+
+class NoRestart(Socket):
+    """cwnd stays after a pause."""
+
+    def time_what_waits(self):
+        self.probe_at, probe_at = self.now + self.keep_alive, self.probe_at
+        super().time_what_waits()
+        self.probe_at = probe_at
+
+
+class SillyWindow(Socket):
+    """The window is the room, also if its right edge hardly moves."""
+
+    def advertised(self, seg):
+        segment = super().advertised(seg)
+        self.edge = (self.rcv_nxt + self.rcv_wnd) & model.MASK
+        return segment._replace(window=self.rcv_wnd)
+
+
+class NoUpdate(Socket):
+    """A window that opens is not told."""
+
+    def is_update_due(self):
+        return False
+
+
+class NoNagle(Socket):
+    """Small segments go at once."""
+
+    def is_worth(self, count, available):
+        return True
+
+
+class LateAcks(Socket):
+    """Every acknowledgement of text waits, also the second one and after a gap."""
+
+    def answer(self, reply, has_moved, is_special):
+        self.ack_at = None
+        return super().answer(reply, has_moved, False)
+
+
+class ForeverWaiting(Socket):
+    """What waits has the time that a connection has on which nothing waits."""
+
+    @property
+    def patience(self):
+        return self.keep_alive + socket_model.KEEP_ALIVE_PROBES * socket_model.KEEP_ALIVE_INTERVAL
+
+
+class OldAsAlive(Socket):
+    """Any segment shows that the peer is alive."""
+
+    def hear(self, seg, was, is_near):
+        super().hear(seg, was, True)
+
+
+class TimeWaitOnce(Socket):
+    """A FIN that comes again does not begin TIME-WAIT again."""
+
+    def hear(self, seg, was, is_near):
+        super().hear(seg._replace(bits=seg.bits.replace("F", "")), was, is_near)
+
+
+class NewProbe(Socket):
+    """A keep-alive probe has SEG.SEQ = SND.NXT, which nobody answers."""
+
+    def keep_alive_probe(self):
+        segment = super().keep_alive_probe()
+        return segment and segment._replace(seq=self.snd_nxt)
+
+
 FAULTS = Connection.__subclasses__()
+SOCKET_FAULTS = Socket.__subclasses__()

@@ -1,5 +1,6 @@
 """The lines of crates/tcp_steps: an event each, and the answer of the model in the words of the program."""
 import model
+from socket_model import Socket
 
 # The states as the program prints them.
 SHOWN = {state: state.title().replace("-", "") for state in model.STATES}
@@ -21,9 +22,7 @@ def event_of(line):
     """The name and the operands of a line."""
     name, *words = line.split()
     if name == "arrives":
-        seq, ack, flags, window, text, iss = words
-        ack = None if ack == "-" else int(ack)
-        return name, [model.Segment(int(seq), ack, flags[1:], int(window), text_of(text)), int(iss)]
+        return name, [segment_of(words[:-1]), int(words[-1])]
     return name, [text_of(word) if name == "write" else int(word) for word in words]
 
 
@@ -43,4 +42,26 @@ def happens(one, name, operands):
     """Lets an event happen. Returns what the call returns, and the answer of the program."""
     one.met.clear()
     returned = getattr(one, name)(*operands)
-    return returned, f"{variables(one)} {shown(returned)}"
+    return returned, answer(one, returned)
+
+
+def answer(one, returned):
+    """Of a socket, also when the next `tick` has something to do."""
+    due = f" {shown(one.due)}" if isinstance(one, Socket) else ""
+    return f"{variables(one)} {shown(returned)}{due}"
+
+
+def parsed(line):
+    """Of an answer for a socket: the state, its variables, the words of the result, and when `tick` is due."""
+    state, *words = line.split()
+    count = 0 if state in ("Closed", "Listen") else 4
+    due = None if words[-1] == "-" else int(words[-1])
+    return state, words[:count], words[count:-1], due
+
+
+def segment_of(words):
+    """The segment of these words, or None."""
+    if words == ["-"]:
+        return None
+    seq, ack, flags, window, text = words
+    return model.Segment(int(seq), None if ack == "-" else int(ack), flags[1:], int(window), text_of(text))

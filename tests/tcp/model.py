@@ -5,9 +5,9 @@ has the rules that handled the last event.
 
 The RFC leaves some choices to an endpoint. This one acknowledges each segment with text or FIN at once, also after a gap.
 It keeps one piece of text after a gap (SHLD-31). It sends text only if the user asks for a segment, and none from after
-SND.NXT. Of a SYN it takes the window, and neither text nor FIN: the peer sends them again. In SYN-RECEIVED it takes the acknowledgement of its SYN only at
-RCV.NXT, or with the SYN of the peer (figure 7). The window is 0 after the FIN of the peer. Both buffers are rings, and a
-text ends where its ring ends.
+SND.NXT. Of a SYN it takes the window, and neither text nor FIN: the peer sends them again. In SYN-RECEIVED it takes the
+acknowledgement of its SYN only at RCV.NXT, or with the SYN of the peer (figure 7). The window is 0 after the FIN of the
+peer. Both buffers are rings, and a text ends where its ring ends.
 
 Section 3.10.7.4 asks for "special allowance" for valid acknowledgements if RCV.WND is 0. A peer that probes the window sends
 the number at its right edge (section 3.8.6.1), so its next acknowledgement is one past the edge. A synchronized endpoint takes

@@ -17,6 +17,8 @@ FORGED = (0, 2, 10, 40)
 class Schedule:
     """A schedule of so many events of two endpoints."""
 
+    kinds = KINDS
+
     def __init__(self, rng, length):
         self.rng, self.length = rng, length
         self.weights = (*WEIGHTS, rng.choice(FORGED))
@@ -35,7 +37,7 @@ class Schedule:
 
     def next_kind(self, end):
         """A closed endpoint is mostly opened again, and one of them waits no longer if both do."""
-        kind = self.rng.choices(KINDS, self.weights)[0]
+        kind = self.rng.choices(self.kinds, self.weights)[0]
         one, other = self.ends[end].state, self.ends[1 - end].state
         is_idle = one == model.CLOSED or one == other == model.LISTEN
         return "open" if self.rng.random() < (0.3 if is_idle else 0.01) else kind

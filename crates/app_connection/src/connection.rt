@@ -1,13 +1,13 @@
 //! The connection, and the calls of its application (RFC 9293, sections 3.10.1 to 3.10.5).
 
-ghost use Rattle.std.specs.Prelude.{◌≡◌, ◌+◌, ◌%◌, ◌≤◌, ◌<◌, ◌++◌, ◌⊎◌, ℕ, List, [], length, true, false, IfSome, Some, None, take};
+ghost use Rattle.std.specs.Prelude.{◌≡◌, nat_lt, ◌+◌, ◌%◌, ◌≤◌, ◌<◌, ◌++◌, ◌⊎◌, ℕ, List, [], length, true, false, IfSome, Some, None, max, take};
 ghost use Rattle.tcp_model.specs.Network.{World, Event, Close, Write, Send, happens, run, start, IsPrefixOf};
 ghost use Rattle.app_tcp.specs.Stands.{Stands, room_of, IsAnswer};
 ghost use Rattle.app_tcp.specs.Waits.{Waits, IsSend, from_of, unsent_of};
 ghost use Rattle.app_tcp.specs.Items.{items_of};
 ghost use Rattle.app_connection.specs.declared.state.Phase.TheVariants.{Open};
 ghost use Rattle.app_connection.specs.SetUp.{In_closed, In_listen, In_syn_sent};
-ghost use Rattle.app_connection.specs.Endpoints.{endpoint_of, OutFits, InFits, IsLegal, acknowledgement_of, edge_of};
+ghost use Rattle.app_connection.specs.Endpoints.{endpoint_of, len_of, OutFits, InFits, IsLegal, acknowledgement_of, edge_of};
 ghost use Rattle.app_connection.specs.States.{state_from, state_closed, may_close, has_peer};
 ghost use Rattle.app_connection.specs.Worlds.{Stand, TellsState, WaitsLater};
 
@@ -262,6 +262,7 @@ impl Connection {
         ensures sends { self.old.phase ≡ Open → IfSome result (λ s. (there : World) → Waits there self.old.sending outgoing.now → IsSend there (from_of self.old.sending offset) s.number (items_of s.syn s.payload.now s.fin)) }
         ensures waits { (there : World) → Waits there self.old.sending outgoing.now → WaitsLater there self.new.sending outgoing.now }
         ensures answers { self.old.phase ≡ Open → IfSome result (λ s. (back : World) (consumed buffer : List ℕ) → Stands back consumed self.old.receiving buffer → IfSome s.ack (λ number. IsAnswer back number)) }
+        ensures reach { self.old.phase ≡ Open → IfSome result (λ s. (s.number ≡ (self.old.sending.una + from_of self.old.sending offset) % 4294967296) × (len_of s ≤ max 1 count)) }
     {
         match self.state() {
             State::Closed | State::Listen => None,
@@ -314,6 +315,7 @@ impl Connection {
         ensures sends { IfSome result (λ s. (there : World) → Waits there self.old.sending outgoing.now → IsSend there (from_of self.old.sending offset) s.number (items_of s.syn s.payload.now s.fin)) }
         ensures waits { (there : World) → Waits there self.old.sending outgoing.now → WaitsLater there self.new.sending outgoing.now }
         ensures answers { IfSome result (λ s. (back : World) (consumed buffer : List ℕ) → Stands back consumed self.old.receiving buffer → IfSome s.ack (λ number. IsAnswer back number)) }
+        ensures reach { IfSome result (λ s. (s.number ≡ (self.old.sending.una + from_of self.old.sending offset) % 4294967296) × (len_of s ≤ max 1 count)) }
     {
         let part = self.sending.segment(outgoing, offset, count);
         if !part.syn && part.payload.is_empty() && !part.fin {
@@ -343,6 +345,13 @@ impl Connection {
             syn: false,
             rst: false,
         }
+    }
+
+    /// Whether bytes of the peer are kept after a gap.
+    pub fn has_gap(&self) -> bool
+        ensures { result ≡ nat_lt 0 self.now.receiving.kept }
+    {
+        self.receiving.has_gap()
     }
 
     /// How many bytes there is room for (RCV.WND).

@@ -1,7 +1,7 @@
 //! The receiving half: what came in order and the application did not read yet, and a piece that came after a gap (RFC 9293,
 //! sections 3.3.1 and 3.10.7.4).
 
-ghost use Rattle.std.specs.Prelude.{◌≡◌, ◌+◌, ◌-◌, ◌%◌, [], ◌≤◌, ◌<◌, ◌++◌, ◌∷◌, ◌==◌, ◌&&◌, if◌then◌else◌, IfSome, Some, None, ℕ, List, length, take, true, false};
+ghost use Rattle.std.specs.Prelude.{◌≡◌, ◌+◌, ◌-◌, ◌%◌, [], ◌≤◌, ◌<◌, ◌++◌, ◌∷◌, ◌==◌, ◌&&◌, if◌then◌else◌, nat_lt, IfSome, Some, None, ℕ, List, length, take, true, false};
 ghost use Rattle.tcp_model.specs.Endpoint.{Item, Syn, distance};
 ghost use Rattle.tcp_model.specs.Network.{World, Event, Segment_comes, happens, run, start, IsPrefixOf};
 ghost use Rattle.app_tcp.specs.Items.{items_of};
@@ -196,6 +196,13 @@ impl Receiving {
         }
         let first = self.next.wrapping_add(self.gap as u32);
         Some((first, first.wrapping_add(self.kept as u32)))
+    }
+
+    /// Whether bytes are kept after a gap.
+    pub fn has_gap(&self) -> bool
+        ensures { result ≡ nat_lt 0 self.now.kept }
+    {
+        self.kept > 0
     }
 
     /// How many bytes there is room for in a ring of this size (RCV.WND): 0 after a FIN.

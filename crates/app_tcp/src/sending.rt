@@ -135,6 +135,8 @@ impl Sending {
         ensures inner { length result.payload.now ≤ length ring.now }
         ensures syn { self.old.has_syn ≡ false → result.syn ≡ false }
         ensures first { self.old.has_syn ≡ true → offset ≡ 0 → items_of result.syn result.payload.now result.fin ≡ Syn ∷ [] }
+        ensures number { result.number ≡ (self.old.una + from_of self.old offset) % 4294967296 }
+        ensures most { length result.payload.now + (if result.syn then 1 else 0) + (if result.fin then 1 else 0) ≤ max 1 count }
     {
         let from = offset
             .min(self.flight as usize)
@@ -169,6 +171,7 @@ impl Sending {
         ensures inner { length result.payload.now ≤ length ring.now }
         ensures syn { self.now.has_syn ≡ false → result.syn ≡ false }
         ensures first { self.now.has_syn ≡ true → from ≡ 0 → items_of result.syn result.payload.now result.fin ≡ Syn ∷ [] }
+        ensures most { length result.payload.now + (if result.syn then 1 else 0) + (if result.fin then 1 else 0) ≤ max 1 count }
     {
         if self.has_syn && from == 0 {
             return Segment {

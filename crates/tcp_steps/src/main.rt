@@ -1,5 +1,5 @@
-//! Lets events happen to a TCP connection, one on each input line, and prints the answer of each on one line. So it can be
-//! compared with a model, event by event.
+//! Lets events happen to a TCP connection, or to a socket, which is one with time. Each input line is an event, and its answer
+//! is printed at once on one line. So it can be compared with a model, event by event, or talk with other ends.
 //!
 //! The words of a line are separated by single spaces:
 //!
@@ -8,13 +8,16 @@
 //! - `write TEXT` and `read COUNT`: bytes from and for the application.
 //! - `send OFFSET COUNT`: the next segment, or one again.
 //! - `arrives SEQ ACK FLAGS WINDOW TEXT FRESH`: a segment comes, and the number of a connection that it opens.
+//! - `socket MSS KEEP_ALIVE EAGER OUT IN`: another socket, in CLOSED, with these options (EAGER is 0 or 1) and rings.
+//! - `at NOW`: sets the clock of a socket, in milliseconds. It begins at 0.
+//! - `tick`: time passes. A socket has it instead of `send`.
 //!
 //! ACK is `-` without the flag ACK. FLAGS is a dot and the letters of SYN, FIN and RST. TEXT is taken as it stands, and `-`
 //! is no text. A number that does not parse is 0.
 //!
 //! The answer is the state, and in other states than CLOSED and LISTEN also SND.NXT, RCV.NXT, RCV.WND and SND.WND. Then comes
 //! what the call returns: the segment that goes out as `SEQ ACK FLAGS WINDOW TEXT`, the count of `write`, or the text of `read`,
-//! and `-` for nothing.
+//! and `-` for nothing. The last word of a socket's answer is when the next `tick` has something to do, and `-` for never.
 //!
 //! If reading or writing fails or memory runs out, the program ends with status 1.
 #![tactic(auto)]
@@ -40,10 +43,16 @@ fn main(rt: HostRuntime) -> io::Result<()> {
                 endpoint = Endpoint::new(alloc, words.size(), words.size())?;
                 String::from_str(alloc, NOTHING)?
             }
+            "socket" => {
+                let options = words.options();
+                endpoint = Endpoint::timed(alloc, options, words.size(), words.size())?;
+                String::from_str(alloc, "- -")?
+            }
             name => endpoint.answer(alloc, name, &mut words)?,
         };
         let state = endpoint.variables(alloc)?;
         writeln!(output, "{state} {result}")?;
+        output.flush()?;
     }
-    output.flush()
+    Ok(())
 }

@@ -2,8 +2,10 @@
 
 ghost use Rattle.std.specs.Prelude.{◌<◌, length, IfSome};
 ghost use Rattle.app_connection.specs.Events.{IsShort};
+ghost use Rattle.app_socket.specs.Events as timed;
 
 use app_connection::{Event, Segment};
+use app_socket::{Event as Timed, Options};
 
 /// The word for nothing.
 pub const NOTHING: &str = "-";
@@ -36,6 +38,11 @@ impl<'a> Words<'a> {
 
     /// The next word as a number.
     pub fn number(&mut self) -> u32 {
+        self.word().parse().unwrap_or(0)
+    }
+
+    /// The next word as a time.
+    pub fn time(&mut self) -> u64 {
         self.word().parse().unwrap_or(0)
     }
 
@@ -86,6 +93,29 @@ impl<'a> Words<'a> {
             "close" => Some(Event::Close),
             "abort" => Some(Event::Abort),
             _ => None,
+        }
+    }
+
+    /// The event of a socket with this name that has no segment.
+    pub fn timed_event(&mut self, name: &str) -> Option<Timed<'a>>
+        ensures { IfSome result (λ event. timed.IsShort event) }
+    {
+        match name {
+            "listen" => Some(Timed::Listen),
+            "open" => Some(Timed::Open(self.number())),
+            "close" => Some(Timed::Close),
+            "abort" => Some(Timed::Abort),
+            "tick" => Some(Timed::Tick),
+            _ => None,
+        }
+    }
+
+    /// The next words as options of a socket.
+    pub fn options(&mut self) -> Options {
+        Options {
+            mss: self.word().parse().unwrap_or(0),
+            keep_alive: self.number(),
+            is_eager: self.number() != 0,
         }
     }
 }

@@ -1,0 +1,255 @@
+//! What is sent, and when again (RFC 6298, RFC 5681, RFC 6582; RFC 9293, sections 3.7.4 and 3.8.6).
+
+ghost use Rattle.std.specs.Prelude.{◌≡◌, ◌<◌, ◌≤◌, IfSome};
+ghost use Rattle.app_socket.specs.Pieces.{IsWithin, is_worth};
+
+use app_congestion::{Congestion, Rto};
+
+// A segment whose round trip is timed.
+#[derive(Debug, Clone, Copy)]
+pub(crate) struct Timed {
+    // The number after its last item.
+    end: u32,
+    sent_at: u64,
+}
+
+// The state of what is sent.
+#[derive(Debug, Clone, Copy)]
+pub(crate) struct Flow {
+    rto: Rto,
+    congestion: Congestion,
+    // Only a segment that was sent once (Karn's algorithm).
+    timing: Option<Timed>,
+    // How many items after SND.UNA were sent since the last time-out.
+    cursor: u32,
+    // Whether the first segment goes again at once.
+    resend: bool,
+    // The largest SND.WND so far.
+    max_window: u32,
+}
+
+// What the choice of the next segment sees of a connection.
+#[derive(Debug, Clone, Copy)]
+pub(crate) struct Queue {
+    // SND.UNA, SND.NXT - SND.UNA, and SND.WND
+    pub(crate) una: u32,
+    pub(crate) flight: u32,
+    pub(crate) window: u32,
+    // Items after SND.NXT.
+    pub(crate) unsent: usize,
+    // Whether a FIN waits.
+    pub(crate) has_fin: bool,
+    pub(crate) mss: u16,
+    pub(crate) is_eager: bool,
+}
+
+// Why a segment goes.
+#[derive(Debug, Clone, Copy, PartialEq, Eq)]
+pub(crate) enum Kind {
+    // Only new items.
+    New,
+    // Items that were sent before, and maybe new ones after them.
+    Again,
+    // One item of a closed window.
+    Probe,
+}
+
+// A part of what waits: from this item after SND.UNA, and at most so many.
+#[derive(Debug, Clone, Copy)]
+pub(crate) struct Piece {
+    pub(crate) offset: u32,
+    pub(crate) count: u32,
+    pub(crate) kind: Kind,
+}
+
+impl Queue {
+    // SND.NXT
+    fn next(&self) -> u32 {
+        self.una.wrapping_add(self.flight)
+    }
+}
+
+// Whether so many new items of those that are available are worth a segment: Nagle's algorithm (section 3.7.4) and the sender's
+// avoidance of silly windows (section 3.8.6.2.1).
+fn is_worth(queue: &Queue, count: u32, available: usize, max_window: u32) -> bool
+    ensures { result ≡ is_worth queue.now count available max_window }
+{
+    let is_all = count as usize == available;
+    let at_once = queue.is_eager || queue.flight == 0 || queue.has_fin;
+    count == u32::from(queue.mss) || is_all && at_once || count.saturating_mul(2) >= max_window
+}
+
+impl Flow {
+    pub(crate) fn new() -> Flow {
+        Flow {
+            rto: Rto::new(),
+            congestion: Congestion::new(0),
+            timing: None,
+            cursor: 0,
+            resend: false,
+            max_window: 0,
+        }
+    }
+
+    // The timeout of the retransmission timer, in milliseconds.
+    pub(crate) fn timeout(&self) -> u32
+        ensures low { 0 < result }
+        ensures high { result ≤ 60000 }
+    {
+        self.rto.timeout()
+    }
+
+    // A SYN goes out; `end` is the number after it.
+    pub(crate) fn begin(&mut self, end: u32, now: u64) {
+        self.rto = Rto::new();
+        self.timing = Some(Timed { end, sent_at: now });
+        self.cursor = 1;
+        self.resend = false;
+        self.max_window = 0;
+    }
+
+    // The SYN was acknowledged. One that was sent again is not timed (RFC 6298, section 5.7; RFC 5681, section 3.1).
+    pub(crate) fn establish(&mut self, mss: u16, window: u32, now: u64) {
+        self.congestion = Congestion::new(mss);
+        match self.timing {
+            Some(timed) => self.rto.on_sample(elapsed(timed.sent_at, now)),
+            None => {
+                self.rto.after_lost_syn();
+                self.congestion.after_lost_syn();
+            }
+        }
+        self.timing = None;
+        self.max_window = window;
+        self.cursor = 0;
+    }
+
+    // So many items after `una` were newly acknowledged.
+    pub(crate) fn on_ack(&mut self, una: u32, newly: u32, flight: u32, now: u64) {
+        if let Some(timed) = self.timing
+            && timed.end.wrapping_sub(una) <= newly
+        {
+            self.rto.on_sample(elapsed(timed.sent_at, now));
+            self.timing = None;
+        }
+        self.resend = self
+            .congestion
+            .on_ack(newly, flight, una.wrapping_add(newly));
+        self.cursor = self.cursor.saturating_sub(newly);
+    }
+
+    // A duplicate acknowledgement.
+    pub(crate) fn on_duplicate(&mut self, flight: u32, una: u32) {
+        let next = una.wrapping_add(flight);
+        if self.congestion.on_duplicate(flight, una, next) {
+            self.resend = true;
+        }
+    }
+
+    // The peer's window.
+    pub(crate) fn on_window(&mut self, window: u32) {
+        self.max_window = self.max_window.max(window);
+    }
+
+    // Nothing was sent for longer than the timeout (RFC 5681, section 4.1).
+    pub(crate) fn on_idle(&mut self) {
+        self.congestion.on_idle();
+    }
+
+    // The SYN goes again.
+    pub(crate) fn back_off(&mut self) {
+        self.rto.back_off();
+        self.timing = None;
+    }
+
+    // The timer expired: the first segment goes again, or probes a closed window. With nothing in flight it is one that was too
+    // small for its window before.
+    pub(crate) fn on_timeout(&mut self, queue: &Queue) -> Piece
+        ensures { IsWithin result queue.now.window self.new.congestion.cwnd }
+    {
+        self.timing = None;
+        self.cursor = 0;
+        self.resend = false;
+        if queue.window == 0 {
+            self.rto.back_off();
+            return self.first(queue, Kind::Probe);
+        }
+        if queue.flight > 0 {
+            self.rto.back_off();
+            self.congestion.on_timeout(queue.flight, queue.next());
+        }
+        self.first(queue, Kind::Again)
+    }
+
+    // The first segment: one item even where the window is closed.
+    fn first(&self, queue: &Queue, kind: Kind) -> Piece
+        ensures { IsWithin result queue.now.window self.now.congestion.cwnd }
+    {
+        let usable = self.congestion.may_send(queue.window, 0);
+        Piece {
+            offset: 0,
+            count: usable.min(u32::from(queue.mss)).max(1),
+            kind,
+        }
+    }
+
+    // The next segment, if there is one that may go and is worth it.
+    pub(crate) fn next(&mut self, queue: &Queue) -> Option<Piece>
+        ensures congestion { self.new.congestion ≡ self.old.congestion }
+        ensures within { IfSome result (λ p. IsWithin p queue.now.window self.new.congestion.cwnd) }
+    {
+        if self.resend {
+            self.resend = false;
+            self.timing = None;
+            return Some(self.first(queue, Kind::Again));
+        }
+        let again = queue.flight.saturating_sub(self.cursor);
+        let available = (again as usize).saturating_add(queue.unsent);
+        let usable = self.congestion.may_send(queue.window, self.cursor);
+        let count = usable.min(u32::from(queue.mss));
+        let count = available.min(count as usize) as u32;
+        if count == 0 {
+            return None;
+        }
+        if again > 0 {
+            return Some(self.piece(count, Kind::Again));
+        }
+        if is_worth(queue, count, available, self.max_window) {
+            return Some(self.piece(count, Kind::New));
+        }
+        None
+    }
+
+    // So many items after those that were sent.
+    fn piece(&self, count: u32, kind: Kind) -> Piece
+        ensures offset { result.offset ≡ self.now.cursor }
+        ensures count { result.count ≡ count }
+    {
+        Piece {
+            offset: self.cursor,
+            count,
+            kind,
+        }
+    }
+
+    // This piece went out, with so many items.
+    pub(crate) fn on_sent(&mut self, queue: &Queue, piece: &Piece, items: u32, now: u64)
+        ensures { self.new ≡ record self.old { timing = self.new.timing; cursor = self.new.cursor } }
+    {
+        if piece.kind == Kind::Probe {
+            return;
+        }
+        let end = piece.offset.saturating_add(items);
+        self.cursor = self.cursor.max(end);
+        if piece.kind == Kind::New && self.timing.is_none() {
+            self.timing = Some(Timed {
+                end: queue.una.wrapping_add(end),
+                sent_at: now,
+            });
+        }
+    }
+}
+
+// The milliseconds from one time to another.
+fn elapsed(from: u64, to: u64) -> u32 {
+    u32::try_from(to.saturating_sub(from)).unwrap_or(u32::MAX)
+}

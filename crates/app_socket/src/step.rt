@@ -1,0 +1,113 @@
+//! One call for everything that can happen.
+
+ghost use Rattle.std.specs.Prelude.{max, false, ◌≡◌, ◌<◌, ◌≤◌, ℕ, List, length, true, Some, None, IfSome};
+ghost use Rattle.tcp_model.specs.Network.{World};
+ghost use Rattle.app_connection.specs.declared.state.Phase.TheVariants.{Listen};
+ghost use Rattle.app_connection.specs.SetUp.{In_closed};
+ghost use Rattle.app_connection.specs.Endpoints.{endpoint_of, len_of, OutFits, InFits};
+ghost use Rattle.app_connection.specs.Worlds.{Stand, Went};
+ghost use Rattle.app_connection.specs.Events.{ComesBy, called};
+ghost use Rattle.app_connection.specs.States.{has_peer, may_close, state_from};
+ghost use Rattle.app_socket.specs.Events.{IsShort, IsTick, IsQuiet, move_of};
+ghost use Rattle.app_socket.specs.Times.{due_in, is_open, later, patience_of};
+ghost use Rattle.app_socket.specs.Window.{HasRoom, Tells, end_after, limit_of};
+
+use crate::socket::Socket;
+use crate::tick::has_peer;
+use app_connection::{Event as Move, Segment};
+
+/// What can happen.
+#[derive(Debug, Clone, Copy)]
+pub enum Event<'s> {
+    /// The application waits for a peer.
+    Listen,
+    /// The application opens, with a fresh number (ISS, RFC 6528).
+    Open(u32),
+    /// A segment arrives, its window after scaling; the number is a fresh one.
+    Arrives(&'s Segment<'s>, u32),
+    /// The application closes.
+    Close,
+    /// The application gives up.
+    Abort,
+    /// Time passes, or the application wrote or read.
+    Tick,
+}
+
+impl Socket {
+    /// One event at the time `now`. Returns the segment to send, if any.
+    pub fn step<'a>(
+        &mut self,
+        outgoing: &'a [u8],
+        incoming: &mut [u8],
+        now: u64,
+        event: Event,
+    ) -> Option<Segment<'a>>
+        requires text { IsShort event }
+        requires out { OutFits self.old.connection.sending (length outgoing.now) }
+        requires rings { InFits self.old.connection.receiving (length incoming.old) }
+        ensures out { OutFits self.new.connection.sending (length outgoing.now) }
+        ensures rings { InFits self.new.connection.receiving (length incoming.old) }
+        ensures goes { (there back : World) (consumed : List ℕ) → (self.old.connection.phase ≡ Listen → ⊥) → ComesBy (move_of event.entry) there back → Stand there back consumed self.old.connection outgoing.now incoming.old → Went (called (move_of event.entry) (may_close (state_from self.old.connection)) there) back consumed self.new.connection outgoing.now incoming.new }
+        ensures ends { IsTick event.entry → has_peer (state_from self.old.connection) ≡ true → self.old.timers.ends_at ≤ now → endpoint_of self.new.connection ≡ In_closed }
+        ensures idle { IsTick event.entry → has_peer (state_from self.old.connection) ≡ false → self.new ≡ self.old }
+        ensures later { IsQuiet event.entry → self.new.timers.ends_at ≤ self.old.timers.ends_at }
+        ensures tells { is_open (state_from self.old.connection) ≡ true → is_open (state_from self.new.connection) ≡ true → IfSome result (λ s. IfSome s.ack (λ ack. Tells self.old.edge self.new.edge self.new.connection.receiving (length incoming.old) ack s.window)) }
+        ensures keeps { is_open (state_from self.old.connection) ≡ true → is_open (state_from self.new.connection) ≡ true → self.old.connection.receiving.has_fin ≡ false → self.new.connection.receiving.has_fin ≡ false → HasRoom self.old.edge self.old.connection.receiving (length incoming.old) → HasRoom self.new.edge self.new.connection.receiving (length incoming.old) }
+        ensures within { IsTick event.entry → is_open (state_from self.old.connection) ≡ true → is_open (state_from self.new.connection) ≡ true → IfSome result (λ s. 0 < len_of s → end_after self.old.connection.sending.una s ≤ limit_of self.old.connection.wnd self.new.flow.congestion.cwnd) }
+        ensures acks { is_open (state_from self.old.connection) ≡ true → is_open (state_from self.new.connection) ≡ true → IfSome result (λ s. self.new.timers.ack_at ≡ None) }
+        ensures patience { self.new.timers.ends_at ≤ max self.old.timers.ends_at (later now (patience_of self.old.options)) }
+        ensures rests { IsTick event.entry → now < 9223372036854775808 → result ≡ None → IfSome (due_in (state_from self.new.connection) self.new.timers) (λ t. now < t) }
+    {
+        match event {
+            Event::Tick => self.tick(outgoing, incoming, now),
+            Event::Arrives(segment, fresh) => {
+                self.on_segment(outgoing, incoming, now, segment, fresh)
+            }
+            Event::Open(iss) => self.open(outgoing, incoming, now, iss),
+            Event::Listen => {
+                let _ = self.connection.step(outgoing, incoming, Move::Listen);
+                None
+            }
+            Event::Close => {
+                let _ = self.connection.step(outgoing, incoming, Move::Close);
+                None
+            }
+            Event::Abort => self.connection.step(outgoing, incoming, Move::Abort),
+        }
+    }
+
+    // The active open.
+    fn open<'a>(
+        &mut self,
+        outgoing: &'a [u8],
+        incoming: &mut [u8],
+        now: u64,
+        iss: u32,
+    ) -> Option<Segment<'a>>
+        requires out { OutFits self.old.connection.sending (length outgoing.now) }
+        requires rings { InFits self.old.connection.receiving (length incoming.old) }
+        ensures out { OutFits self.new.connection.sending (length outgoing.now) }
+        ensures rings { InFits self.new.connection.receiving (length incoming.old) }
+        ensures none { is_open (state_from self.old.connection) ≡ true → result ≡ None }
+        ensures stays { is_open (state_from self.old.connection) ≡ true → self.new ≡ self.old }
+        ensures patience { self.new.timers.ends_at ≤ max self.old.timers.ends_at (later now (patience_of self.old.options)) }
+    {
+        if has_peer(self.connection.state()) {
+            return None;
+        }
+        let syn = self.connection.step(outgoing, incoming, Move::Open(iss));
+        if syn.is_some() {
+            self.begin(now, iss);
+        }
+        syn
+    }
+
+    // The SYN with this number goes out.
+    pub(crate) fn begin(&mut self, now: u64, iss: u32)
+        ensures same { self.new ≡ record self.old { timers = self.new.timers; flow = self.new.flow } }
+        ensures patience { self.new.timers.ends_at ≤ later now (patience_of self.old.options) }
+    {
+        self.flow.begin(iss.wrapping_add(1), now);
+        self.timers.begin(now, self.flow.timeout());
+    }
+}

@@ -1,0 +1,3 @@
+//! Connections over time.
+
+mod scenarios;

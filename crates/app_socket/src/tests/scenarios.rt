@@ -1,0 +1,329 @@
+//! What a connection does over time.
+
+ghost use Rattle.app_socket.specs.Events.{IsShort};
+
+use crate::{Event, Options, Socket};
+use Turn::{Close, Gets, Listen, Open, Read, Tick, Write};
+use app_connection::{Segment, State as S};
+use std::process::Abort;
+
+/// The size of both rings, and of the longest segment.
+const SIZE: usize = 4000;
+
+const MSS: u16 = 1000;
+
+const TEXT: [u8; SIZE] = [7; SIZE];
+
+const OPTIONS: Options = Options {
+    mss: MSS,
+    keep_alive: 100,
+    is_eager: false,
+};
+
+/// A segment, with the number of its bytes.
+#[derive(Debug, Clone, Copy, PartialEq, Eq)]
+struct Line {
+    number: u32,
+    ack: Option<u32>,
+    flags: Flags,
+    window: u32,
+    len: usize,
+}
+
+#[derive(Debug, Clone, Copy, PartialEq, Eq)]
+enum Flags {
+    None,
+    Syn,
+    Rst,
+    Fin,
+}
+
+/// What happens.
+#[derive(Debug, Clone, Copy)]
+enum Turn {
+    Listen,
+    Open(u32),
+    Gets(Line),
+    Write(usize),
+    Read(usize),
+    Close,
+    Tick,
+}
+
+/// When something happens, what it sends, and when the next Tick is due.
+type Row = (u64, Turn, Option<Line>, Option<u64>);
+
+/// A connection with its rings.
+#[derive(Debug, Clone, Copy)]
+struct End {
+    socket: Socket,
+    outgoing: [u8; SIZE],
+    incoming: [u8; SIZE],
+}
+
+fn plain(number: u32, ack: Option<u32>, flags: Flags, len: usize) -> Line {
+    Line {
+        number,
+        ack,
+        flags,
+        window: 4000,
+        len,
+    }
+}
+
+fn syn(number: u32) -> Line {
+    plain(number, None, Flags::Syn, 0)
+}
+
+fn syn_ack(number: u32, ack: u32) -> Line {
+    plain(number, Some(ack), Flags::Syn, 0)
+}
+
+fn ack(number: u32, ack: u32) -> Line {
+    plain(number, Some(ack), Flags::None, 0)
+}
+
+fn rst(number: u32) -> Line {
+    Line {
+        window: 0,
+        ..plain(number, None, Flags::Rst, 0)
+    }
+}
+
+fn fin(number: u32, ack: u32) -> Line {
+    Line {
+        window: 1000,
+        ..plain(number, Some(ack), Flags::Fin, 0)
+    }
+}
+
+fn tells(number: u32, ack: u32, window: u32) -> Line {
+    Line {
+        window,
+        ..plain(number, Some(ack), Flags::None, 0)
+    }
+}
+
+fn text(number: u32, ack: u32, len: usize) -> Line {
+    plain(number, Some(ack), Flags::None, len)
+}
+
+fn line_of(segment: &Segment) -> Line {
+    let flags = if segment.syn {
+        Flags::Syn
+    } else if segment.rst {
+        Flags::Rst
+    } else if segment.fin {
+        Flags::Fin
+    } else {
+        Flags::None
+    };
+    Line {
+        number: segment.number,
+        ack: segment.ack,
+        flags,
+        window: segment.window,
+        len: segment.payload.len(),
+    }
+}
+
+impl End {
+    fn turn(&mut self, now: u64, turn: Turn) -> Option<Line> {
+        if !self.socket.fits(SIZE, SIZE) {
+            return None;
+        }
+        match turn {
+            Turn::Listen => self.step(now, Event::Listen),
+            Turn::Open(iss) => self.step(now, Event::Open(iss)),
+            Turn::Gets(line) => self.gets(now, line),
+            Turn::Write(count) => {
+                let _ = self
+                    .socket
+                    .write(&mut self.outgoing, &TEXT[..count.min(SIZE)]);
+                None
+            }
+            Turn::Read(count) => {
+                let _ = self.socket.read(&self.incoming, count);
+                None
+            }
+            Turn::Close => self.step(now, Event::Close),
+            Turn::Tick => self.step(now, Event::Tick),
+        }
+    }
+
+    fn gets(&mut self, now: u64, line: Line) -> Option<Line> {
+        let segment = Segment {
+            number: line.number,
+            ack: line.ack,
+            window: line.window,
+            syn: line.flags == Flags::Syn,
+            rst: line.flags == Flags::Rst,
+            fin: line.flags == Flags::Fin,
+            payload: &TEXT[..line.len.min(SIZE)],
+        };
+        self.step(now, Event::Arrives(&segment, 500))
+    }
+
+    fn step(&mut self, now: u64, event: Event) -> Option<Line>
+        requires { IsShort event }
+    {
+        if !self.socket.fits(SIZE, SIZE) {
+            return None;
+        }
+        let sent = self
+            .socket
+            .step(&self.outgoing, &mut self.incoming, now, event);
+        match sent {
+            Some(segment) => Some(line_of(&segment)),
+            None => None,
+        }
+    }
+}
+
+/// The rows, in order, from CLOSED on, and the state after them.
+fn check(rt: &impl Abort, name: &str, rows: &[Row], state: S) {
+    let mut end = End {
+        socket: Socket::new(OPTIONS),
+        outgoing: [0; SIZE],
+        incoming: [0; SIZE],
+    };
+    for (i, (now, turn, sends, due)) in rows.iter().enumerate() {
+        let sent = end.turn(*now, *turn);
+        assert_eq!(rt; sent, *sends, "{name}, row {i}");
+        assert_eq!(rt; end.socket.due(), *due, "{name}, row {i}");
+    }
+    assert_eq!(rt; end.socket.state(), state, "{name}");
+}
+
+#[test]
+fn a_lost_syn(rt: HostRuntime) {
+    let rows = [
+        (0, Open(99), Some(syn(99)), Some(1000)),
+        (0, Tick, None, Some(1000)),
+        (1000, Tick, Some(syn(99)), Some(3000)),
+        (1000, Tick, None, Some(3000)),
+        (
+            1100,
+            Gets(syn_ack(299, 100)),
+            Some(ack(100, 300)),
+            Some(101_100),
+        ),
+        (1100, Write(10), None, Some(101_100)),
+        (1100, Tick, Some(text(100, 300, 10)), Some(4100)),
+    ];
+    check(&rt, "a lost SYN", &rows, S::Established);
+}
+
+#[test]
+fn no_answer_to_a_syn(rt: HostRuntime) {
+    let rows = [
+        (0, Open(99), Some(syn(99)), Some(1000)),
+        (179_999, Tick, Some(syn(99)), Some(180_000)),
+        (180_000, Tick, None, None),
+    ];
+    check(&rt, "no answer to a SYN", &rows, S::Closed);
+}
+
+// The first of four segments is lost, and goes again after three duplicate acknowledgements.
+#[test]
+fn a_lost_segment(rt: HostRuntime) {
+    let rows = [
+        (0, Open(99), Some(syn(99)), Some(1000)),
+        (
+            100,
+            Gets(syn_ack(299, 100)),
+            Some(ack(100, 300)),
+            Some(100_100),
+        ),
+        (100, Write(4000), None, Some(100_100)),
+        (200, Tick, Some(text(100, 300, 1000)), Some(500)),
+        (200, Tick, Some(text(1100, 300, 1000)), Some(500)),
+        (200, Tick, Some(text(2100, 300, 1000)), Some(500)),
+        (200, Tick, Some(text(3100, 300, 1000)), Some(500)),
+        (200, Tick, None, Some(500)),
+        (301, Gets(ack(300, 100)), None, Some(500)),
+        (302, Gets(ack(300, 100)), None, Some(500)),
+        (302, Tick, None, Some(500)),
+        (303, Gets(ack(300, 100)), None, Some(500)),
+        (303, Tick, Some(text(100, 300, 1000)), Some(500)),
+        (303, Tick, None, Some(500)),
+        (403, Gets(ack(300, 4100)), None, Some(100_403)),
+        (403, Tick, None, Some(100_403)),
+    ];
+    check(&rt, "a lost segment", &rows, S::Established);
+}
+
+// Nagle's algorithm keeps the last 500 bytes. Then the window is closed: probes of one byte, each after twice the time.
+#[test]
+fn a_closed_window(rt: HostRuntime) {
+    let rows = [
+        (0, Open(99), Some(syn(99)), Some(1000)),
+        (
+            400,
+            Gets(syn_ack(299, 100)),
+            Some(ack(100, 300)),
+            Some(100_400),
+        ),
+        (400, Write(1500), None, Some(100_400)),
+        (500, Tick, Some(text(100, 300, 1000)), Some(1700)),
+        (500, Tick, None, Some(1700)),
+        (900, Gets(tells(300, 1100, 0)), None, Some(1900)),
+        (900, Tick, None, Some(1900)),
+        (1900, Tick, Some(text(1100, 300, 1)), Some(3900)),
+        (1900, Tick, None, Some(3900)),
+        (2300, Gets(tells(300, 1100, 0)), None, Some(3900)),
+        (3900, Tick, Some(text(1100, 300, 1)), Some(7900)),
+        (4300, Gets(ack(300, 1100)), None, Some(8300)),
+        (4300, Tick, Some(text(1100, 300, 500)), Some(8300)),
+        (4300, Tick, None, Some(8300)),
+    ];
+    check(&rt, "a closed window", &rows, S::Established);
+}
+
+// The user timeout begins with what waits, and no retransmission puts it off.
+#[test]
+fn an_end_after_silence(rt: HostRuntime) {
+    let rows = [
+        (0, Open(99), Some(syn(99)), Some(1000)),
+        (
+            400,
+            Gets(syn_ack(299, 100)),
+            Some(ack(100, 300)),
+            Some(100_400),
+        ),
+        (400, Write(1000), None, Some(100_400)),
+        (500, Tick, Some(text(100, 300, 1000)), Some(1700)),
+        (1700, Tick, Some(text(100, 300, 1000)), Some(4100)),
+        (300_499, Tick, Some(text(100, 300, 1000)), Some(300_500)),
+        (300_500, Tick, Some(rst(1100)), None),
+        (300_500, Tick, None, None),
+    ];
+    check(&rt, "an end after silence", &rows, S::Closed);
+}
+
+// Acknowledgements wait 40 ms, or for the second segment. The room that the application makes is told once it is a segment.
+#[test]
+fn a_slow_reader(rt: HostRuntime) {
+    let rows = [
+        (0, Listen, None, None),
+        (0, Gets(syn(99)), Some(syn_ack(500, 100)), Some(1000)),
+        (100, Gets(ack(100, 501)), None, Some(100_100)),
+        (100, Tick, None, Some(100_100)),
+        (200, Gets(text(100, 501, 1000)), None, Some(240)),
+        (200, Tick, None, Some(240)),
+        (240, Tick, Some(tells(501, 1100, 3000)), Some(100_200)),
+        (300, Gets(text(1100, 501, 1000)), None, Some(340)),
+        (301, Gets(text(2100, 501, 1000)), None, Some(301)),
+        (301, Tick, Some(tells(501, 3100, 1000)), Some(100_301)),
+        (400, Gets(text(3100, 501, 1000)), None, Some(440)),
+        (440, Tick, Some(tells(501, 4100, 0)), Some(100_400)),
+        (500, Read(999), None, Some(100_400)),
+        (500, Tick, None, Some(100_400)),
+        (500, Read(1), None, Some(100_400)),
+        (500, Tick, Some(tells(501, 4100, 1000)), Some(100_400)),
+        (500, Tick, None, Some(100_400)),
+        (600, Close, None, Some(100_400)),
+        (600, Tick, Some(fin(501, 4100)), Some(900)),
+    ];
+    check(&rt, "a slow reader", &rows, S::FinWait1);
+}

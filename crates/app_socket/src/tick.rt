@@ -1,0 +1,288 @@
+//! Time passes.
+
+ghost use Rattle.std.specs.Prelude.{false, ◌≡◌, ◌<◌, ◌≤◌, ℕ, List, length, true, Some, None, IfSome, not, ◌||◌};
+ghost use Rattle.tcp_model.specs.Network.{World};
+ghost use Rattle.app_tcp.specs.Waits.{Waits};
+ghost use Rattle.app_connection.specs.declared.state.Phase.TheVariants.{Listen, Open};
+ghost use Rattle.app_connection.specs.SetUp.{In_closed};
+ghost use Rattle.app_connection.specs.Endpoints.{endpoint_of, len_of, OutFits, InFits};
+ghost use Rattle.app_connection.specs.Worlds.{Stand, Went, WaitsLater};
+ghost use Rattle.app_connection.specs.States.{has_peer, state_from};
+ghost use Rattle.app_socket.specs.Pieces.{IsWithin};
+ghost use Rattle.app_socket.specs.Times.{due_in, is_open};
+ghost use Rattle.app_socket.specs.Window.{HasRoom, Tells, end_after, limit_of};
+
+use crate::flow::Piece;
+use crate::socket::Socket;
+use crate::timers::is_reached;
+use crate::window::{advertised, is_update_due, least_growth, moved};
+use app_connection::{Event as Move, Segment, State};
+
+// Whether there is a connection, or the beginning of one.
+pub(crate) fn has_peer(state: State) -> bool
+    ensures { result ≡ has_peer state }
+{
+    !matches!(state, State::Closed | State::Listen)
+}
+
+// Whether the connection is set up.
+pub(crate) fn is_open(state: State) -> bool
+    ensures { result ≡ is_open state }
+{
+    has_peer(state) && !matches!(state, State::SynSent | State::SynReceived)
+}
+
+impl Socket {
+    // Ends the connection, or sends the next segment that is due.
+    pub(crate) fn tick<'a>(
+        &mut self,
+        outgoing: &'a [u8],
+        incoming: &mut [u8],
+        now: u64,
+    ) -> Option<Segment<'a>>
+        requires out { OutFits self.old.connection.sending (length outgoing.now) }
+        requires rings { InFits self.old.connection.receiving (length incoming.old) }
+        ensures out { OutFits self.new.connection.sending (length outgoing.now) }
+        ensures rings { InFits self.new.connection.receiving (length incoming.old) }
+        ensures goes { (there back : World) (consumed : List ℕ) → (self.old.connection.phase ≡ Listen → ⊥) → Stand there back consumed self.old.connection outgoing.now incoming.old → Went there back consumed self.new.connection outgoing.now incoming.new }
+        ensures ends { has_peer (state_from self.old.connection) ≡ true → self.old.timers.ends_at ≤ now → endpoint_of self.new.connection ≡ In_closed }
+        ensures later { self.new.timers.ends_at ≤ self.old.timers.ends_at }
+        ensures idle { has_peer (state_from self.old.connection) ≡ false → self.new ≡ self.old }
+        ensures tells { is_open (state_from self.old.connection) ≡ true → is_open (state_from self.new.connection) ≡ true → IfSome result (λ s. IfSome s.ack (λ ack. Tells self.old.edge self.new.edge self.new.connection.receiving (length incoming.old) ack s.window)) }
+        ensures within { is_open (state_from self.old.connection) ≡ true → is_open (state_from self.new.connection) ≡ true → IfSome result (λ s. 0 < len_of s → end_after self.old.connection.sending.una s ≤ limit_of self.old.connection.wnd self.new.flow.congestion.cwnd) }
+        ensures keeps { is_open (state_from self.old.connection) ≡ true → is_open (state_from self.new.connection) ≡ true → self.old.connection.receiving.has_fin ≡ false → self.new.connection.receiving.has_fin ≡ false → HasRoom self.old.edge self.old.connection.receiving (length incoming.old) → HasRoom self.new.edge self.new.connection.receiving (length incoming.old) }
+        ensures acks { is_open (state_from self.old.connection) ≡ true → is_open (state_from self.new.connection) ≡ true → IfSome result (λ s. self.new.timers.ack_at ≡ None) }
+        ensures rests { now < 9223372036854775808 → result ≡ None → IfSome (due_in (state_from self.new.connection) self.new.timers) (λ t. now < t) }
+    {
+        let state = self.connection.state();
+        if !has_peer(state) {
+            return None;
+        }
+        if self.timers.ends_at <= now {
+            return self.connection.step(outgoing, incoming, Move::Abort);
+        }
+        if !is_open(state) {
+            return self.tick_set_up(outgoing, incoming.len(), now);
+        }
+        self.tick_open(outgoing, incoming.len(), now)
+    }
+
+    // The SYN goes again.
+    fn tick_set_up<'a>(
+        &mut self,
+        outgoing: &'a [u8],
+        incoming: usize,
+        now: u64,
+    ) -> Option<Segment<'a>>
+        requires out { OutFits self.old.connection.sending (length outgoing.now) }
+        requires rings { InFits self.old.connection.receiving incoming }
+        ensures out { OutFits self.new.connection.sending (length outgoing.now) }
+        ensures receiving { self.new.connection.receiving ≡ self.old.connection.receiving }
+        ensures endpoint { endpoint_of self.new.connection ≡ endpoint_of self.old.connection }
+        ensures waits { (there : World) → Waits there self.old.connection.sending outgoing.now → WaitsLater there self.new.connection.sending outgoing.now }
+        ensures ends_at { self.new.timers.ends_at ≡ self.old.timers.ends_at }
+        ensures resend { now < 9223372036854775808 → IfSome self.new.timers.resend_at (λ t. now < t) }
+    {
+        if !is_reached(self.timers.resend_at, now) {
+            return None;
+        }
+        self.flow.back_off();
+        self.timers.restart(now, self.flow.timeout(), true);
+        self.connection.send(outgoing, incoming, 0, 1)
+    }
+
+    // What an open connection sends: text, or else an acknowledgement.
+    fn tick_open<'a>(
+        &mut self,
+        outgoing: &'a [u8],
+        incoming: usize,
+        now: u64,
+    ) -> Option<Segment<'a>>
+        requires out { OutFits self.old.connection.sending (length outgoing.now) }
+        requires rings { InFits self.old.connection.receiving incoming }
+        ensures out { OutFits self.new.connection.sending (length outgoing.now) }
+        ensures receiving { self.new.connection.receiving ≡ self.old.connection.receiving }
+        ensures waits { (there : World) → Waits there self.old.connection.sending outgoing.now → WaitsLater there self.new.connection.sending outgoing.now }
+        ensures ends_at { self.new.timers.ends_at ≤ self.old.timers.ends_at }
+        ensures still { now < 9223372036854775808 → now < self.old.timers.ends_at → now < self.new.timers.ends_at }
+        ensures resend { now < 9223372036854775808 → IfSome self.new.timers.resend_at (λ t. now < t) }
+        ensures tells { IfSome result (λ s. IfSome s.ack (λ ack. Tells self.old.edge self.new.edge self.new.connection.receiving incoming ack s.window)) }
+        ensures within { self.old.connection.phase ≡ Open → IfSome result (λ s. 0 < len_of s → end_after self.old.connection.sending.una s ≤ limit_of self.old.connection.wnd self.new.flow.congestion.cwnd) }
+        ensures keeps { HasRoom self.old.edge self.old.connection.receiving incoming → HasRoom self.new.edge self.old.connection.receiving incoming }
+        ensures acks { IfSome result (λ s. self.new.timers.ack_at ≡ None) }
+        ensures ack { result ≡ None → IfSome self.new.timers.ack_at (λ t. now < t) }
+        ensures probe { result ≡ None → (state_from self.new.connection ≡ State.TimeWait → ⊥) → self.new.timers.resend_at ≡ None → now < self.new.timers.probe_at }
+    {
+        if let Some(segment) = self.next_text(outgoing, incoming, now) {
+            return Some(self.advertise(segment, incoming));
+        }
+        let number = self.connection.acknowledgement().number;
+        if is_reached(self.timers.ack_at, now) || self.is_update_due(incoming) {
+            return Some(self.acknowledge(outgoing, incoming, number));
+        }
+        if self.is_probe_due(now) {
+            self.timers.probe(now);
+            return Some(self.acknowledge(outgoing, incoming, number.wrapping_sub(1)));
+        }
+        None
+    }
+
+    // The next segment with text or a FIN, if it is time.
+    fn next_text<'a>(
+        &mut self,
+        outgoing: &'a [u8],
+        incoming: usize,
+        now: u64,
+    ) -> Option<Segment<'a>>
+        requires out { OutFits self.old.connection.sending (length outgoing.now) }
+        requires rings { InFits self.old.connection.receiving incoming }
+        ensures out { OutFits self.new.connection.sending (length outgoing.now) }
+        ensures receiving { self.new.connection.receiving ≡ self.old.connection.receiving }
+        ensures waits { (there : World) → Waits there self.old.connection.sending outgoing.now → WaitsLater there self.new.connection.sending outgoing.now }
+        ensures ends_at { self.new.timers.ends_at ≤ self.old.timers.ends_at }
+        ensures still { now < 9223372036854775808 → now < self.old.timers.ends_at → now < self.new.timers.ends_at }
+        ensures resend { now < 9223372036854775808 → IfSome self.new.timers.resend_at (λ t. now < t) }
+        ensures edge { self.new.edge ≡ self.old.edge }
+        ensures within { self.old.connection.phase ≡ Open → IfSome result (λ s. end_after self.old.connection.sending.una s ≤ limit_of self.old.connection.wnd self.new.flow.congestion.cwnd) }
+    {
+        let Some(piece) = self.piece(now) else {
+            return None;
+        };
+        self.cut(outgoing, incoming, now, &piece)
+    }
+
+    // What is to be sent now.
+    fn piece(&mut self, now: u64) -> Option<Piece>
+        ensures same { self.new ≡ record self.old { timers = self.new.timers; flow = self.new.flow } }
+        ensures ends_at { self.new.timers.ends_at ≤ self.old.timers.ends_at }
+        ensures still { now < 9223372036854775808 → now < self.old.timers.ends_at → now < self.new.timers.ends_at }
+        ensures resend { now < 9223372036854775808 → IfSome self.new.timers.resend_at (λ t. now < t) }
+        ensures within { IfSome result (λ p. IsWithin p self.new.connection.wnd self.new.flow.congestion.cwnd) }
+    {
+        let queue = self.queue();
+        let waits = self.waits();
+        let rto = self.flow.timeout();
+        if waits
+            && self.timers.resend_at.is_none()
+            && self.timers.is_idle(now, self.options.idle_time(), rto)
+        {
+            self.flow.on_idle();
+        }
+        self.timers.run(now, rto, waits);
+        if is_reached(self.timers.resend_at, now) {
+            let piece = self.flow.on_timeout(&queue);
+            self.timers.restart(now, self.flow.timeout(), true);
+            return Some(piece);
+        }
+        self.flow.next(&queue)
+    }
+
+    // The segment of a piece.
+    fn cut<'a>(
+        &mut self,
+        outgoing: &'a [u8],
+        incoming: usize,
+        now: u64,
+        piece: &Piece,
+    ) -> Option<Segment<'a>>
+        requires out { OutFits self.old.connection.sending (length outgoing.now) }
+        requires rings { InFits self.old.connection.receiving incoming }
+        ensures same { self.new ≡ record self.old { connection = self.new.connection; flow = self.new.flow } }
+        ensures out { OutFits self.new.connection.sending (length outgoing.now) }
+        ensures receiving { self.new.connection.receiving ≡ self.old.connection.receiving }
+        ensures waits { (there : World) → Waits there self.old.connection.sending outgoing.now → WaitsLater there self.new.connection.sending outgoing.now }
+        ensures congestion { self.new.flow.congestion ≡ self.old.flow.congestion }
+        ensures within { self.old.connection.phase ≡ Open → (window : ℕ) → IsWithin piece.now window self.old.flow.congestion.cwnd → IfSome result (λ s. end_after self.old.connection.sending.una s ≤ limit_of window self.old.flow.congestion.cwnd) }
+    {
+        let queue = self.queue();
+        let (offset, count) = (piece.offset as usize, piece.count as usize);
+        let segment = self.connection.send(outgoing, incoming, offset, count);
+        if let Some(segment) = &segment {
+            let bytes = segment.payload.len().min(count) as u32;
+            let items = bytes.saturating_add(u32::from(segment.fin));
+            self.flow.on_sent(&queue, piece, items, now);
+        }
+        segment
+    }
+
+    // Whether a keep-alive probe goes (section 3.8.4).
+    fn is_probe_due(&self, now: u64) -> bool
+        ensures { result ≡ false → (state_from self.now.connection ≡ State.TimeWait → ⊥) → self.now.timers.resend_at ≡ None → now < self.now.timers.probe_at }
+    {
+        self.connection.state() != State::TimeWait
+            && self.timers.resend_at.is_none()
+            && self.timers.probe_at <= now
+    }
+
+    // Whether the peer has to hear of the room that the application made.
+    fn is_update_due(&self, incoming: usize) -> bool
+        requires { InFits self.now.connection.receiving incoming }
+    {
+        let is_before_end = matches!(
+            self.connection.state(),
+            State::Established | State::FinWait1 | State::FinWait2
+        );
+        let least = least_growth(incoming, self.options.most());
+        let room = self.connection.room(incoming);
+        is_before_end && is_update_due(self.edge, self.next(), room, least)
+    }
+
+    // An acknowledgement of all that came, with this number.
+    fn acknowledge<'a>(&mut self, outgoing: &'a [u8], incoming: usize, number: u32) -> Segment<'a>
+        requires { InFits self.old.connection.receiving incoming }
+        ensures same { self.new ≡ record self.old { timers = record self.old.timers { ack_at = None }; edge = self.new.edge } }
+        ensures len { len_of result ≡ 0 }
+        ensures tells { IfSome result.ack (λ ack. Tells self.old.edge self.new.edge self.old.connection.receiving incoming ack result.window) }
+        ensures keeps { HasRoom self.old.edge self.old.connection.receiving incoming → HasRoom self.new.edge self.old.connection.receiving incoming }
+    {
+        let segment = Segment {
+            number,
+            ack: None,
+            window: 0,
+            syn: false,
+            rst: false,
+            fin: false,
+            payload: &outgoing[..0],
+        };
+        self.advertise(segment, incoming)
+    }
+
+    // The segment with an acknowledgement of all that came, and the window.
+    pub(crate) fn advertise<'a>(&mut self, segment: Segment<'a>, incoming: usize) -> Segment<'a>
+        requires { InFits self.old.connection.receiving incoming }
+        ensures same { self.new ≡ record self.old { timers = record self.old.timers { ack_at = None }; edge = self.new.edge } }
+        ensures number { result.number ≡ segment.entry.number }
+        ensures len { len_of result ≡ len_of segment.entry }
+        ensures tells { IfSome result.ack (λ ack. Tells self.old.edge self.new.edge self.old.connection.receiving incoming ack result.window) }
+        ensures keeps { HasRoom self.old.edge self.old.connection.receiving incoming → HasRoom self.new.edge self.old.connection.receiving incoming }
+    {
+        self.timers.ack_at = None;
+        let ack = self.connection.acknowledgement().ack;
+        let window = match ack {
+            Some(next) => self.tell(next, incoming),
+            None => 0,
+        };
+        Segment {
+            number: segment.number,
+            ack,
+            window,
+            syn: segment.syn,
+            rst: segment.rst,
+            fin: segment.fin,
+            payload: segment.payload,
+        }
+    }
+
+    // The window to advertise from RCV.NXT on.
+    fn tell(&mut self, next: u32, incoming: usize) -> u32
+        requires next { next ≡ self.old.connection.receiving.next }
+        requires rings { InFits self.old.connection.receiving incoming }
+        ensures same { self.new ≡ record self.old { edge = self.new.edge } }
+        ensures tells { Tells self.old.edge self.new.edge self.old.connection.receiving incoming next result }
+    {
+        let least = least_growth(incoming, self.options.most());
+        let window = advertised(self.edge, next, self.connection.room(incoming), least);
+        self.edge = moved(self.edge, next.wrapping_add(window));
+        window
+    }
+}
