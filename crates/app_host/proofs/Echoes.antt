@@ -1,5 +1,5 @@
 -- The echo of a parsed frame.
-use Rattle.std.proofs.Common.{ℕ, ◌≡◌, ◌∙◌, ◌<◌, ◌≤◌, ◌+◌, List, Some, length, refl, sym, ap, subst}
+use Rattle.std.proofs.Common.{ℕ, ◌≡◌, ◌∙◌, ◌<◌, ◌≤◌, ◌+◌, List, None, Some, arith, length, refl, sym, ap, subst}
 use Rattle.std.specs.Borrow.{Bor}
 use Rattle.ip_wire.specs.Frame as frame
 use Rattle.ip_wire.specs.Frame.{type_of}
@@ -74,3 +74,19 @@ echoed ours port request f v u payload carries to_port from_user from_above for_
         ),
       ),
     )
+
+-- the reply to a packet that was parsed can be emitted
+pub sound : (ours : Interface) (link : EthernetRepr) (v : IpRepr) (u : UdpRepr) (payload : Bor (List ℕ)) → 1024 ≤ u.src_port → Fits (record { header = link; carried = carried.Packet v (transport.Udp u payload) })
+    → Agrees (echo_of ours link v u payload) × Fits (echo_of ours link v u payload)
+sound ours link (Ipv4 v) u payload user fits = ((refl, (refl, λ z. absurd (omega (arith, user, z)))), fits)
+sound ours link (Ipv6 v) u payload user fits = ((refl, (refl, λ z. absurd (omega (arith, user, z)))), fits)
+
+-- a packet that is not for us, or does not ask for one, gets none
+pub unasked : (ours : Interface) (port : ℕ) (link : EthernetRepr) (v : IpRepr) (u : UdpRepr) (payload : Bor (List ℕ))
+    → (IsForUs ours link v → ¬ ((u.dst_port ≡ port) × (1024 ≤ u.src_port) × (port < u.src_port)))
+    → Gives (EchoesFrame ours port (record { header = link; carried = carried.Packet v (transport.Udp u payload) })) None
+unasked ours port link v u payload none header c (asked, is, e) =
+    let asks = e.asks in
+    let ip : e.ip ≡ v = cc in
+    let udp : e.udp ≡ u = cc in
+    none (subst (IsForUs ours link) ip e.for_us) (subst (λ (x : UdpRepr). (x.dst_port ≡ port) × (1024 ≤ x.src_port) × (port < x.src_port)) udp (e.to_port, e.from_user, e.from_above))

@@ -1,5 +1,5 @@
 -- The reply to a TCP segment in a frame.
-use Rattle.std.proofs.Common.{ℕ, ◌≡◌, ◌≢◌, ◌∙◌, ◌≤◌, ◌+◌, inl, inr, [], List, Bool, true, false, Option, Some, None, length, min, refl, sym, ap, subst, arith}
+use Rattle.std.proofs.Common.{ℕ, ◌≡◌, ◌≢◌, ◌∙◌, ◌≤◌, ◌<◌, ◌+◌, ◌-◌, ◌^◌, inl, inr, [], List, Bool, true, false, Option, Some, None, length, min, refl, sym, ap, subst, arith}
 use Rattle.std.specs.Prelude.{is_none, is_some, ◌||◌, if◌then◌else◌}
 use Rattle.std.specs.Option.{option_map}
 use Rattle.ip_wire.specs.Frame as frame
@@ -171,3 +171,8 @@ pub sent : (ours : Interface) (ports : List ℕ) (offer : Offer) (request : Fram
 sent ours ports offer request v t r src dst replies none =
     let known = plain ports offer (header_of t) (length t.payload.now) (header_of r) replies in
     agreed ours request.header v r (λ z. dst (sym known.src_port ∙ z)) (λ z. src (sym known.dst_port ∙ z)) known.short none
+
+-- a segment in a packet is short
+pub short : (link : EthernetRepr) (v : IpRepr) (t : TcpRepr) → Fits (record { header = link; carried = carried.Packet v (transport.Tcp t) }) → length t.payload.now < 2 ^ 31 - 1
+short link (Ipv4 v) t fits = omega (arith, fits.0)
+short link (Ipv6 v) t fits = omega (arith, fits.0)

@@ -1,20 +1,19 @@
 //! The replies of a host. Each kind has its function in `app_host`.
 
 ghost use Rattle.std.specs.Prelude.{◌≡◌, ◌↔◌, ◌<◌, ◌≤◌, IfSome, IsTrue, None, drop, length};
-ghost use Rattle.app_host.specs.Host.{Answers, IsServed, IsUnread, RepliesBytes, UnreachableFrame};
+ghost use Rattle.app_host.specs.Host.{Answers, IsServed, IsUnread, RepliesBytes};
 ghost use Rattle.app_host.specs.IcmpEcho.{KeepsDscp, reply_dscp};
-ghost use Rattle.app_host.specs.Kinds.{Tries, TriesReply};
+ghost use Rattle.app_host.specs.Kinds.{TriesReply};
 ghost use Rattle.app_host.specs.Message.{dscp_of};
 ghost use Rattle.ip_wire.specs.Ip.{version_of};
-ghost use Rattle.ip_wire.specs.Reply.{Sends, unmarked};
+ghost use Rattle.ip_wire.specs.Reply.{Sends};
 ghost use Rattle.ip_wire.specs.Types.{IpRepr};
 ghost use Rattle.ip_wire.specs.declared.Carried.TheVariants.{Packet};
 ghost use Rattle.ip_wire.specs.declared.Transport.{Transport as Inner};
 
 use crate::tcp_reply::Offer;
-use crate::{Interface, icmp_error, kinds};
-use ip_wire::{Carried, ETHERNET_HEADER_LEN, Frame, IpVersion, Ipv4Packet, Ipv6Packet, Transport};
-use wire_icmp::{IcmpRepr, Unreachable};
+use crate::{Interface, kinds};
+use ip_wire::{Carried, ETHERNET_HEADER_LEN, Frame, IpVersion, Ipv4Packet, Ipv6Packet};
 
 /// A host with one interface, and no connections.
 #[derive(Debug, Clone, Copy, PartialEq, Eq)]
@@ -73,41 +72,10 @@ pub(crate) fn dscp_in(request: &Frame<'_>, frame: &[u8]) -> u8
     }
 }
 
-// Writes the error about a UDP packet for a port that the host does not serve. `Some(None)` if it does not fit, and
-// `None` if there is none.
-#[inline(always)]
-pub(crate) fn try_port_unreachable(
-    host: &Host<'_>,
-    request: &Frame<'_>,
-    frame: &[u8],
-    out: &mut [u8],
-) -> Option<Option<usize>>
-    ensures { Tries unmarked (UnreachableFrame host.now frame.now request.now) out.old out.new result }
-{
-    match &request.carried {
-        Carried::Packet(header, inner) => match inner {
-            Transport::Udp(ports, _) => {
-                if !host.interface.accepts(&request.header, header) {
-                    return None;
-                }
-                if host.serves(ports.dst_port) {
-                    return None;
-                }
-                let message = IcmpRepr::DstUnreachable {
-                    reason: Unreachable::Port,
-                };
-                icmp_error::try_error(frame, &host.interface, message, out)
-            }
-            _ => None,
-        },
-        _ => None,
-    }
-}
-
 impl Host<'_> {
     // Whether a packet for this UDP port gets no error.
     #[inline(always)]
-    fn serves(&self, port: u16) -> bool
+    pub(crate) fn serves(&self, port: u16) -> bool
         ensures { IsTrue result ↔ IsServed self.now port }
     {
         port == self.echo_port || self.open_udp_ports.contains(&port)

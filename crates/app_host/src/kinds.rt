@@ -5,19 +5,21 @@ ghost use Rattle.std.specs.Prelude.{◌≡◌, List, drop, ℕ};
 ghost use Rattle.app_host.specs.Kinds.{TriesReply};
 ghost use Rattle.ip_wire.specs.Ethernet as ethernet;
 ghost use Rattle.ip_wire.specs.Frame.{ReadsPacket, all_checked, packet_payload, type_of};
-ghost use Rattle.ip_wire.specs.FrameValue.{Finds, Fits};
+ghost use Rattle.ip_wire.specs.FrameValue.{Finds};
 ghost use Rattle.ip_wire.specs.Reply.{IsSendable, IsSent};
 ghost use Rattle.ip_wire.specs.declared.Carried.TheVariants as carried;
 ghost use Rattle.ip_wire.specs.declared.EthernetProtocol.TheVariants as ethertype;
 ghost use Rattle.ip_wire.specs.declared.Transport.TheVariants as transport;
 
-use crate::host::{Host, dscp_in, try_port_unreachable};
-use crate::{arp, icmp_echo, neighbour, parameter_problem, tcp_answer, udp_echo};
+use crate::host::{Host, dscp_in};
+use crate::tcp_reply::reply_to;
+use crate::{arp, icmp_echo, icmp_error, neighbour, parameter_problem, tcp_answer, udp_echo};
 use ip_wire::{
     ArpPacket, ArpRepr, Carried, ChecksumCapabilities, EthernetFrame, EthernetProtocol,
     EthernetRepr, Frame, IpProtocol, IpRepr, Ipv4Packet, Ipv4Repr, Ipv6Packet, Ipv6Repr, TcpPacket,
     TcpRepr, Transport, UdpPacket, UdpRepr, laws,
 };
+use wire_icmp::{IcmpRepr, Unreachable};
 
 /// Writes the reply of the host to a frame. `Some(None)` if it does not fit, `None` if there is no reply.
 #[inline(always)]
@@ -146,7 +148,7 @@ fn answer_packet(
         IpProtocol::Tcp => {
             let packet = TcpPacket::new_unchecked(payload);
             match TcpRepr::parse(&packet, &src_addr, &dst_addr, &caps) {
-                Ok(segment) => answer_tcp(host, link, header, segment, out),
+                Ok(segment) => answer_tcp(host, link, header, segment, frame, out),
                 Err(_) => None,
             }
         }
@@ -154,7 +156,8 @@ fn answer_packet(
     }
 }
 
-// The reply to a UDP packet for the echo port, or the error about one for a closed port.
+// The reply to a UDP packet for the echo port, or the error about one for a closed port. Each version has code of its own:
+// a header that may be of either takes longer.
 #[inline(never)]
 fn answer_udp(
     host: &Host<'_>,
@@ -168,14 +171,47 @@ fn answer_udp(
     requires { Finds all_checked frame.now (record { header = link; carried = carried.Packet header (transport.Udp ports payload) }) }
     ensures { TriesReply host.now frame.now out.old out.new result }
 {
-    let request = Frame {
-        header: link,
-        carried: Carried::Packet(header, Transport::Udp(ports, payload)),
-    };
-    if let Some(echo) = udp_echo::echo(&request, &host.interface, host.echo_port) {
+    match header {
+        IpRepr::Ipv4(value) => {
+            let header = IpRepr::Ipv4(value);
+            answer_udp_in::<false>(host, link, header, ports, payload, frame, out)
+        }
+        IpRepr::Ipv6(value) => {
+            let header = IpRepr::Ipv6(value);
+            answer_udp_in::<true>(host, link, header, ports, payload, frame, out)
+        }
+    }
+}
+
+// The same, in a packet of one version.
+#[inline(always)]
+fn answer_udp_in<const V6: bool>(
+    host: &Host<'_>,
+    link: EthernetRepr,
+    header: IpRepr,
+    ports: UdpRepr,
+    payload: &[u8],
+    frame: &[u8],
+    out: &mut [u8],
+) -> Option<Option<usize>>
+    requires { Finds all_checked frame.now (record { header = link; carried = carried.Packet header (transport.Udp ports payload) }) }
+    ensures { TriesReply host.now frame.now out.old out.new result }
+{
+    let is_for_us = host.interface.accepts(&link, &header);
+    if !is_for_us {
+        return None;
+    }
+    if udp_echo::is_asked(&ports, host.echo_port) {
+        let echo = udp_echo::echo_of(&host.interface, &link, &header, &ports, payload);
         return Some(send_inlined(&echo, out));
     }
-    try_port_unreachable(host, &request, frame, out)
+    if host.serves(ports.dst_port) {
+        return None;
+    }
+    let message = IcmpRepr::DstUnreachable {
+        reason: Unreachable::Port,
+    };
+    icmp_error::try_error(frame, &host.interface, message, out)
 }
 
 // The reply to a TCP segment.
@@ -185,17 +221,45 @@ fn answer_tcp(
     link: EthernetRepr,
     header: IpRepr,
     segment: TcpRepr<'_>,
+    frame: &[u8],
     out: &mut [u8],
 ) -> Option<Option<usize>>
-    requires { Fits (record { header = link; carried = carried.Packet header (transport.Tcp segment) }) }
-    ensures { (bytes : List ℕ) → Finds all_checked bytes (record { header = link; carried = carried.Packet header (transport.Tcp segment.entry) }) → TriesReply host.now bytes out.old out.new result }
+    requires { Finds all_checked frame.now (record { header = link; carried = carried.Packet header (transport.Tcp segment) }) }
+    ensures { TriesReply host.now frame.now out.old out.new result }
 {
-    let request = Frame {
-        header: link,
-        carried: Carried::Packet(header, Transport::Tcp(segment)),
-    };
-    match tcp_answer::reply(&request, &host.interface, host.open_ports, &host.offer) {
-        Some(reply) => Some(send_inlined(&reply, out)),
+    match header {
+        IpRepr::Ipv4(value) => {
+            let header = IpRepr::Ipv4(value);
+            answer_tcp_in::<false>(host, link, header, segment, frame, out)
+        }
+        IpRepr::Ipv6(value) => {
+            let header = IpRepr::Ipv6(value);
+            answer_tcp_in::<true>(host, link, header, segment, frame, out)
+        }
+    }
+}
+
+// The same, in a packet of one version.
+#[inline(always)]
+fn answer_tcp_in<const V6: bool>(
+    host: &Host<'_>,
+    link: EthernetRepr,
+    header: IpRepr,
+    segment: TcpRepr<'_>,
+    frame: &[u8],
+    out: &mut [u8],
+) -> Option<Option<usize>>
+    requires { Finds all_checked frame.now (record { header = link; carried = carried.Packet header (transport.Tcp segment) }) }
+    ensures { TriesReply host.now frame.now out.old out.new result }
+{
+    if !host.interface.accepts(&link, &header) {
+        return None;
+    }
+    match reply_to(&segment, host.open_ports, &host.offer) {
+        Some(reply) => {
+            let reply = tcp_answer::frame_of(&host.interface, &link, &header, &reply);
+            Some(send_inlined(&reply, out))
+        }
         None => None,
     }
 }

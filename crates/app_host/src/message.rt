@@ -227,7 +227,11 @@ fn message_composes(header: EthernetRepr, ip: IpRepr)
 
 // The header of a frame between two hosts with a packet of this header.
 #[inline(always)]
-fn header_before(src_addr: EthernetAddress, dst_addr: EthernetAddress, ip: &IpRepr) -> EthernetRepr
+pub(crate) fn header_before(
+    src_addr: EthernetAddress,
+    dst_addr: EthernetAddress,
+    ip: &IpRepr,
+) -> EthernetRepr
     ensures { result ≡ record { src_addr = src_addr; dst_addr = dst_addr; ethertype = type_of ip.now } }
 {
     EthernetRepr {

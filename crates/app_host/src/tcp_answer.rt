@@ -1,12 +1,20 @@
 //! The replies of TCP to a segment without a connection, as frames.
 
+ghost use Rattle.std.specs.Prelude.{◌≡◌, ◌+◌, ◌<◌, ◌^◌, length};
+ghost use Rattle.ip_wire.specs.FrameValue.{Fits, frame_around};
 ghost use Rattle.ip_wire.specs.Reply.{Gives, Sends, unmarked};
+ghost use Rattle.ip_wire.specs.TcpRepr.{header_len_of, header_of};
+ghost use Rattle.ip_wire.specs.declared.Transport.TheVariants as transport;
+ghost use Rattle.app_host.specs.Interface.{header_back};
 ghost use Rattle.app_host.specs.TcpReply.{TcpRepliesBytes, TcpRepliesFrame};
-ghost use Rattle.ip_wire.specs.FrameValue.{Fits};
 
 use crate::interface::{Interface, header_back};
+use crate::message::header_before;
 use crate::tcp_reply::{Offer, reply_to};
-use ip_wire::{Carried, ChecksumCapabilities, Frame, Transport, send_reply};
+use ip_wire::{
+    Carried, ChecksumCapabilities, EthernetRepr, Frame, IpProtocol, IpRepr, TcpRepr, Transport,
+    send_reply,
+};
 
 /// The reply to a TCP segment for this interface, if these ports are open: SYN and ACK, or RST. `None`
 /// for any other frame, and if `reply_to` returns `None`.
@@ -40,6 +48,25 @@ pub fn reply<'a>(
             _ => None,
         },
         _ => None,
+    }
+}
+
+// The frame of a reply to a packet with these headers. No `Option` or `Result` is around it, since those are copied field
+// by field.
+#[inline(always)]
+pub(crate) fn frame_of<'a>(
+    ours: &Interface,
+    link: &EthernetRepr,
+    header: &IpRepr,
+    reply: &TcpRepr<'a>,
+) -> Frame<'a>
+    requires { header_len_of (header_of reply.now) + length reply.now.payload.now < 2 ^ 64 }
+    ensures { result ≡ frame_around ours.now.hardware_addr link.now.src_addr (header_back header.now) (transport.Tcp reply.now) }
+{
+    let (ip, len) = (header_back(header), reply.buffer_len());
+    Frame {
+        header: header_before(ours.hardware_addr, link.src_addr, &ip),
+        carried: Carried::Packet(ip.before(IpProtocol::Tcp, len), Transport::Tcp(*reply)),
     }
 }
 

@@ -1,9 +1,7 @@
 use Rattle.std.proofs.Common.{◌≡◌, ◌≢◌, ◌∙◌, None, drop, refl, rules, sym, true}
 use Rattle.app_host.proofs.KindReplies.{unread}
 use Rattle.ip_wire.proofs.Found.{unread-transport}
-use Rattle.ip_wire.proofs.Rewritten.{fits-frame}
 use Rattle.ip_wire.specs.Frame.{all_checked, packet_payload, transport_by}
-use Rattle.ip_wire.specs.FrameValue.{Finds}
 use Rattle.ip_wire.specs.Ip.{dst_addr_of, next_header_of, src_addr_of}
 use Rattle.ip_wire.specs.TcpRepr.{tcp_of}
 use Rattle.ip_wire.specs.Udp as udp
@@ -37,19 +35,7 @@ pub answer_tcp-requires : goal.answer_tcp-requires
 answer_tcp-requires c =
     let caps : c.default-caps.result ≡ all_checked = search rules in
     let read = rw (c.new_unchecked-packet-in-Tcp.ensures, c.src_addr-src_addr.ensures, c.dst_addr-dst_addr.ensures, caps, c.requires.payload) at c.in-Ok-parse.ensures.ok in
-    let found : Finds all_checked c.args.frame.now (record { header = c.args.link; carried = carried.Packet c.args.header (transport.Tcp c.in-Ok-parse.segment) }) =
     record { header = c.requires.link; carried = (c.requires.ethertype, c.requires.header, (sym c.next_header.ensures ∙ c.in-Tcp.is, read)) }
-    in
-    (fits-frame _ _ _ found).0
-
-pub returns-in-Ok-parse : goal.returns-in-Ok-parse
-returns-in-Ok-parse c =
-    let caps : c.default-caps.result ≡ all_checked = search rules in
-    let read = rw (c.new_unchecked-packet-in-Tcp.ensures, c.src_addr-src_addr.ensures, c.dst_addr-dst_addr.ensures, caps, c.requires.payload) at c.in-Ok-parse.ensures.ok in
-    let found : Finds all_checked c.args.frame.now (record { header = c.args.link; carried = carried.Packet c.args.header (transport.Tcp c.in-Ok-parse.segment) }) =
-    record { header = c.requires.link; carried = (c.requires.ethertype, c.requires.header, (sym c.next_header.ensures ∙ c.in-Tcp.is, read)) }
-    in
-    c.answer_tcp.ensures c.args.frame.now found
 
 pub returns-in-Err-parse : goal.returns-in-Err-parse
 returns-in-Err-parse c =
