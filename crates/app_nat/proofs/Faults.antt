@@ -1,22 +1,21 @@
 -- Why a frame is rejected.
 use Rattle.std.proofs.Common.{ℕ, ◌≡◌, ◌≢◌, ◌∙◌, not, is_some, if◌then◌else◌, Bool, true, false, List, Option, Some, None, Result, Ok, Err, drop, refl, sym, ap, arith}
 use Rattle.std.proofs.lemmas.Bool.Decides.{nat_tests}
-use Rattle.std.specs.Borrow.{Bor}
 use Rattle.std.specs.Option.{option_map, option_map_or, option_or}
 use Rattle.std.specs.Result.{result_ok}
 use Rattle.ip_wire.proofs.EthernetComputed.{ethernet_of-Reads}
-use Rattle.ip_wire.proofs.FrameOf.{transport-only, transport-read}
+use Rattle.ip_wire.proofs.FrameOf.{transport-read}
 use Rattle.ip_wire.proofs.HeaderFaults.{reads-no_fault}
 use Rattle.ip_wire.proofs.Ipv4Computed.{Reads-is}
-use Rattle.ip_wire.proofs.Options.{none_of}
 use Rattle.ip_wire.specs.Ethernet.{ethernet_of}
 use Rattle.ip_wire.specs.Frame as whole
-use Rattle.ip_wire.specs.Frame.{ReadsPacket, ReadsTransport, all_checked, ipv4_payload, transport_by}
+use Rattle.ip_wire.specs.Frame.{ReadsPacket, all_checked, ipv4_payload, transport_by}
 use Rattle.ip_wire.specs.Field.{field}
-use Rattle.ip_wire.specs.FrameValue.{ParsesTransport}
 use Rattle.ip_wire.specs.HeaderFault.{ipv4_fault}
 use Rattle.ip_wire.specs.Ipv4 as ipv4
+use Rattle.ip_wire.specs.TcpRepr.{header_of, tcp_of}
 use Rattle.ip_wire.specs.Types.{Error, EthernetProtocol, EthernetRepr, IpProtocol, Ipv4, Ipv4Repr, UdpRepr}
+use Rattle.ip_wire.specs.Udp.{udp_of}
 use Rattle.ip_wire.specs.WordSum.{sum_of_bytes}
 use Rattle.ip_wire.specs.declared.EthernetProtocol.TheVariants as ethertype
 use Rattle.ip_wire.specs.declared.HeaderFault.{HeaderFault}
@@ -24,8 +23,6 @@ use Rattle.ip_wire.specs.declared.HeaderFault.TheVariants as header
 use Rattle.ip_wire.specs.declared.IpAddress.TheVariants as address
 use Rattle.ip_wire.specs.declared.IpProtocol.TheVariants as protocol
 use Rattle.ip_wire.specs.declared.TcpRepr.{TcpRepr}
-use Rattle.ip_wire.specs.declared.frame.transport.Transport.{Transport as Value}
-use Rattle.ip_wire.specs.declared.frame.transport.Transport.TheVariants as parsed
 use Rattle.wire_icmp.specs.Icmp as icmp
 use Rattle.wire_icmp.specs.declared.icmp.repr.IcmpRepr.{IcmpRepr}
 use Rattle.wire_icmp.specs.declared.icmp.repr.IcmpRepr.TheVariants.{EchoRequest, EchoReply}
@@ -85,21 +82,26 @@ by-ports v bytes = by v.next_header
     by protocol.Icmp no_icmp = absurd (no_icmp refl)
     by _ no_icmp = refl
 
--- a value that was parsed as neither UDP nor TCP
-pub neither : (v : Ipv4Repr) (bytes : List ℕ) (t : Value) → v.next_header ≢ protocol.Icmp → ParsesTransport all_checked (Ipv4 v) bytes t
-    → ((u : UdpRepr) (payload : Bor (List ℕ)) → t ≢ parsed.Udp u payload) → ((u : TcpRepr) → t ≢ parsed.Tcp u) → transport_fault v bytes ≡ Some OtherProtocol
-neither v bytes (parsed.Udp u payload) no_icmp (read, is, r) no_udp no_tcp = absurd (no_udp u payload refl)
-neither v bytes (parsed.Tcp u) no_icmp (read, is, r) no_udp no_tcp = absurd (no_tcp u refl)
-neither v bytes (parsed.Other payload) no_icmp (read, is, r) no_udp no_tcp =
-    by-ports v bytes no_icmp
-    ∙ ap ports_fault (transport-read all_checked v.next_header (address.Ipv4 v.src_addr) (address.Ipv4 v.dst_addr) bytes read r ∙ sym is)
-neither v bytes (parsed.Unread payload) no_icmp (read, is, r) no_udp no_tcp = absurd (cc)
+-- UDP and TCP headers that do not parse
+pub bad-udp : (v : Ipv4Repr) (bytes : List ℕ) (answer : Result UdpRepr Error) (error : Error) → v.next_header ≡ protocol.Udp
+    → udp_of (address.Ipv4 v.src_addr) (address.Ipv4 v.dst_addr) true bytes ≡ result_ok answer → answer ≡ Err error → transport_fault v bytes ≡ Some BadTransport
+bad-udp v bytes answer error named found is = ap (λ p. transport_fault_by p v bytes) named ∙ (rw (found, is) refl)
 
-pub bad-ports : (v : Ipv4Repr) (bytes : List ℕ) → v.next_header ≢ protocol.Icmp → ((t : whole.Transport) → ¬ ReadsTransport all_checked (Ipv4 v) bytes t)
+pub bad-tcp : (v : Ipv4Repr) (bytes : List ℕ) (answer : Result TcpRepr Error) (error : Error) → v.next_header ≡ protocol.Tcp
+    → tcp_of (address.Ipv4 v.src_addr) (address.Ipv4 v.dst_addr) true bytes ≡ option_map header_of (result_ok answer) → answer ≡ Err error
     → transport_fault v bytes ≡ Some BadTransport
-bad-ports v bytes no_icmp none =
-    by-ports v bytes no_icmp
-    ∙ ap ports_fault (none_of _ (λ t e. none t (transport-only all_checked v.next_header (address.Ipv4 v.src_addr) (address.Ipv4 v.dst_addr) bytes t e)))
+bad-tcp v bytes answer error named found is = ap (λ p. transport_fault_by p v bytes) named ∙ (rw (found, is) refl)
+
+-- a packet of another protocol
+pub other-protocol : (v : Ipv4Repr) (bytes : List ℕ) (p : IpProtocol) → v.next_header ≡ p → p ≢ protocol.Udp → p ≢ protocol.Tcp → p ≢ protocol.Icmp
+    → transport_fault v bytes ≡ Some OtherProtocol
+other-protocol v bytes p named no_udp no_tcp no_icmp = ap (λ q. transport_fault_by q v bytes) named ∙ by p no_udp no_tcp no_icmp
+  where
+    by : (q : IpProtocol) → q ≢ protocol.Udp → q ≢ protocol.Tcp → q ≢ protocol.Icmp → transport_fault_by q v bytes ≡ Some OtherProtocol
+    by protocol.Udp udp tcp icmp = absurd (udp refl)
+    by protocol.Tcp udp tcp icmp = absurd (tcp refl)
+    by protocol.Icmp udp tcp icmp = absurd (icmp refl)
+    by _ udp tcp icmp = refl
 
 -- the fault of an ICMP message
 by-echo : (v : Ipv4Repr) (bytes : List ℕ) → v.next_header ≡ protocol.Icmp → transport_fault v bytes ≡ echo_fault bytes

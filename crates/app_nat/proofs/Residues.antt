@@ -1,5 +1,5 @@
 -- A checksum that is updated and then updated back.
-use Rattle.std.proofs.Common.{ℕ, ◌≡◌, ◌+◌, ◌-◌, ◌*◌, ◌<◌, ◌≤◌, ◌==◌, ◌≢◌, ◌⊎◌, inl, inr, true, false, List, ap, sum, sym, ◌∙◌, refl, arith}
+use Rattle.std.proofs.Common.{ℕ, ◌≡◌, ◌+◌, ◌-◌, ◌*◌, ◌/◌, ◌%◌, ◌<◌, ◌≤◌, ◌==◌, ◌≢◌, ◌⊎◌, inl, inr, true, false, List, ap, sum, sym, ◌∙◌, refl, arith}
 use Rattle.std.proofs.lemmas.Bool.{cases_lt}
 use Rattle.std.proofs.lemmas.Bool.Decides.{nat_tests}
 use Rattle.ip_wire.proofs.Residues.{residue-add, residue-bound, residue-quotient, residue-same, residue-small, residue-zero}
@@ -35,15 +35,19 @@ below-full c old new h =
     let least = residue-least ((65535 - c) + (65535 - old) + new) (omega (arith, h)) in
     omega (arith, least)
 
+-- a number has the residue of the sum of its words
+pub folded : (n r : ℕ) → r ≡ residue (n / 65536 + (n % 65536 + 0)) → r ≡ residue n
+folded n r is = is ∙ residue-same (n / 65536 + (n % 65536 + 0)) n (n / 65536) 0 (omega arith) (λ z. omega (arith, z)) (λ z. omega (arith, z))
+
 -- two updates are one update by the sum of both changes
-pub updated_twice : (c old new p q r : ℕ) → c ≤ 65535 → r ≡ residue (65535 - c + (65535 - old + (new + (65535 - p + (q + 0)))))
+pub updated_twice : (c old new p q r : ℕ) → c ≤ 65535 → r ≡ residue (65535 - c + (65535 - old) + new + (65535 - p) + q)
     → 65535 - r ≡ updated (updated c old new) p q
 updated_twice c old new p q r h is =
     let t = (65535 - c) + (65535 - old) + new in
     let once : 65535 - (65535 - residue t) ≡ residue t = omega (arith, residue-bound t) in
     let one : residue (residue t + ((65535 - p) + q)) ≡ residue (t + ((65535 - p) + q)) =
     residue-add (residue t) t ((65535 - p) + q) ((65535 - p) + q) (residue-small (residue t) (residue-bound t)) refl in
-    let first : residue (65535 - c + (65535 - old + (new + (65535 - p + (q + 0))))) ≡ residue (t + ((65535 - p) + q)) = ap residue (omega arith) in
+    let first : residue (65535 - c + (65535 - old) + new + (65535 - p) + q) ≡ residue (t + ((65535 - p) + q)) = ap residue (omega arith) in
     let second : residue (65535 - (65535 - residue t) + (65535 - p) + q) ≡ residue (residue t + ((65535 - p) + q)) = ap residue (omega (arith, once)) in
     ap (λ (n : ℕ). 65535 - n) (is ∙ first ∙ sym one ∙ sym second)
 

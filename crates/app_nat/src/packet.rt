@@ -1,11 +1,12 @@
 //! The packet in a frame over IPv4, as a NAT needs it.
 
-ghost use Rattle.std.specs.Prelude.{◌≡◌, ◌≢◌, ◌↔◌, IfErr, IfOk, IsTrue, OnOk, Some};
+ghost use Rattle.std.specs.Prelude.{◌≡◌, ◌↔◌, ◌≤◌, IfErr, IfOk, IsTrue, OnOk, Some, length};
 ghost use Rattle.app_nat.specs.Nat as nat;
 ghost use Rattle.app_nat.specs.Nat.{AllowsPort, CarriesWhole, Describes, IsPacket, IsRejected, ReadsPorts, echo_kind, transport_fault, whole_fault, whole_fault_by};
 ghost use Rattle.app_nat.specs.Flows.{IsAnswerable, IsUnanswerable, destination_of, event_of, source_of};
 ghost use Rattle.ip_wire.specs.Field.{field};
 ghost use Rattle.ip_wire.specs.Frame.{ReadsPacket, all_checked, ipv4_payload};
+ghost use Rattle.ip_wire.specs.Protocol.{protocol_of};
 ghost use Rattle.ip_wire.specs.Types.{Ipv4};
 
 use crate::translation::Rejection;
@@ -14,9 +15,13 @@ use app_edit::Side;
 use ip_wire::laws::field::bytes_fit;
 use ip_wire::{
     ChecksumCapabilities, ETHERNET_HEADER_LEN, EthernetFrame, EthernetProtocol, EthernetRepr,
-    IpAddress, IpProtocol, IpRepr, Ipv4Packet, Ipv4Repr, TcpControl, Transport, parse_ipv4,
+    IpAddress, IpProtocol, Ipv4Packet, Ipv4Repr, TcpControl, TcpPacket, TcpRepr, UdpPacket,
+    UdpRepr, parse_ipv4,
 };
 use wire_icmp::IcmpPacket;
+
+// Where an IPv4 header has the number of the protocol.
+const PROTOCOL: usize = 9;
 
 /// What a packet carries, with the control flag of a TCP segment.
 #[derive(Debug, Clone, Copy, PartialEq, Eq)]
@@ -47,7 +52,10 @@ impl Packet {
         ensures rejected { IfErr result (IsRejected frame.now) }
     {
         match parse_whole(frame) {
-            Ok((header, payload)) => parse_transport(&header, payload),
+            Ok((header, payload)) => {
+                let number = protocol_number(&frame[ETHERNET_HEADER_LEN..]);
+                parse_transport(&header, number, payload)
+            }
             Err(reason) => Err(reason),
         }
     }
@@ -151,44 +159,72 @@ fn parse_unfragmented(bytes: &[u8]) -> Result<(Ipv4Repr, &[u8]), Rejection>
     }
 }
 
-// The packet with this IPv4 header and payload.
+// The number of the protocol in an IPv4 header. It is compared as it is: `next_header` of a parsed header was looked up
+// in a table.
 #[inline(always)]
-fn parse_transport(header: &Ipv4Repr, payload: &[u8]) -> Result<Packet, Rejection>
+pub(crate) fn protocol_number(packet: &[u8]) -> u8
+    requires { 20 ≤ length packet.now }
+    ensures { result ≡ field packet.now 72 8 }
+{
+    packet[PROTOCOL]
+}
+
+// The packet with this IPv4 header, protocol number and payload.
+#[inline(always)]
+fn parse_transport(header: &Ipv4Repr, number: u8, payload: &[u8]) -> Result<Packet, Rejection>
+    requires { header.now.next_header ≡ protocol_of number }
     ensures header { IfOk result (λ p. p.header ≡ header.now) }
     ensures packet { IfOk result (λ p. (transport : nat.Transport) × ReadsPorts header.now payload.now transport × Describes p transport) }
     ensures rejected { IfErr result (λ reason. transport_fault header.now payload.now ≡ Some reason) }
 {
-    match header.next_header {
+    match IpProtocol::from(number) {
+        IpProtocol::Udp => parse_udp(header, payload),
+        IpProtocol::Tcp => parse_tcp(header, payload),
         IpProtocol::Icmp => parse_echo(header, payload),
-        _ => parse_ports(header, payload),
+        _ => Err(Rejection::OtherProtocol),
     }
 }
 
-// The UDP packet or TCP segment.
+// The UDP packet.
 #[inline(always)]
-fn parse_ports(header: &Ipv4Repr, payload: &[u8]) -> Result<Packet, Rejection>
-    requires { header.now.next_header ≢ IpProtocol.Icmp }
+fn parse_udp(header: &Ipv4Repr, payload: &[u8]) -> Result<Packet, Rejection>
+    requires { header.now.next_header ≡ IpProtocol.Udp }
     ensures header { IfOk result (λ p. p.header ≡ header.now) }
     ensures packet { IfOk result (λ p. (transport : nat.Transport) × ReadsPorts header.now payload.now transport × Describes p transport) }
     ensures rejected { IfErr result (λ reason. transport_fault header.now payload.now ≡ Some reason) }
 {
-    let caps = ChecksumCapabilities::default();
-    match Transport::parse(&IpRepr::Ipv4(*header), payload, &caps) {
-        Ok(transport) => match transport {
-            Transport::Udp(ports, _) => Ok(Packet {
-                header: *header,
-                src_port: ports.src_port,
-                dst_port: ports.dst_port,
-                kind: Kind::Udp,
-            }),
-            Transport::Tcp(segment) => Ok(Packet {
-                header: *header,
-                src_port: segment.src_port,
-                dst_port: segment.dst_port,
-                kind: Kind::Tcp(segment.control),
-            }),
-            _ => Err(Rejection::OtherProtocol),
-        },
+    let src = IpAddress::Ipv4(header.src_addr);
+    let dst = IpAddress::Ipv4(header.dst_addr);
+    let packet = UdpPacket::new_unchecked(payload);
+    match UdpRepr::parse(&packet, &src, &dst, &ChecksumCapabilities::default()) {
+        Ok(ports) => Ok(Packet {
+            header: *header,
+            src_port: ports.src_port,
+            dst_port: ports.dst_port,
+            kind: Kind::Udp,
+        }),
+        Err(_) => Err(Rejection::BadTransport),
+    }
+}
+
+// The TCP segment.
+#[inline(always)]
+fn parse_tcp(header: &Ipv4Repr, payload: &[u8]) -> Result<Packet, Rejection>
+    requires { header.now.next_header ≡ IpProtocol.Tcp }
+    ensures header { IfOk result (λ p. p.header ≡ header.now) }
+    ensures packet { IfOk result (λ p. (transport : nat.Transport) × ReadsPorts header.now payload.now transport × Describes p transport) }
+    ensures rejected { IfErr result (λ reason. transport_fault header.now payload.now ≡ Some reason) }
+{
+    let src = IpAddress::Ipv4(header.src_addr);
+    let dst = IpAddress::Ipv4(header.dst_addr);
+    let packet = TcpPacket::new_unchecked(payload);
+    match TcpRepr::parse(&packet, &src, &dst, &ChecksumCapabilities::default()) {
+        Ok(segment) => Ok(Packet {
+            header: *header,
+            src_port: segment.src_port,
+            dst_port: segment.dst_port,
+            kind: Kind::Tcp(segment.control),
+        }),
         Err(_) => Err(Rejection::BadTransport),
     }
 }

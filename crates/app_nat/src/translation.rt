@@ -6,12 +6,13 @@ ghost use Rattle.app_nat.specs.Nat as nat;
 ghost use Rattle.app_nat.specs.Nat.{AllowsPort, CarriesPorts, IsPacket, IsTranslated, IsUntranslated, ReadsPorts, RejectsPort, Rewrites, Transport, addr_of, of_header, port_bit, translated_packet, with_addr, with_address, with_echo_ident, with_end, with_port, with_tcp_end, with_udp_end};
 ghost use Rattle.ip_wire.specs.Ipv4 as ipv4;
 ghost use Rattle.ip_wire.specs.Field.{field, with_field};
+ghost use Rattle.ip_wire.specs.Protocol.{protocol_of};
 ghost use Rattle.ip_wire.specs.TcpRepr.{TcpHeader};
 ghost use Rattle.ip_wire.specs.Types.{Ipv4Repr, UdpRepr};
 ghost use Rattle.ip_wire.specs.Udp.{checksum_for};
-ghost use Rattle.ip_wire.specs.WordSum.{sum_of_bytes, updated};
+ghost use Rattle.ip_wire.specs.WordSum.{residue, sum_of_bytes, updated};
 
-use crate::packet::Packet;
+use crate::packet::{Packet, protocol_number};
 use app_edit::{Layout, Side};
 use ip_wire::laws::field::bytes_fit;
 use ip_wire::{
@@ -115,9 +116,10 @@ fn rewrite_packet(header: Ipv4Repr, packet: &mut [u8], side: Side, addr: Ipv4Add
         → CarriesPorts packet.old header transport → CarriesPorts packet.new (with_addr side addr header) (with_port side port transport) }
     ensures bytes { packet.new ≡ translated_packet side addr port packet.old }
 {
+    let number = protocol_number(packet);
     let layout = Layout::of(IpVersion::Ipv4, packet);
     let payload = &mut packet[layout.start..layout.end];
-    rewrite_transport(header, payload, side, addr, port);
+    rewrite_transport(header, number, payload, side, addr, port);
     set_addr(packet, side, addr);
 }
 
@@ -149,13 +151,21 @@ pub(crate) fn set_addr(packet: &mut [u8], side: Side, addr: Ipv4Address)
 
 // Writes the address and the port into the payload of such a packet.
 #[inline(always)]
-fn rewrite_transport(header: Ipv4Repr, payload: &mut [u8], side: Side, addr: Ipv4Address, port: u16)
+fn rewrite_transport(
+    header: Ipv4Repr,
+    number: u8,
+    payload: &mut [u8],
+    side: Side,
+    addr: Ipv4Address,
+    port: u16,
+)
+    requires named { header.next_header ≡ protocol_of number }
     requires reads { (transport : Transport) × ReadsPorts header payload.old transport }
     ensures reads { (transport : Transport) → Rewrites header payload.old payload.new side addr port transport }
     ensures bytes { payload.new ≡ with_end header.next_header side (addr_of side header) addr port payload.old }
 {
     let old = addr_of(side, &header);
-    match header.next_header {
+    match IpProtocol::from(number) {
         IpProtocol::Udp => rewrite_udp(payload, side, old, addr, port),
         IpProtocol::Tcp => rewrite_tcp(payload, side, old, addr, port),
         IpProtocol::Icmp => rewrite_echo(header, payload, side, addr, port),
@@ -263,7 +273,16 @@ fn updated_checksum(
 {
     let old_sum = checksum::address(&IpAddress::Ipv4(old));
     let new_sum = checksum::address(&IpAddress::Ipv4(new));
-    !checksum::combine(&[!checksum, !old_sum, new_sum, !old_port, new_port])
+    let sums = u32::from(!checksum) + u32::from(!old_sum) + u32::from(new_sum);
+    !fold(sums + u32::from(!old_port) + u32::from(new_port))
+}
+
+// The one's complement sum of the two words of a number.
+#[inline(always)]
+fn fold(number: u32) -> u16
+    ensures { result ≡ residue number }
+{
+    checksum::combine(&[(number >> 16) as u16, (number % (1 << 16)) as u16])
 }
 
 #[inline(always)]

@@ -1,19 +1,24 @@
 -- The bytes of a forwarded frame, and the reason for a rejection.
-use Rattle.std.proofs.Common.{ℕ, ◌≡◌, ◌≤◌, ◌<◌, ◌-◌, ◌++◌, if◌then◌else◌, nat_lt, Bool, true, List, Result, Ok, Err, Some, None, length, drop, take, slice_range, refl, sym, ap, subst, ◌∙◌, arith}
+use Rattle.std.proofs.Common.{ℕ, ◌≡◌, ◌≤◌, ◌<◌, ◌-◌, ◌*◌, ◌++◌, if◌then◌else◌, nat_lt, false, true, List, Result, Ok, Err, Some, None, length, drop, take, slice_range, refl, sym, ap, subst, ◌∙◌, arith}
 use Rattle.std.proofs.lemmas.Bool.{le-ltb, lt-ltb}
 use Rattle.std.specs.Result.{result_ok}
 use Rattle.app_router.specs.Forward.{CarriesAs, IsForwarded, fault_of, one_hop_less, packet_fault, with_hop_limit}
 use Rattle.ip_wire.specs.Ethernet as ethernet
 use Rattle.ip_wire.specs.Ethernet.{ethernet_of}
-use Rattle.ip_wire.specs.Field.{field, with_range}
+use Rattle.ip_wire.specs.Field.{field, with_field, with_range}
 use Rattle.ip_wire.specs.Frame.{type_of}
 use Rattle.ip_wire.specs.Ip.{ReadsHeader, hop_limit_of}
 use Rattle.ip_wire.specs.Ipv4 as ipv4
+use Rattle.ip_wire.specs.Ipv4.{with_updated_checksum}
 use Rattle.ip_wire.specs.Types.{Error, EthernetAddress, EthernetProtocol, EthernetRepr, IpRepr, Ipv4, Ipv4Repr, Ipv6}
 use Rattle.ip_wire.specs.declared.HeaderFault.TheVariants.{NotIp, Expired}
 use Rattle.ip_wire.proofs.Cells.{cells-all, cells-drop}
 use Rattle.ip_wire.proofs.HeaderFaults.{reads-no_fault}
+use Rattle.ip_wire.proofs.Ipv4Changed.{reads-hop_limit, reads-summed}
+use Rattle.ip_wire.proofs.Ipv4Updated.{valid-hop_limit}
 use Rattle.ip_wire.proofs.Ipv6Computed.{ipv6_of-Reads}
+use Rattle.ip_wire.proofs.Spelled.{AreBytes}
+use Rattle.ip_wire.specs.WordSum.{residue, updated}
 
 hop-less : (h : IpRepr) → hop_limit_of (one_hop_less h) ≡ hop_limit_of h - 1
 hop-less (Ipv4 v) = refl
@@ -115,10 +120,29 @@ no-fault type bytes h c alive = by-hop type bytes h c ∙ ap (λ b. if b then No
 
 -- ---- the packet
 
--- an IPv4 header with one hop less parses
-pub hop-ipv4 : (old new after : List ℕ) (header : IpRepr) (v : Ipv4Repr) (n : ℕ) → header ≡ Ipv4 v → ReadsHeader old true header → n ≡ hop_limit_of header - 1
-    → ((w : Ipv4Repr) (verified : Bool) → ipv4.Reads old verified w → ipv4.Reads new verified (record w { hop_limit = n })) → after ≡ new
-    → ReadsHeader after true (one_hop_less header)
-hop-ipv4 old new after (Ipv4 w) v n is r hops step same =
-    subst (λ l. ipv4.Reads l true (record w { hop_limit = w.hop_limit - 1 })) (sym same) (subst (λ k. ipv4.Reads new true (record w { hop_limit = k })) hops (step w true r))
-hop-ipv4 old new after (Ipv6 w) v n is r hops step same = absurd (cc)
+-- the hop limit is the high byte of its word: with one hop less, the word is less by 256
+hop-sum : (old : List ℕ) (h : ℕ) → h ≡ field old 64 8 → 1 < h → h < 256
+    → with_updated_checksum (with_field old 64 8 (h - 1)) 256 0 ≡ with_updated_checksum (with_field old 64 8 (h - 1)) (256 * field old 64 8) (256 * (h - 1))
+hop-sum old h at alive fits =
+    let changed = with_field old 64 8 (h - 1) in
+    let c = field changed 80 16 in
+    let same : updated c 256 0 ≡ updated c (256 * h) (256 * (h - 1)) = ap (λ (t : ℕ). 65535 - residue t) (omega (arith, alive, fits)) in
+    ap (λ (n : ℕ). with_field changed 80 16 n) (same ∙ ap (λ (k : ℕ). updated c (256 * k) (256 * (h - 1))) at)
+
+-- an IPv4 packet with one hop less, whose checksum is updated for it
+pub record IsHop (old new : List ℕ) (header : IpRepr) : Type 0 where
+  pub reads : ReadsHeader new true (one_hop_less header)
+  pub bytes : new ≡ with_hop_limit header old (hop_limit_of header - 1)
+
+pub hop-ipv4 : (old new : List ℕ) (header : IpRepr) (v : Ipv4Repr) → AreBytes old → header ≡ Ipv4 v → ReadsHeader old true header → 1 < hop_limit_of header
+    → hop_limit_of header < 256 → new ≡ with_updated_checksum (with_field old 64 8 (hop_limit_of header - 1)) 256 0 → IsHop old new header
+hop-ipv4 old new (Ipv4 w) v are is r alive fits at =
+    let n = w.hop_limit - 1 in
+    let small : n < 256 = omega (arith, fits) in
+    let done : new ≡ with_updated_checksum (with_field old 64 8 n) (256 * field old 64 8) (256 * n) = at ∙ hop-sum old w.hop_limit r.hop_limit alive fits in
+    record {
+      reads = reads-summed (with_field old 64 8 n) new _ false true (record w { hop_limit = n }) done (reads-hop_limit old n true false w small r (λ no. cc))
+          (λ on. subst ipv4.HasChecksum (sym done) (valid-hop_limit old n are small r.lengths.header (omega (arith, r.lengths.within, r.lengths.whole)) (r.checksum on)));
+      bytes = done;
+    }
+hop-ipv4 old new (Ipv6 w) v are is r alive fits at = absurd (cc)

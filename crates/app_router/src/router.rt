@@ -4,10 +4,11 @@ ghost use Rattle.std.specs.Prelude.{◌≡◌, ◌<◌, ◌-◌, IfErr, IfOk, On
 ghost use Rattle.app_router.specs.Forward.{CarriesAs, IsForwarded, fault_of, header_fault, one_hop_less, packet_fault, with_hop_limit};
 ghost use Rattle.ip_wire.specs.Ip.{ReadsHeader, hop_limit_of};
 
+use ip_wire::laws::field::bytes_fit;
 use ip_wire::{
     ETHERNET_HEADER_LEN, EthernetAddress, EthernetFrame, EthernetFrameMut, EthernetProtocol,
     EthernetRepr, HeaderFault, IpRepr, Ipv4PacketMut, Ipv4Repr, Ipv6Packet, Ipv6PacketMut,
-    Ipv6Repr, laws, parse_ipv4,
+    Ipv6Repr, checksum, laws, parse_ipv4,
 };
 
 /// Forwards the packet of a frame: writes the link addresses, lowers the hop limit by one, and updates the
@@ -75,8 +76,11 @@ fn take_hop(header: &IpRepr, packet: &mut [u8])
     let hop_limit = header.hop_limit() - 1;
     match *header {
         IpRepr::Ipv4(_) => {
+            bytes_fit(packet);
             let mut packet = Ipv4PacketMut::new_unchecked(packet);
-            packet.update_hop_limit(hop_limit);
+            packet.set_hop_limit(hop_limit);
+            // The hop limit is the high byte of its word, which is less by 0x100, whatever it was.
+            packet.set_checksum(checksum::update(packet.checksum(), 0x100, 0));
         }
         IpRepr::Ipv6(value) => {
             laws::ipv6::one_value_changes_ipv6(packet, value, hop_limit, value.src_addr);
