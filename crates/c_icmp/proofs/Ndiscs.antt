@@ -1,26 +1,26 @@
 -- Neighbour discovery in a frame.
-use Rattle.std.proofs.Common.{◌≡◌, ◌∙◌, List, MatchOption, ℕ, Option, Some, None, ap, drop, subst₂, sym}
+use Rattle.std.proofs.Common.{◌≡◌, ◌∙◌, List, MatchResult, ℕ, Result, Ok, Err, ap, drop, subst₂, sym}
 use Rattle.ip_wire.specs.Ethernet as ethernet
 use Rattle.ip_wire.specs.Frame.{IsReadWhole, other, packet}
 use Rattle.ip_wire.specs.Ipv6 as ipv6
-use Rattle.ip_wire.specs.Types.{EthernetRepr, IpRepr, Ipv4, Ipv6, Ipv6Repr}
+use Rattle.ip_wire.specs.Types.{Error, EthernetRepr, IpRepr, Ipv4, Ipv6, Ipv6Repr}
 use Rattle.ip_wire.specs.declared.EthernetProtocol.TheVariants as ethertype
 use Rattle.wire_icmp.specs.declared.ndisc.repr.NdiscRepr.{NdiscRepr}
 use Rattle.c_icmp.specs.Neighbours.{CarriesNdisc, ReadsNdisc}
 
 -- the message of a frame is the payload of its IPv6 packet
-pub in-packet : (frame message : List ℕ) (link : EthernetRepr) (ip : Ipv6Repr) (result : Option NdiscRepr) → ethernet.Reads frame link → link.ethertype ≡ ethertype.Ipv6
+pub in-packet : (frame message : List ℕ) (link : EthernetRepr) (ip : Ipv6Repr) (result : Result NdiscRepr Error) → ethernet.Reads frame link → link.ethertype ≡ ethertype.Ipv6
     → ipv6.Reads (drop 14 frame) ip → ((w : Ipv6Repr) → ipv6.Reads (drop 14 frame) w → w ≡ ip) → message ≡ ipv6.payload_of (drop 14 frame)
-    → MatchOption result ((v : NdiscRepr) → ¬ CarriesNdisc (Ipv6 ip) message v) (CarriesNdisc (Ipv6 ip) message)
-    → MatchOption result ((v : NdiscRepr) → ¬ ReadsNdisc frame v) (ReadsNdisc frame)
-in-packet frame message link ip None header type reads one is none = λ v it. no-message v it.header it.ip it.message it.reads it.carries
+    → MatchResult result (CarriesNdisc (Ipv6 ip) message) (λ _. (v : NdiscRepr) → ¬ CarriesNdisc (Ipv6 ip) message v)
+    → MatchResult result (ReadsNdisc frame) (λ _. (v : NdiscRepr) → ¬ ReadsNdisc frame v)
+in-packet frame message link ip (Err error) header type reads one is none = λ v it. no-message v it.header it.ip it.message it.reads it.carries
   where
     no-message : (v : NdiscRepr) (h : EthernetRepr) (w : IpRepr) (m : List ℕ) → IsReadWhole frame h (packet w (other m)) → ¬ CarriesNdisc w m v
     no-message v h (Ipv4 w) m whole carries = carries
     no-message v h (Ipv6 w) m whole carries =
         let (of, inside, (udp, tcp, body)) = whole.reads_carried in
         none v (subst₂ (λ p b. CarriesNdisc p b v) (ap Ipv6 (one w inside)) (body ∙ sym is) carries)
-in-packet frame message link ip (Some v) header type reads one is carries = record {
+in-packet frame message link ip (Ok v) header type reads one is carries = record {
   header = link;
   ip = Ipv6 ip;
   message = message;

@@ -21,6 +21,10 @@ pub(crate) fn interface(
 ) -> Option<Interface>
     ensures { result ≡ interface_of first.now second.now hardware is_router }
 {
+    // With known versions the compiler makes no address that may be of either.
+    if first.version != 4 || second.version != 6 {
+        return None;
+    }
     let ipv4 = first.ip()?;
     let ipv6 = second.ip()?;
     match (&ipv4, &ipv6) {

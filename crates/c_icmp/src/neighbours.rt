@@ -1,8 +1,10 @@
 //! Neighbour solicitations and advertisements.
 
-ghost use Rattle.std.specs.Prelude.{◌≡◌, MatchOption};
+ghost use Rattle.std.specs.Option.{option_map_or};
+ghost use Rattle.std.specs.Prelude.{◌≡◌, MatchResult};
 ghost use Rattle.ip_wire.specs.Types.{Ipv6};
 ghost use Rattle.wire_icmp.specs.declared.ndisc.repr.NdiscRepr.{NdiscRepr};
+ghost use Rattle.c_structs.specs.Addresses.{addr_of};
 ghost use Rattle.c_structs.specs.Written.{Fills, IsRead};
 ghost use Rattle.c_icmp.specs.Neighbours.{CarriesNdisc, ReadsNdisc, has_ipv6, hardware_bytes, hardware_of, ndisc_failure, ndisc_frame, ndisc_ip, ndisc_struct, ndisc_value};
 
@@ -11,8 +13,8 @@ use crate::types::Ndisc;
 use c_structs::{Addr, Failure, FrameFields, Ip};
 use c_write::{emit_headers, headers_len, ip_header};
 use ip_wire::{
-    ChecksumCapabilities, EthernetAddress, EthernetFrame, EthernetProtocol, EthernetRepr,
-    IpAddress, IpProtocol, Ipv6Packet, Ipv6Repr,
+    ChecksumCapabilities, Error, EthernetAddress, EthernetFrame, EthernetProtocol, EthernetRepr,
+    IpAddress, IpProtocol, Ipv6Address, Ipv6Packet, Ipv6Repr, Result,
 };
 use wire_icmp::{IcmpPacket, NDISC_HOP_LIMIT, NdiscNeighborFlags, NdiscRepr};
 
@@ -22,45 +24,56 @@ impl Ndisc {
         ensures { IsRead ReadsNdisc ndisc_struct frame.now self.old self.new result }
     {
         match parse_ndisc(frame) {
-            Some(value) => {
-                *self = Ndisc::of(&value);
+            Ok(value) => {
+                self.store(&value);
                 1
             }
-            None => 0,
+            Err(_) => 0,
         }
     }
 
-    // The struct of a value.
-    fn of(value: &NdiscRepr) -> Ndisc
-        ensures { result ≡ ndisc_struct value.now }
+    // Stores a value, field by field: a struct would be made in memory first, and copied.
+    #[inline(always)]
+    fn store(&mut self, value: &NdiscRepr)
+        ensures { self.new ≡ ndisc_struct value.now }
     {
         match value {
             NdiscRepr::NeighborSolicit {
                 target_addr,
                 lladdr,
-            } => Ndisc {
-                target: Addr::of(IpAddress::Ipv6(*target_addr)),
-                hardware: hardware_bytes(*lladdr),
-                has_hardware: u8::from(lladdr.is_some()),
-                is_advert: 0,
-                is_router: 0,
-                is_solicited: 0,
-                overrides: 0,
-            },
+            } => {
+                self.store_addrs(*target_addr, *lladdr);
+                self.is_advert = 0;
+                self.is_router = 0;
+                self.is_solicited = 0;
+                self.overrides = 0;
+            }
             NdiscRepr::NeighborAdvert {
                 flags,
                 target_addr,
                 lladdr,
-            } => Ndisc {
-                target: Addr::of(IpAddress::Ipv6(*target_addr)),
-                hardware: hardware_bytes(*lladdr),
-                has_hardware: u8::from(lladdr.is_some()),
-                is_advert: 1,
-                is_router: u8::from(flags.router),
-                is_solicited: u8::from(flags.solicited),
-                overrides: u8::from(flags.override_),
-            },
+            } => {
+                self.store_addrs(*target_addr, *lladdr);
+                self.is_advert = 1;
+                self.is_router = u8::from(flags.router);
+                self.is_solicited = u8::from(flags.solicited);
+                self.overrides = u8::from(flags.override_);
+            }
         }
+    }
+
+    // Stores the target and the hardware address of the option.
+    #[inline(always)]
+    fn store_addrs(&mut self, target: Ipv6Address, hardware: Option<EthernetAddress>)
+        ensures { self.new ≡ record self.old {
+          target = addr_of (IpAddress.Ipv6 target);
+          hardware = hardware_bytes hardware;
+          has_hardware = option_map_or (λ h. 1) hardware 0;
+        } }
+    {
+        self.target = Addr::of(IpAddress::Ipv6(target));
+        self.hardware = hardware_bytes(hardware);
+        self.has_hardware = u8::from(hardware.is_some());
     }
 
     // The value.
@@ -109,33 +122,37 @@ fn hardware_bytes(hardware: Option<EthernetAddress>) -> [u8; 6]
 }
 
 // The message in a frame, if it is valid.
-fn parse_ndisc(frame: &[u8]) -> Option<NdiscRepr>
-    ensures { MatchOption result ((v : NdiscRepr) → ¬ ReadsNdisc frame.now v) (ReadsNdisc frame.now) }
+#[inline(always)]
+fn parse_ndisc(frame: &[u8]) -> Result<NdiscRepr>
+    ensures { MatchResult result (ReadsNdisc frame.now) (λ _. (v : NdiscRepr) → ¬ ReadsNdisc frame.now v) }
 {
     let view = EthernetFrame::new_unchecked(frame);
     let Ok(link) = EthernetRepr::parse(&view) else {
-        return None;
+        return Err(Error);
     };
     if link.ethertype != EthernetProtocol::Ipv6 {
-        return None;
+        return Err(Error);
     }
     let packet = Ipv6Packet::new_unchecked(view.payload());
     match Ipv6Repr::parse(&packet) {
         Ok(ip) => parse_message(&ip, packet.payload()),
-        Err(_) => None,
+        Err(_) => Err(Error),
     }
 }
 
-// The message after an IPv6 header, if it is valid.
-fn parse_message(ip: &Ipv6Repr, message: &[u8]) -> Option<NdiscRepr>
-    ensures { MatchOption result ((v : NdiscRepr) → ¬ CarriesNdisc (Ipv6 ip.now) message.now v) (CarriesNdisc (Ipv6 ip.now) message.now) }
+// The message after an IPv6 header, if it is valid. The addresses are copied, so that the rest of the header is not
+// kept in memory.
+#[inline(always)]
+fn parse_message(ip: &Ipv6Repr, message: &[u8]) -> Result<NdiscRepr>
+    ensures { MatchResult result (CarriesNdisc (Ipv6 ip.now) message.now) (λ _. (v : NdiscRepr) → ¬ CarriesNdisc (Ipv6 ip.now) message.now v) }
 {
     if ip.next_header != IpProtocol::Icmpv6 {
-        return None;
+        return Err(Error);
     }
     let packet = IcmpPacket::new_unchecked(message);
     let caps = ChecksumCapabilities::default();
-    NdiscRepr::parse(&packet, &ip.src_addr, &ip.dst_addr, ip.hop_limit, &caps).ok()
+    let (src, dst) = (ip.src_addr, ip.dst_addr);
+    NdiscRepr::parse(&packet, &src, &dst, ip.hop_limit, &caps)
 }
 
 /// Writes a frame with a message, and returns its length. `None` if it does not fit, or if there is an
