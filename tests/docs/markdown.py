@@ -28,18 +28,19 @@ LONGEST = {
     "docs/GUIDE.md": 250,
     "docs/CONTRACTS.md": 260,
     "docs/C.md": 150,
-    "docs/USES.md": 350,
+    "docs/USES.md": 305,
+    "docs/TCP.md": 125,
     "docs/ROUTER.md": 200,
     "docs/DIFFERENCES.md": 150,
     "docs/TRUST.md": 180,
     "docs/CONTRIBUTING.md": 300,
-    "docs/DECISIONS.md": 275,
+    "docs/DECISIONS.md": 290,
     "docs/PERF.md": 200,
     "bindings/rust/README.md": 50,
     "bindings/python/README.md": 100,
     "bindings/go/README.md": 60,
 }
-MOST = 2585
+MOST = 2670
 # Names of old commits, of smoltcp, of the standard library and of Linux.
 FOREIGN = {"ip_nat", "pretty_print", "AsMut", "is_private", "to_ipv6_mapped", "CAP_NET_ADMIN",
            "CAP_NET_RAW", "frame_raw"}
