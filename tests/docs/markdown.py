@@ -32,7 +32,7 @@ LONGEST = {
     "docs/TCP.md": 125,
     "docs/ROUTER.md": 200,
     "docs/DIFFERENCES.md": 150,
-    "docs/TRUST.md": 180,
+    "docs/TRUST.md": 181,
     "docs/CONTRIBUTING.md": 300,
     "docs/DECISIONS.md": 290,
     "docs/PERF.md": 200,
@@ -40,7 +40,7 @@ LONGEST = {
     "bindings/python/README.md": 100,
     "bindings/go/README.md": 60,
 }
-MOST = 2670
+MOST = 2671
 # Names of old commits, of smoltcp, of the standard library and of Linux.
 FOREIGN = {"ip_nat", "pretty_print", "AsMut", "is_private", "to_ipv6_mapped", "CAP_NET_ADMIN",
            "CAP_NET_RAW", "frame_raw"}
