@@ -1,4 +1,4 @@
-"""One end of a connection with time: a socket of crates/tcp_steps, or of the model, behind the same lines."""
+"""One end of a connection with time: a socket of crates/tcp_steps, or of the model, by the same lines."""
 import subprocess
 
 from lines import event_of, happens, line_of, parsed, segment_of, text_of
