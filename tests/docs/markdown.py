@@ -40,7 +40,7 @@ LONGEST = {
     "bindings/python/README.md": 100,
     "bindings/go/README.md": 60,
 }
-MOST = 2671
+MOST = 2673
 # Names of old commits, of smoltcp, of the standard library and of Linux.
 FOREIGN = {"ip_nat", "pretty_print", "AsMut", "is_private", "to_ipv6_mapped", "CAP_NET_ADMIN",
            "CAP_NET_RAW", "frame_raw"}
