@@ -15,6 +15,7 @@ PATHS = {
     "tcp": "crates/app_tcp/src/tests/{}.rt",
     "connection": "crates/app_connection/src/tests/{}.rt",
     "congestion": "crates/app_congestion/src/tests/{}.rt",
+    "options": "crates/app_options/src/tests/{}.rt",
     "socket": "crates/app_socket/src/tests/{}.rt",
     "promises": "crates/promises/src/{}.rt",
     "cases": "tests/data/cases/{}.hex",

@@ -20,6 +20,7 @@ import sys
 sys.path.append(str(pathlib.Path(__file__).resolve().parents[1] / "frames"))
 import faults  # noqa: E402
 import model  # noqa: E402
+import option_faults  # noqa: E402
 import rules  # noqa: E402
 from dice import Random  # noqa: E402
 from lines import event_of, happens, line_of, parsed  # noqa: E402
@@ -128,6 +129,10 @@ def compare(program, seed, count):
     print(f"{total} events, no difference")
 
 
+def is_found(fault, every):
+    return any(is_noticed(fault, seed) for seed in every)
+
+
 def is_noticed(fault, seed):
     """Whether the damaged copy answers an event of the seed otherwise."""
     rng = Random(seed)
@@ -146,11 +151,13 @@ def is_noticed(fault, seed):
 
 def try_faults(seed, count):
     # Faults of sockets show in fewer schedules.
-    for found, every in ((faults.FAULTS, seeds(seed, count)), (faults.SOCKET_FAULTS, seeds(seed, 4 * count, SOCKETS))):
-        for fault in found:
-            if not any(is_noticed(fault, each) for each in every):
-                sys.exit(f"not noticed: {fault.__doc__}")
-    print(f"{len(faults.FAULTS)} faults and {len(faults.SOCKET_FAULTS)} of sockets, all noticed")
+    of_sockets = faults.SOCKET_FAULTS + option_faults.OPTION_FAULTS
+    for found, every in ((faults.FAULTS, seeds(seed, count)), (of_sockets, seeds(seed, 8 * count, SOCKETS))):
+        with multiprocessing.Pool() as pool:
+            noticed = pool.map(functools.partial(is_found, every=every), found, 1)
+        if not all(noticed):
+            sys.exit("not noticed: " + " ".join(fault.__doc__ for fault, is_one in zip(found, noticed) if not is_one))
+    print(f"{len(faults.FAULTS)} faults and {len(of_sockets)} of sockets, all noticed")
 
 
 def print_counts(seed, count):

@@ -338,4 +338,4 @@ class NewProbe(Socket):
 
 
 FAULTS = Connection.__subclasses__()
-SOCKET_FAULTS = Socket.__subclasses__()
+SOCKET_FAULTS = [kind for kind in Socket.__subclasses__() if kind.__module__ == __name__]

@@ -2,8 +2,9 @@
 """Connections between sockets of the program and Linux: tests/tcp/linux.py PROGRAM SEED COUNT
 
 The program is crates/tcp_steps, or `model` for the model. Linux is reached by a TUN device in a network namespace of its
-own. Of the COUNT connections, Linux opens one half and the program the other, over IPv4 and IPv6. Packets are lost, repeated
-and reordered in both directions. Every byte must come in both directions, and both ends must close.
+own. Of the COUNT connections, Linux opens one half and the program the other, over IPv4 and IPv6, with window scaling, SACK and
+timestamps. Packets are lost, repeated and reordered in both directions. Every byte must come in both directions, and both ends
+must close.
 
 Where the namespace cannot be made, it prints "skipped: REASON", and the status is 77.
 """
@@ -24,7 +25,7 @@ sys.path.append(str(pathlib.Path(__file__).resolve().parents[1] / "frames"))
 import packets  # noqa: E402
 from dice import Random  # noqa: E402
 from ends import End, machine_of  # noqa: E402
-from model import Segment  # noqa: E402
+from tcp_options import Packet, decoded, encoded  # noqa: E402
 from watch import Watch  # noqa: E402
 
 TUNSETIFF, IFF_TUN, IFF_NO_PI = 0x400454CA, 1, 0x1000
@@ -34,16 +35,17 @@ FAMILIES = {socket.AF_INET: ("10.81.0.1", "10.81.0.2"), socket.AF_INET6: ("fd81:
 LISTENING, OURS = 7000, 20000
 FLAGS = {"F": 1, "S": 2, "R": 4}
 ACK = 0x10
-TCP_CLOSE = 7
-# Options of Linux, so that it recovers fast from losses without SACK and timestamps, and waits for a busy machine. That of
-# the longest time-out of retransmission, in milliseconds, is new in Linux 6.15.
+# Of TCP_INFO: the state, and the bits of timestamps, SACK and window scaling.
+TCP_CLOSE, STATE, AGREED, ALL_AGREED = 7, 0, 5, 7
+# Options of Linux, so that it recovers fast from losses, and waits for a busy machine. That of the longest time-out of
+# retransmission, in milliseconds, is new in Linux 6.15.
 TCP_RTO_MAX_MS = 44
 OPTIONS = ((socket.TCP_CONGESTION, b"reno"), (TCP_RTO_MAX_MS, 1000), (socket.TCP_USER_TIMEOUT, 200_000),
            (socket.TCP_SYNCNT, 120))
 # Processes, each with its namespace and its connections, and the seconds that they have.
 PROCESSES, LATEST = 4, 280
 # How many packets are lost, and how many bytes each end writes then.
-LOSSES = ((0.01, 200_000), (0.03, 200_000), (0.1, 60_000))
+LOSSES = ((0.01, 200_000), (0.03, 200_000), (0.1, 15_000))
 AFTER_TIME_WAIT = 61_000
 LETTERS = b"abcdefghijklmnopqrstuvwxyz"
 
@@ -77,15 +79,15 @@ class Tun:
         assert packets.word_sum(packets.pseudo_header(addrs, b"", 6, len(data)) + data) == 0xFFFF, "checksum of Linux"
         theirs, ours, seq, ack, flags, window = struct.unpack_from(">HHIIHH", data)
         bits = "".join(letter for letter in "SFR" if flags & FLAGS[letter])
-        return ours, theirs, Segment(seq, ack if flags & ACK else None, bits, window, data[(flags >> 12) * 4 :])
+        head = (flags >> 12) * 4
+        return ours, theirs, Packet(seq, ack if flags & ACK else None, bits, window, data[head:], decoded(data[20:head]))
 
-    def send(self, family, ours, theirs, segment, mss):
-        """A segment as a packet, with the option MSS in a SYN."""
+    def send(self, family, ours, theirs, segment):
+        """A segment as a packet."""
         dst, src = (socket.inet_pton(family, addr) for addr in FAMILIES[family])
         flags = sum(FLAGS[letter] for letter in segment.bits) | (0 if segment.ack is None else ACK)
-        option = b"\2\4" + mss.to_bytes(2, "big") if "S" in segment.bits else b""
-        data = packets.tcp(segment.text, option, flags=flags, src_port=ours, dst_port=theirs, seq=segment.seq,
-                           ack=segment.ack or 0, window=min(segment.window, 65535), src=src, dst=dst)
+        data = packets.tcp(segment.text, encoded(segment.options), flags=flags, src_port=ours, dst_port=theirs, seq=segment.seq,
+                           ack=segment.ack or 0, window=segment.window, src=src, dst=dst)
         if family == socket.AF_INET:
             head = packets.header(len(data), protocol=6, src=src, dst=dst)
         else:
@@ -122,7 +124,7 @@ class Talk:
         self.is_passive = number % 2 == 0
         self.app, self.peer = Application(rng, size), Application(rng, size)
         self.peer.closes_last &= not self.app.closes_last
-        rings = rng.choice((4000, 20_000, 65_535)), rng.choice((4000, 20_000, 65_535))
+        rings = rng.choice((4000, 20_000, 65_535, 300_000)), rng.choice((4000, 20_000, 65_535, 300_000))
         self.end = End(bench.machine(), Watch(), self.mss, 0, rng.randrange(2), *rings)
         self.socket, self.has_end, self.is_done, self.stale = None, False, False, None
         self.sent = self.lost = 0
@@ -159,7 +161,7 @@ class Talk:
 
     def send(self, segment):
         if segment:
-            self.way(self.bench.tun.send, self.family, self.ours, self.theirs, segment, self.mss)
+            self.way(self.bench.tun.send, self.family, self.ours, self.theirs, segment)
 
     def comes(self, theirs, segment):
         """A packet of Linux."""
@@ -251,7 +253,7 @@ class Talk:
 
     def ends(self):
         """Both have closed. TIME-WAIT ends a minute later on our clock."""
-        state = self.socket.getsockopt(socket.IPPROTO_TCP, socket.TCP_INFO, 1)[0]
+        state = self.info()[STATE]
         if self.has_end and self.peer.is_closed and state == TCP_CLOSE and self.end.state in ("Closed", "TimeWait"):
             self.is_done = True
             while text := self.end.read(self.bench.now, 1 << 20):
@@ -260,10 +262,14 @@ class Talk:
             self.end.segment(later, "tick")
             self.check()
 
+    def info(self):
+        return self.socket.getsockopt(socket.IPPROTO_TCP, socket.TCP_INFO, 8)
+
     def check(self):
         assert self.app.got == self.peer.text, f"the program got {len(self.app.got)} bytes"
         assert self.peer.got == self.app.text, f"Linux got {len(self.peer.got)} bytes"
         assert self.end.state == "Closed", self.end.state
+        assert self.info()[AGREED] & ALL_AGREED == ALL_AGREED, "Linux has not agreed on all options"
         self.socket.close()
         self.end.machine.close()
         self.bench.open_talks -= 1

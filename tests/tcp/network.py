@@ -2,8 +2,9 @@
 """Pairs of sockets over a simulated network: tests/tcp/network.py PROGRAM SEED COUNT
 
 The program is crates/tcp_steps, or `model` for the model. Each of the COUNT connections has its own losses, repetitions,
-delays, windows and readers, by a virtual clock. All bytes must come in both directions, and both ends must be CLOSED at the
-end. In some connections an end vanishes: then the other must be CLOSED by its bound.
+delays, windows and readers, by a virtual clock. In some the network removes options of SYNs, or takes only small segments from
+some time on, and sends errors. All bytes must come in both directions, and both ends must be CLOSED at the end. In some
+connections an end vanishes: then the other must be CLOSED by its bound.
 """
 import collections
 import functools
@@ -16,6 +17,7 @@ import sys
 sys.path.append(str(pathlib.Path(__file__).resolve().parents[1] / "frames"))
 from dice import Random  # noqa: E402
 from ends import End, machine_of  # noqa: E402
+from tcp_options import NONE  # noqa: E402
 from watch import Watch  # noqa: E402
 
 LETTERS = "abcdefghijklmnopqrstuvwxyz"
@@ -24,6 +26,8 @@ PART = 50
 # The most events of a connection.
 TOO_MANY = 20000
 LOSSES = (0, 0, 0.01, 0.03, 0.1)
+# The part of the MSS that the path takes from some time on: at least 48 bytes with options.
+PATHS, LEAST = (None, None, 0.3, 0.8), 48
 
 
 class Host:
@@ -33,7 +37,7 @@ class Host:
         self.rng = rng
         self.mss = rng.choice((1, 2, 7, 50, 536, 1460, 1460))
         self.keep_alive = rng.choice((0, 2, 20, 200))
-        rings = rng.choice((1, 3, 10)), rng.choice((1, 3, 10))
+        rings = rng.choice((1, 3, 10, 30)), rng.choice((1, 3, 10, 30))
         sizes = [max(1, count * self.mss + rng.choice((0, -1, 5))) for count in rings]
         self.end = End(machine, Watch(), self.mss, self.keep_alive, rng.randrange(2), *sizes)
         self.least = min(self.mss, *sizes)
@@ -75,7 +79,10 @@ class Network:
         self.hosts = [Host(rng, machine) for machine in machines]
         for host in self.hosts:
             host.has_text(min(host.least for host in self.hosts))
-        self.queue, self.count, self.now = [], 0, 0
+        self.queue, self.count, self.now, self.errors = [], 0, 0, 0
+        self.without = {name: value for name, value in NONE._asdict().items() if rng.random() < 0.2}
+        share, self.narrow_at = rng.choice(PATHS), rng.randrange(3000)
+        self.path = share and max(LEAST, int(share * max(host.mss for host in self.hosts)))
         self.vanishes = rng.choice((None,) * 6 + (rng.randrange(3000), rng.randrange(100_000)))
 
     def later(self, delay, kind, *operands):
@@ -85,6 +92,12 @@ class Network:
     def send(self, to, segment):
         """A segment is lost, comes once, or more than once. Some come late."""
         rng = self.rng
+        if segment and "S" in segment.bits:
+            segment = segment._replace(options=segment.options._replace(**self.without))
+        elif segment and self.path and self.now >= self.narrow_at and len(segment.text) + segment.options.size > self.path:
+            if rng.random() >= self.loss:
+                self.later(2 * self.delay, self.is_too_big, 1 - to, segment.seq)
+            return
         while segment and rng.random() >= self.loss:
             delay = self.delay + rng.randrange(self.jitter + 1)
             self.later(delay if rng.random() < 0.99 else delay + rng.randrange(20_000), self.come, to, segment)
@@ -103,6 +116,11 @@ class Network:
         end = self.hosts[at].end
         self.send(1 - at, end.segment(self.now, "arrives", segment, self.rng.randrange(1 << 32)))
         self.wake(at)
+        self.settle(at)
+
+    def is_too_big(self, at, number):
+        self.errors += 1
+        self.hosts[at].end.call(self.now, "too-big", number, self.path)
         self.settle(at)
 
     def due(self, at):
@@ -176,6 +194,7 @@ def part(program, seed):
         counts["connections"] += 1
         counts["bytes"] += sum(len(host.got) for host in network.hosts)
         counts["silent"] += network.vanishes is not None
+        counts["errors"] += network.errors
     for machine in machines:
         machine.close()
     return counts
@@ -194,7 +213,7 @@ def main():
                 sys.exit(found)
             total += found
     print(f"{total['connections']} connections, {total['silent']} with a peer that vanishes: {total['events']} events, "
-          f"{total['bytes']} bytes, nothing wrong")
+          f"{total['errors']} errors, {total['bytes']} bytes, nothing wrong")
 
 
 if __name__ == "__main__":

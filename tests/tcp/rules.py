@@ -98,13 +98,24 @@ SOCKET_RULES = {
     "acknowledgement": SYNCHRONIZED,
     "window update": TAKING,
     "keep-alive": (ESTABLISHED, FIN_WAIT_2, CLOSE_WAIT),
+    # Options and errors
+    "no timestamp": SYNCHRONIZED,
+    "old timestamp": SYNCHRONIZED,
+    "TS.Recent": SYNCHRONIZED,
+    "SACK": SENDING,
+    "bad SACK": SYNCHRONIZED,
+    "hole": SENDING,
+    "too big": (SYN_SENT, SYN_RECEIVED) + SENDING,
+    "too big: nothing": STATES,
 }
 
 
 # They can meet in these states, but hardly ever do.
 RARE = {("third duplicate ACK", CLOSE_WAIT), ("third duplicate ACK", CLOSING), ("third duplicate ACK", LAST_ACK),
         ("partial ACK", CLOSE_WAIT), ("partial ACK", CLOSING), ("partial ACK", LAST_ACK), ("override", CLOSING),
-        ("override", LAST_ACK), ("idle", CLOSING), ("idle", LAST_ACK), ("acknowledgement", LAST_ACK)}
+        ("override", LAST_ACK), ("idle", CLOSING), ("idle", LAST_ACK), ("acknowledgement", LAST_ACK), ("hole", CLOSE_WAIT),
+        ("hole", CLOSING), ("hole", LAST_ACK), ("too big", CLOSING), ("too big", LAST_ACK), ("no timestamp", TIME_WAIT),
+        ("too big: nothing", TIME_WAIT)}
 # Rules that are named in either table.
 NAMED = RULES.keys() | SOCKET_RULES.keys()
 

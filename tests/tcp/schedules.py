@@ -45,7 +45,7 @@ class Schedule:
     def sent(self, end, segment):
         """A segment goes to the other endpoint, or is lost."""
         way = self.way[1 - end]
-        if isinstance(segment, Segment) and self.rng.random() < 0.92:
+        if isinstance(segment, tuple) and self.rng.random() < 0.92:
             way.append(segment)
             if len(way) > ON_THE_WAY:
                 del way[0]

@@ -1,142 +1,41 @@
 """A TCP connection with time: a connection of model.py with the timers of RFC 9293 (section 3.8), RFC 1122 (section 4.2.3) and
-RFC 6298, and the congestion control of RFC 5681 and RFC 6582. Times are in milliseconds.
+RFC 6298, the congestion control of RFC 5681 and RFC 6582, and the options of RFC 7323 and RFC 2018. Times are in milliseconds.
 
-Each event returns the segment that goes out, or None. After each event the caller calls `tick` until it returns None, and
+Each event returns the packet that goes out, or None. After each event the caller calls `tick` until it returns None, and
 again at `due`. `met` has the rules that handled the last event.
 """
 import model
+from congestion import SECOND, Congestion, Rto
 from model import HALF, MASK, Connection, distance, is_before
+from tcp_options import DEFAULT_MSS, MAX_FIELD, MIN_MSS, MIN_TEXT, NONE, Agreed, Packet, Scoreboard
 
-SECOND = 1000
 SYN_PATIENCE, USER_TIMEOUT, TIME_WAIT_LENGTH = 180 * SECOND, 300 * SECOND, 60 * SECOND
 KEEP_ALIVE_INTERVAL, KEEP_ALIVE_PROBES = 75 * SECOND, 9
 ACK_DELAY = 40
-MAX_CWND = 1 << 30
+# The most segments that the blocks of a segment count for.
+MOST_COUNTED = 64
 NO_PEER = (model.CLOSED, model.LISTEN)
 SET_UP = (model.SYN_SENT, model.SYN_RECEIVED)
-
-
-class Rto:
-    """The retransmission timeout (RFC 6298). 8 * SRTT and 4 * RTTVAR are whole numbers. The granularity G is 200 ms."""
-
-    def __init__(self):
-        self.srtt8 = self.rttvar4 = None
-        self.timeout = SECOND
-
-    def on_sample(self, rtt):
-        """Sections 2.2 and 2.3."""
-        if self.srtt8 is None:
-            self.srtt8, self.rttvar4 = 8 * rtt, 2 * rtt
-        else:
-            self.rttvar4 += abs(self.srtt8 // 8 - rtt) - self.rttvar4 // 4
-            self.srtt8 += rtt - self.srtt8 // 8
-        self.timeout = min(60 * SECOND, self.srtt8 // 8 + max(200, self.rttvar4))
-
-    def back_off(self):
-        """Section 5.5."""
-        self.timeout = min(60 * SECOND, 2 * self.timeout)
-
-    def after_lost_syn(self):
-        """Section 5.7."""
-        self.timeout = 3 * SECOND
-
-
-class Congestion:
-    """The congestion window. `recover` is the number after that of RFC 6582, or None before a loss."""
-
-    def __init__(self, mss):
-        self.mss = mss
-        self.initial = min(10 * mss, max(2 * mss, 14600))
-        self.cwnd, self.ssthresh = self.initial, MAX_CWND
-        self.acked = self.duplicates = 0
-        self.recover, self.is_recovering, self.is_resent = None, False, False
-
-    def set_cwnd(self, cwnd):
-        self.cwnd = min(cwnd, MAX_CWND)
-
-    def lose(self, flight):
-        """RFC 5681, equation 4."""
-        self.ssthresh = min(MAX_CWND, max(flight // 2, 2 * self.mss))
-
-    def may_send(self, window, flight):
-        return max(0, min(window, self.cwnd) - flight)
-
-    def on_ack(self, newly, flight, una):
-        """New data is acknowledged. Returns whether the first segment goes again: after a partial acknowledgement."""
-        self.duplicates, self.is_resent = 0, False
-        if self.is_recovering:
-            return self.on_ack_in_recovery(newly, flight, una)
-        self.forget(una)
-        self.grow(newly)
-        return False
-
-    def forget(self, una):
-        """The loss is over when more than `recover` is acknowledged."""
-        if self.recover is not None and is_before(self.recover, una):
-            self.recover = None
-
-    def on_ack_in_recovery(self, newly, flight, una):
-        """RFC 6582, section 3.2, step 3."""
-        self.acked = 0
-        if is_before(una, self.recover):
-            self.set_cwnd(max(0, self.cwnd - newly) + (self.mss if newly >= self.mss else 0))
-            self.cwnd = max(self.mss, self.cwnd)
-            return True
-        self.cwnd = min(self.ssthresh, max(flight, self.mss) + self.mss)
-        self.is_recovering = False
-        self.forget(una)
-        return False
-
-    def grow(self, newly):
-        """Slow start, or congestion avoidance by the bytes that are acknowledged (RFC 5681, section 3.1)."""
-        if self.cwnd < self.ssthresh:
-            self.set_cwnd(self.cwnd + min(newly, self.mss))
-            return
-        self.acked += newly
-        if self.acked >= self.cwnd:
-            self.acked = 0
-            self.set_cwnd(self.cwnd + self.mss)
-
-    def after_lost_syn(self):
-        """RFC 5681, section 3.1."""
-        self.cwnd = self.mss
-
-    def on_duplicate(self, flight, una, after):
-        """Whether fast retransmit begins (RFC 5681, section 3.2; RFC 6582, section 3.2, step 2)."""
-        if self.is_recovering:
-            self.set_cwnd(self.cwnd + self.mss)
-            return False
-        self.duplicates = min(255, self.duplicates + 1)
-        if self.duplicates != 3 or self.recover is not None and not is_before(self.recover, una):
-            return False
-        self.lose(flight)
-        self.set_cwnd(self.ssthresh + 3 * self.mss)
-        self.acked, self.recover, self.is_recovering = 0, after, True
-        return True
-
-    def on_timeout(self, flight, after):
-        """RFC 5681, section 3.1; RFC 6582, section 3.2, step 4."""
-        if not self.is_resent:
-            self.lose(flight)
-        self.cwnd, self.acked, self.duplicates = self.mss, 0, 0
-        self.recover, self.is_recovering, self.is_resent = after, False, True
-
-    def on_idle(self):
-        """RFC 5681, section 4.1."""
-        self.cwnd, self.acked = min(self.initial, self.cwnd), 0
 
 
 class Socket:
     """A connection, its timers, and what it has sent."""
 
+    agreement, board = Agreed, Scoreboard
+
     def __init__(self, mss, keep_alive, is_eager, size_out, size_in):
-        self.mss, self.is_eager = mss or 536, bool(is_eager)
+        self.mss, self.is_eager = mss or DEFAULT_MSS, bool(is_eager)
         self.keep_alive = (keep_alive or 7200) * SECOND
         self.connection = Connection(size_out, size_in)
         self.threshold = max(1, min(size_in // 2, self.mss))
         self.now = 0
         self.edge = 0
+        self.agree_on_nothing(0)
         self.begin(0)
+
+    def agree_on_nothing(self, iss):
+        """`limit` is the largest segment that the peer and the path take, with its options."""
+        self.agreed, self.limit = self.agreement(iss, self.size_in), self.mss
 
     def begin(self, iss):
         """The SYN goes out for the first time."""
@@ -146,6 +45,8 @@ class Socket:
         # The end of the segment that is timed, and when it was sent.
         self.timing = (iss + 1) & MASK, self.now
         self.cursor, self.resend, self.max_window = 1, False, 0
+        # What the peer has after a gap, and up to where items were sent again in this fast recovery.
+        self.scoreboard, self.rescued = self.board(), 0
 
     def __getattr__(self, name):
         """The variables of the connection, and the calls that need no time."""
@@ -182,6 +83,29 @@ class Socket:
         times = self.ends_at, self.resend_at, self.ack_at, self.probe_at if is_idle else None
         return min(time for time in times if time is not None)
 
+    @property
+    def kept(self):
+        """The block that is kept after a gap, or None."""
+        first = (self.rcv_nxt + self.later_at) & MASK
+        return (first, (first + len(self.later)) & MASK) if self.later else None
+
+    @property
+    def most(self):
+        """The most bytes of text in the next segment: the options of a segment count (RFC 6691)."""
+        return max(self.limit - self.agreed.of_segment(self.kept, self.now).size, min(self.limit, MIN_TEXT))
+
+    def packet(self, seg):
+        """A segment with its window field and its options."""
+        if seg is None:
+            return None
+        window, options = self.agreed.field(seg.window), NONE
+        if "S" in seg.bits:
+            of_syn = self.agreed.of_syn if seg.ack is None else self.agreed.of_syn_ack
+            window, options = min(MAX_FIELD, seg.window), of_syn(self.mss, self.now)
+        elif "R" not in seg.bits:
+            options = self.agreed.of_segment(self.kept, self.now)
+        return Packet(seg.seq, seg.ack, seg.bits, window, seg.text, options)
+
     # User calls
 
     def at(self, now):
@@ -191,11 +115,69 @@ class Socket:
         reply = self.connection.open(iss)
         if reply:
             self.begin(iss)
-        return reply
+            self.agree_on_nothing(iss)
+        return self.packet(reply)
+
+    def abort(self):
+        return self.packet(self.connection.abort())
+
+    def too_big(self, number, mss):
+        """An ICMP error: the path takes segments of this size (RFC 1191, RFC 8201). One about no segment in flight is ignored
+        (RFC 5927, section 4.1)."""
+        if self.state in NO_PEER or distance(number, self.snd_una) >= self.flight or mss >= self.limit:
+            self.met.append("too big: nothing")
+            return
+        self.met.append("too big")
+        self.limit = min(self.limit, max(MIN_MSS, mss))
+        self.congestion.mss = min(self.congestion.mss, self.most)
+        self.go_back()
 
     # SEGMENT ARRIVES
 
     def arrives(self, seg, iss):
+        if self.has_timestamps(seg):
+            if seg.options.stamps is None:
+                return self.connection.done("no timestamp")
+            if self.agreed.is_old(seg.options.stamps, self.now):
+                return self.packet(self.connection.done("old timestamp", self.answer_to_old()))
+        counts = self.is_open and self.counts(seg)
+        self.agree(seg, iss)
+        reply = self.take(seg._replace(window=self.window_of(seg)), iss)
+        if counts:
+            self.agreed.set_recent(seg.options, self.now)
+            self.met.append("TS.Recent")
+        return self.packet(reply)
+
+    def has_timestamps(self, seg):
+        """Whether a segment needs a timestamp (RFC 7323, section 3.2)."""
+        return self.is_open and "R" not in seg.bits and self.agreed.recent is not None
+
+    def answer_to_old(self):
+        """RFC 7323, section 5.3, R1."""
+        return self.advertised(self.acknowledgement())
+
+    def counts(self, seg):
+        """Whether TS.Recent becomes SEG.TSval: SEG.SEQ =< Last.ACK.sent =< SEG.SEQ + SEG.LEN (RFC 7323, section 4.3)."""
+        is_acknowledged = self.agreed.recent is not None and self.ack_at is None
+        is_first = distance(self.rcv_nxt, seg.seq) < HALF and distance(seg.seq + seg.length, self.rcv_nxt) < HALF
+        return is_acknowledged and is_first and "S" not in seg.bits and "R" not in seg.bits
+
+    def window_of(self, seg):
+        """In bytes. The window of a SYN is not scaled (RFC 7323, section 2.2)."""
+        return seg.window if "S" in seg.bits else self.agreed.window(seg.window)
+
+    def agree(self, seg, iss):
+        """The options of the peer's SYN."""
+        if "S" not in seg.bits or self.state not in (model.LISTEN, model.SYN_SENT):
+            return
+        if self.state == model.LISTEN:
+            self.agree_on_nothing(iss)
+        self.agreed.take_syn(seg.options, self.now)
+        peer = DEFAULT_MSS if seg.options.mss is None else seg.options.mss
+        self.limit = min(self.mss, max(MIN_MSS, peer))
+
+    def take(self, seg, iss):
+        """A segment with its window in bytes."""
         was, was_open, rcv_nxt, is_near = self.state, self.is_open, self.rcv_nxt, self.is_near(seg)
         una, flight, window, is_special = self.snd_una, self.flight, self.snd_wnd, bool(self.later) or "F" in seg.bits
         reply = self.connection.arrives(seg, iss)
@@ -213,7 +195,7 @@ class Socket:
                 self.edge = (self.rcv_nxt + reply.window) & MASK
                 return reply
         else:
-            self.hear(seg, was, is_near)
+            self.hear(seg, was, is_near or self.rcv_nxt != rcv_nxt or self.snd_una != una)
             self.take_ack(seg, una, flight, window, is_near)
         return self.answer(reply, self.rcv_nxt != rcv_nxt, is_special)
 
@@ -223,7 +205,7 @@ class Socket:
 
     def establish(self):
         """The SYN is acknowledged."""
-        self.congestion, self.max_window = Congestion(self.mss), self.snd_wnd
+        self.congestion, self.max_window = Congestion(self.most), self.snd_wnd
         if self.timing:
             self.sample()
         else:
@@ -236,35 +218,73 @@ class Socket:
         self.rto.on_sample(min(MASK, max(0, self.now - self.timing[1])))
         self.timing = None
 
-    def hear(self, seg, was, is_near):
+    def hear(self, seg, was, is_alive):
         """The peer is there."""
         if self.state == model.TIME_WAIT:
             if was != model.TIME_WAIT or "F" in seg.bits:
                 self.met.append("TIME-WAIT begins")
                 self.ends_at = self.now + TIME_WAIT_LENGTH
-        elif is_near:
+        elif is_alive:
             self.ends_at, self.probe_at = self.now + self.patience, self.now + self.keep_alive
 
     def take_ack(self, seg, una, flight, window, is_near):
         newly = distance(self.snd_una, una)
+        is_duplicate = not newly and is_near and self.is_duplicate(seg, una, flight, window)
         if newly:
             if self.timing and not is_before(self.snd_una, self.timing[0]):
                 self.sample()
-            self.resend = self.congestion.on_ack(newly, self.flight, self.snd_una)
-            self.met += ["partial ACK"] * self.resend
-            self.cursor -= min(newly, self.cursor)
+            self.move_on(newly)
             self.resend_at = self.now + self.rto.timeout if self.is_waiting else None
-        elif is_near and self.is_duplicate(seg, una, flight, window):
-            is_third = self.congestion.on_duplicate(flight, una, self.snd_nxt)
-            self.resend |= is_third
-            self.met.append("third duplicate ACK" if is_third else "duplicate ACK")
+        total = self.scoreboard.total
+        if self.is_accepted(seg, is_near):
+            self.take_blocks(seg)
+        count = min(MOST_COUNTED, max(0, self.scoreboard.total - total) // self.most)
+        if is_duplicate:
+            self.count_duplicates(max(1, count), flight)
+        elif newly and self.congestion.is_recovering:
+            self.count_duplicates(count, flight)
         self.max_window = max(self.max_window, self.snd_wnd)
         if window == 0 < self.snd_wnd and self.is_waiting:
             self.resend_at = self.now + self.rto.timeout
 
+    def count_duplicates(self, count, flight):
+        """One, or as many as there are segments in its blocks (RFC 6675, section 5)."""
+        for _ in range(count):
+            is_third = self.congestion.on_duplicate(flight, self.snd_una, self.snd_nxt)
+            if is_third:
+                self.resend, self.rescued = True, 0
+            self.met.append("third duplicate ACK" if is_third else "duplicate ACK")
+
+    def move_on(self, newly):
+        """So many items are acknowledged. With SACK, a partial acknowledgement sends the first segment again only once."""
+        self.cursor -= min(newly, self.cursor)
+        self.rescued -= min(newly, self.rescued)
+        self.scoreboard.advance(newly)
+        is_partial = self.congestion.on_ack(newly, self.flight, self.snd_una)
+        self.resend = is_partial and not (self.rescued and self.scoreboard.ranges)
+        self.met += ["partial ACK"] * is_partial
+
     def is_duplicate(self, seg, una, flight, window):
-        """RFC 5681, section 2."""
-        return flight > 0 and not seg.text and not seg.bits and seg.ack == una and seg.window == window > 0
+        """RFC 5681, section 2. With SACK, blocks show that something arrived, also beside text (RFC 6675, section 2)."""
+        is_bare = not seg.text and not seg.bits and seg.window == window
+        has_blocks = self.has_blocks(seg) and "S" not in seg.bits and "R" not in seg.bits
+        return flight > 0 and window > 0 and seg.ack == una and (is_bare or has_blocks)
+
+    def is_accepted(self, seg, is_near):
+        """Whether its blocks count: others are dropped (RFC 9293, section 3.10.7.4)."""
+        return is_near and seg.ack is not None and "S" not in seg.bits
+
+    def has_blocks(self, seg):
+        return self.agreed.has_sack and bool(seg.options.blocks)
+
+    def take_blocks(self, seg):
+        """Blocks of what is in flight (RFC 2018, section 5)."""
+        for block in seg.options.blocks if self.has_blocks(seg) else ():
+            first, end = (distance(number, self.snd_una) for number in block)
+            is_right = self.is_in_flight(first, end)
+            self.met.append("SACK" if is_right else "bad SACK")
+            if is_right:
+                self.scoreboard.add(first, end)
 
     def answer(self, reply, has_moved, is_special):
         """The acknowledgement goes at once, by the next `tick`, or later (RFC 5681, section 4.2)."""
@@ -287,9 +307,16 @@ class Socket:
             self.edge = room_edge
         return seg._replace(window=self.rcv_wnd)
 
+    def is_in_flight(self, first, end):
+        return first < end <= self.flight
+
     # Timers
 
     def tick(self):
+        return self.packet(self.next())
+
+    def next(self):
+        """The segment that is due."""
         if self.state in NO_PEER:
             return None
         if self.now >= self.ends_at:
@@ -312,7 +339,7 @@ class Socket:
             return self.time_out()
         if self.resend:
             return self.send_first()
-        return self.send_next() or self.acknowledge() or self.keep_alive_probe()
+        return self.send_hole() or self.send_next() or self.acknowledge() or self.keep_alive_probe()
 
     def time_what_waits(self):
         if not self.is_waiting:
@@ -331,36 +358,55 @@ class Socket:
         self.met.append("window probe" if not self.snd_wnd else "time-out" if self.flight else "override")
         if self.flight and self.snd_wnd:
             self.congestion.on_timeout(self.flight, self.snd_nxt)
-        self.cursor = 0
+        self.timing = None
+        self.go_back()
         self.resend_at = self.now + self.rto.timeout
-        seg = self.send_first()
-        if not self.snd_wnd:
-            self.cursor = 0
-        return seg
+        return self.send_first() if self.snd_wnd else self.advertised(self.connection.send(0, 1))
+
+    def go_back(self):
+        """All in flight goes again, also what the peer had after a gap: it may have dropped that (RFC 2018, section 8)."""
+        self.cursor, self.resend, self.scoreboard, self.rescued = 0, False, self.board(), 0
+
+    def send_again(self, offset, count):
+        """Items that were sent before, from this one after SND.UNA on. They are not timed (RFC 6298, section 3)."""
+        self.timing = None
+        seg = self.connection.send(offset, count)
+        end = offset + seg.length
+        self.cursor, self.rescued = max(self.cursor, end), max(self.rescued, end)
+        return self.advertised(seg)
 
     def send_first(self):
-        self.resend, self.timing = False, None
-        seg = self.connection.send(0, max(1, min(self.snd_wnd, self.mss)))
-        self.cursor = max(self.cursor, seg.length)
-        return self.advertised(seg)
+        self.resend = False
+        return self.send_again(0, max(1, min(self.snd_wnd, self.congestion.cwnd, self.most)))
+
+    def send_hole(self):
+        """In fast recovery: what was not sent again, before something that the peer has (RFC 6675, section 4, NextSeg 1)."""
+        hole = self.scoreboard.hole(self.rescued) if self.congestion.is_recovering else None
+        count = min(hole[1], self.most, self.congestion.may_send(self.snd_wnd, hole[0])) if hole else 0
+        if not count:
+            return None
+        self.met.append("hole")
+        return self.send_again(hole[0], count)
 
     def send_next(self):
         flight = self.flight
         available = flight - self.cursor + self.unsent
-        count = min(self.mss, self.congestion.may_send(self.snd_wnd, self.cursor), available)
+        count = min(self.most, self.congestion.may_send(self.snd_wnd, self.cursor), available)
         if not count or not self.is_worth(count, available):
             return None
-        self.met.append("goes on" if self.cursor == flight else "goes back")
+        if self.cursor < flight:
+            self.met.append("goes back")
+            return self.send_again(self.cursor, count)
+        self.met.append("goes on")
         seg = self.connection.send(self.cursor, count)
-        if self.cursor == flight and not self.timing:
-            self.timing = (seg.seq + seg.length) & MASK, self.now
+        self.timing = self.timing or ((seg.seq + seg.length) & MASK, self.now)
         self.cursor += seg.length
         return self.advertised(seg)
 
     def is_worth(self, count, available):
         """Nagle's algorithm, and the avoidance of silly windows (RFC 9293, section 3.8.6.2.1)."""
         is_last = count == available and (self.is_eager or not self.flight or self.is_closed)
-        return self.cursor < self.flight or count == self.mss or is_last or 2 * count >= self.max_window
+        return self.cursor < self.flight or count == self.most or is_last or 2 * count >= self.max_window
 
     def acknowledge(self):
         is_due = self.ack_at is not None and self.ack_at <= self.now

@@ -1,1 +1,2 @@
--- The files with lemmas: none.
+pub mod Limited
+pub mod Ranges

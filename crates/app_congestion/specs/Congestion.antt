@@ -1,24 +1,27 @@
--- The congestion window (RFC 5681) with NewReno (RFC 6582): what each event makes of it, in bytes.
+-- The congestion window (RFC 5681) with NewReno (RFC 6582) and limited transmit (RFC 3042): what each event makes of it, in
+-- bytes.
 -- Pinned by: `congestion/windows`
 use Rattle.std.specs.Prelude.{ℕ, ◌+◌, ◌-◌, ◌*◌, ◌/◌, ◌%◌, ◌==◌, ◌&&◌, Bool, true, false, not, nat_lt, if◌then◌else◌, min, max}
 use Rattle.app_congestion.specs.declared.congestion.Congestion.{Congestion}
 use Rattle.app_congestion.specs.declared.phase.Phase.{Phase}
 use Rattle.app_congestion.specs.declared.phase.Phase.TheVariants.{Open, Recovery, Recovered}
 
--- A sender: SMSS, cwnd, ssthresh, the bytes acknowledged since cwnd grew, the duplicate acknowledgements, fast recovery and
--- `recover`, and whether the timer has sent the first segment again. `recover` is one more than in RFC 6582: a next number.
+-- A sender: SMSS, cwnd, ssthresh, the bytes acknowledged since cwnd grew, the duplicate acknowledgements, FlightSize at the
+-- first of them, fast recovery and `recover`, and whether the timer has sent the first segment again. `recover` is one more
+-- than in RFC 6582: a next number. cwnd includes the segments that limited transmit allows, until new data is acknowledged.
 pub record Sender : Type 0 where
   pub mss : ℕ
   pub cwnd : ℕ
   pub ssthresh : ℕ
   pub acked : ℕ
   pub duplicates : ℕ
+  pub first_flight : ℕ
   pub phase : Phase
   pub is_resent : Bool
 
 -- the sender that the state stands for
 abbrev pub sender_of : Congestion → Sender
-sender_of c = record { mss = c.mss; cwnd = c.cwnd; ssthresh = c.ssthresh; acked = c.acked; duplicates = c.duplicates; phase = c.phase; is_resent = c.is_resent }
+sender_of c = record { mss = c.mss; cwnd = c.cwnd; ssthresh = c.ssthresh; acked = c.acked; duplicates = c.duplicates; first_flight = c.first_flight; phase = c.phase; is_resent = c.is_resent }
 
 -- at most the largest window
 abbrev pub capped : ℕ → ℕ
@@ -30,7 +33,7 @@ initial_window mss = min (10 * mss) (max (2 * mss) 14600)
 
 -- a sender that begins (RFC 5681, section 3.1)
 abbrev pub begins : ℕ → Sender
-begins mss = record { mss = mss; cwnd = initial_window mss; ssthresh = 1073741824; acked = 0; duplicates = 0; phase = Open; is_resent = false }
+begins mss = record { mss = mss; cwnd = initial_window mss; ssthresh = 1073741824; acked = 0; duplicates = 0; first_flight = 0; phase = Open; is_resent = false }
 
 -- whether a is before b (RFC 9293, section 3.4)
 abbrev pub is_earlier : ℕ → ℕ → Bool
@@ -42,7 +45,7 @@ halved s flight = capped (max (flight / 2) (2 * s.mss))
 
 -- slow start (RFC 5681, section 3.1, equation 2)
 abbrev pub slow_start : Sender → ℕ → Sender
-slow_start s newly = record s { cwnd = capped (s.cwnd + min newly s.mss) }
+slow_start s newly = record s { acked = 0; cwnd = capped (s.cwnd + min newly s.mss) }
 
 -- congestion avoidance (RFC 5681, section 3.1): when as many bytes as cwnd are acknowledged, it grows
 abbrev pub avoidance : Sender → ℕ → Sender
@@ -79,18 +82,30 @@ acknowledged_in Open s newly flight una = grown s newly
 acknowledged_in (Recovered recover) s newly flight una = grown (record s { phase = outside_of recover una }) newly
 acknowledged_in (Recovery recover) s newly flight una = if is_earlier una recover then partial s newly else full s flight recover una
 
--- an acknowledgement of `newly` bytes, after which `flight` bytes are in flight (FlightSize) from `una` on
-abbrev pub acknowledged : Sender → ℕ → ℕ → ℕ → Sender
-acknowledged s newly flight una =
-    if newly == 0
-    then s
-    else acknowledged_in s.phase (record s { duplicates = 0; is_resent = false }) newly flight una
-
 -- whether the sender is in fast recovery
 abbrev pub is_in_recovery : Phase → Bool
 is_in_recovery Open = false
 is_in_recovery (Recovered recover) = false
 is_in_recovery (Recovery recover) = true
+
+-- the segments that limited transmit allows: one for each of the first two duplicate acknowledgements (RFC 3042, section 2)
+abbrev pub limited : Sender → ℕ
+limited s = min 2 s.duplicates * s.mss
+
+-- cwnd without them, and at least a segment: cwnd must not be changed when they are sent (RFC 3042, section 2)
+abbrev pub unchanged : Sender → ℕ
+unchanged s = max s.mss (s.cwnd - limited s)
+
+-- New data is acknowledged: no duplicate acknowledgements any more. In fast recovery cwnd was set anew.
+abbrev pub heard : Sender → Sender
+heard s = record s { cwnd = if is_in_recovery s.phase then s.cwnd else unchanged s; duplicates = 0; is_resent = false }
+
+-- an acknowledgement of `newly` bytes, after which `flight` bytes are in flight (FlightSize) from `una` on
+abbrev pub acknowledged : Sender → ℕ → ℕ → ℕ → Sender
+acknowledged s newly flight una =
+    if newly == 0
+    then s
+    else acknowledged_in s.phase (heard s) newly flight una
 
 -- whether it is a partial acknowledgement
 abbrev pub is_partial : Phase → ℕ → Bool
@@ -106,12 +121,25 @@ fast_retransmit s flight next = record s { ssthresh = halved s flight; cwnd = ca
 abbrev pub is_third : Sender → ℕ → Bool
 is_third s una = s.duplicates == 2 && is_past s.phase una
 
+-- limited transmit (RFC 5681, section 3.2, step 1; RFC 3042, section 2): FlightSize may be a segment more
+abbrev pub limited_transmit : Sender → ℕ → Sender
+limited_transmit s flight =
+    record s { cwnd = capped (s.cwnd + s.mss); duplicates = s.duplicates + 1; first_flight = if s.duplicates == 0 then flight else s.first_flight }
+
+-- the third duplicate acknowledgement: what limited transmit sent does not count for ssthresh (RFC 5681, section 3.2, step 2)
+abbrev pub third : Sender → ℕ → ℕ → Sender
+third s flight next = fast_retransmit (record s { duplicates = 3 }) (min s.first_flight flight) next
+
 -- a duplicate acknowledgement; in fast recovery (RFC 5681, section 3.2, step 4) it inflates cwnd
 abbrev pub duplicated : Sender → ℕ → ℕ → ℕ → Sender
 duplicated s flight una next =
     if is_in_recovery s.phase
     then record s { cwnd = capped (s.cwnd + s.mss) }
-    else (if is_third s una then fast_retransmit (record s { duplicates = 3 }) flight next else record s { duplicates = min 255 (s.duplicates + 1) })
+    else if nat_lt s.duplicates 2
+    then limited_transmit s flight
+    else if is_third s una
+    then third s flight next
+    else record s { duplicates = min 255 (s.duplicates + 1) }
 
 -- the retransmission timer expires (RFC 5681, section 3.1, equation 4; RFC 6582, section 3.2, step 4)
 abbrev pub timed_out : Sender → ℕ → ℕ → Sender

@@ -1,2 +1,4 @@
 pub mod Rto
 pub mod Congestion
+pub mod Scoreboard
+pub mod Fields

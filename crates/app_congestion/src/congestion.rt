@@ -1,4 +1,4 @@
-//! The congestion window (RFC 5681) with NewReno (RFC 6582), in bytes.
+//! The congestion window (RFC 5681) with NewReno (RFC 6582) and limited transmit (RFC 3042), in bytes.
 
 ghost use Rattle.std.specs.Prelude.{◌≤◌, ◌<◌, ◌*◌};
 
@@ -9,20 +9,25 @@ pub const MAX_CWND: u32 = 1 << 30;
 
 // How many duplicate acknowledgements are a loss.
 const THRESHOLD: u8 = 3;
+// For how many of them limited transmit sends a segment.
+const LIMITED: u8 = 2;
 
 /// How much a sender may have in flight, with a call for each event.
 #[derive(Debug, Clone, Copy)]
 pub struct Congestion {
     // SMSS
-    mss: u32,
-    cwnd: u32,
-    ssthresh: u32,
+    pub(crate) mss: u32,
+    // With the segments that limited transmit allows, until new data is acknowledged.
+    pub(crate) cwnd: u32,
+    pub(crate) ssthresh: u32,
     // Bytes acknowledged in congestion avoidance since cwnd grew.
-    acked: u32,
-    duplicates: u8,
-    phase: Phase,
+    pub(crate) acked: u32,
+    pub(crate) duplicates: u8,
+    // FlightSize at the first of them.
+    pub(crate) first_flight: u32,
+    pub(crate) phase: Phase,
     // Whether the timer has sent the first segment again.
-    is_resent: bool,
+    pub(crate) is_resent: bool,
     ghost some: { 1 ≤ mss },
     ghost small: { mss ≤ 65535 },
     ghost low: { mss ≤ cwnd },
@@ -34,7 +39,7 @@ pub struct Congestion {
 
 impl Congestion {
     ghost use Rattle.std.specs.Prelude.{◌≡◌, ◌+◌, ◌/◌, ◌==◌, ◌&&◌, not, max, min, true, false};
-    ghost use Rattle.app_congestion.specs.Congestion.{sender_of, begins, halved, capped, is_past, is_partial, is_in_recovery, is_third, grown, partial, acknowledged, duplicated, timed_out, restarted};
+    ghost use Rattle.app_congestion.specs.Congestion.{sender_of, begins, halved, capped, is_past, is_partial, is_in_recovery, is_third, grown, unchanged, partial, acknowledged, duplicated, timed_out, restarted};
 
     /// A connection with this maximum segment size (SMSS); 0 counts as 1. Its initial window is that of RFC 6928: 10 segments
     /// of up to 1,460 bytes.
@@ -48,12 +53,21 @@ impl Congestion {
             ssthresh: MAX_CWND,
             acked: 0,
             duplicates: 0,
+            first_flight: 0,
             phase: Phase::Open,
             is_resent: false,
         }
     }
 
-    /// The congestion window (cwnd): from one segment to `MAX_CWND`.
+    /// The path takes smaller segments (RFC 1191, RFC 8201): SMSS is at most this one; 0 counts as 1.
+    pub fn lower_mss(&mut self, mss: u16)
+        ensures { sender_of self.new ≡ record (sender_of self.old) { mss = min (max 1 mss) self.old.mss } }
+    {
+        self.mss = self.mss.min(u32::from(mss.max(1)));
+    }
+
+    /// The congestion window (cwnd): from one segment to `MAX_CWND`. After a first or second duplicate acknowledgement it
+    /// includes what limited transmit allows.
     pub fn cwnd(&self) -> u32
         ensures value { result ≡ self.now.cwnd }
         ensures low { self.now.mss ≤ result }
@@ -70,6 +84,13 @@ impl Congestion {
         self.ssthresh
     }
 
+    /// Whether it is in fast recovery.
+    pub fn is_recovering(&self) -> bool
+        ensures { result ≡ is_in_recovery self.now.phase }
+    {
+        matches!(self.phase, Phase::Recovery(_))
+    }
+
     /// How many bytes may be sent, with `flight` bytes in flight and this window of the receiver (SND.WND).
     pub fn may_send(&self, window: u32, flight: u32) -> u32
         ensures { result + flight ≡ max flight (min window self.now.cwnd) }
@@ -78,8 +99,8 @@ impl Congestion {
     }
 
     /// An acknowledgement of `newly` bytes, which leaves `flight` bytes in flight from `una` on (SND.UNA). That of the SYN does
-    /// not count (RFC 6928, section 2). Returns whether to send the segment at `una` again now: in fast recovery, after a
-    /// partial acknowledgement (RFC 6582, section 3.2).
+    /// not count (RFC 6928, section 2). Takes away again what limited transmit allowed. Returns whether to send the segment at
+    /// `una` again now: in fast recovery, after a partial acknowledgement (RFC 6582, section 3.2).
     pub fn on_ack(&mut self, newly: u32, flight: u32, una: u32) -> bool
         ensures sender { sender_of self.new ≡ acknowledged (sender_of self.old) newly flight una }
         ensures again { result ≡ (not (newly == 0) && is_partial self.old.phase una) }
@@ -89,7 +110,6 @@ impl Congestion {
         if newly == 0 {
             return false;
         }
-        self.duplicates = 0;
         self.is_resent = false;
         match self.phase {
             Phase::Open => self.grow(newly),
@@ -98,6 +118,7 @@ impl Congestion {
                 self.grow(newly);
             }
             Phase::Recovery(recover) => {
+                self.duplicates = 0;
                 if is_before(una, recover) {
                     self.deflate(newly);
                     return true;
@@ -113,7 +134,8 @@ impl Congestion {
     }
 
     /// A duplicate acknowledgement (RFC 5681, section 2) with `flight` bytes in flight from `una` on (SND.UNA). `next` is the
-    /// number after the highest one that was sent. Returns whether to send the segment at `una` again now (fast retransmit).
+    /// number after the highest one that was sent. The first and the second one allow a segment more (limited transmit, RFC
+    /// 3042). Returns whether to send the segment at `una` again now (fast retransmit).
     pub fn on_duplicate(&mut self, flight: u32, una: u32, next: u32) -> bool
         ensures sender { sender_of self.new ≡ duplicated (sender_of self.old) flight una next }
         ensures again { result ≡ (not (is_in_recovery self.old.phase) && is_third (sender_of self.old) una) }
@@ -124,11 +146,18 @@ impl Congestion {
             self.widen(self.mss);
             return false;
         }
+        if self.duplicates == 0 {
+            self.first_flight = flight;
+        }
         self.duplicates = self.duplicates.saturating_add(1);
+        if self.duplicates <= LIMITED {
+            self.widen(self.mss);
+            return false;
+        }
         if self.duplicates != THRESHOLD || !self.is_past(una) {
             return false;
         }
-        self.ssthresh = self.half(flight);
+        self.ssthresh = self.half(flight.min(self.first_flight));
         self.cwnd = (self.ssthresh + 3 * self.mss).min(MAX_CWND);
         self.acked = 0;
         self.phase = Phase::Recovery(next);
@@ -168,20 +197,30 @@ impl Congestion {
         self.acked = 0;
     }
 
-    // New data is acknowledged outside fast recovery.
+    // New data is acknowledged outside fast recovery: the window grows from what it was before limited transmit.
     fn grow(&mut self, newly: u32)
-        ensures { sender_of self.new ≡ grown (sender_of self.old) newly }
+        ensures { sender_of self.new ≡ grown (record (sender_of self.old) { cwnd = unchanged (sender_of self.old); duplicates = 0 }) newly }
     {
-        if self.cwnd < self.ssthresh {
-            self.widen(newly.min(self.mss));
-            return;
-        }
-        if newly < self.cwnd - self.acked {
+        let cwnd = self.unchanged();
+        self.duplicates = 0;
+        if cwnd < self.ssthresh {
+            self.acked = 0;
+            self.cwnd = (cwnd + newly.min(self.mss)).min(MAX_CWND);
+        } else if newly < cwnd.saturating_sub(self.acked) {
             self.acked += newly;
+            self.cwnd = cwnd;
         } else {
             self.acked = 0;
-            self.widen(self.mss);
+            self.cwnd = (cwnd + self.mss).min(MAX_CWND);
         }
+    }
+
+    // The window without the segments that limited transmit allows.
+    fn unchanged(&self) -> u32
+        ensures { result ≡ unchanged (sender_of self.now) }
+    {
+        let limited = u32::from(self.duplicates.min(LIMITED)) * self.mss;
+        self.cwnd.saturating_sub(limited).max(self.mss)
     }
 
     // A larger window, at most the largest.

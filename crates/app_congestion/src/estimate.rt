@@ -6,12 +6,13 @@ ghost use Rattle.app_congestion.specs.Rto.{sampled, timeout_of};
 use crate::rto::{MAX_RTO, MIN_RTO};
 
 // SRTT and RTTVAR, in milliseconds.
+#[repr(C)]
 #[derive(Debug, Clone, Copy, PartialEq, Eq)]
 pub(crate) struct Estimate {
     // 8 * SRTT
-    srtt_8: u64,
+    pub(crate) srtt_8: u64,
     // 4 * RTTVAR
-    rttvar_4: u64,
+    pub(crate) rttvar_4: u64,
 }
 
 impl Estimate {

@@ -27,6 +27,26 @@ pub fn avoidance_adds_a_segment_per_window(c: &mut Congestion, acks: &[(u32, u32
     }
 }
 
+/// Once new data is acknowledged, cwnd is what it would be without a duplicate acknowledgement that sent nothing again outside
+/// fast recovery (RFC 3042, section 2). Returns whether it sent something again, and cwnd without it. The triples are what
+/// `on_duplicate` and `on_ack` take.
+pub fn a_duplicate_leaves_cwnd(
+    c: &mut Congestion,
+    duplicate: (u32, u32, u32),
+    ack: (u32, u32, u32),
+) -> (bool, u32)
+    requires outside { is_in_recovery c.old.phase ≡ false }
+    requires room { c.old.cwnd + c.old.mss ≤ 1073741824 }
+    requires acknowledges { 1 ≤ ack.0 }
+    ensures { result.0 ≡ false → c.new.cwnd ≡ result.1 }
+{
+    let mut other = *c;
+    let again = c.on_duplicate(duplicate.0, duplicate.1, duplicate.2);
+    let _ = c.on_ack(ack.0, ack.1, ack.2);
+    let _ = other.on_ack(ack.0, ack.1, ack.2);
+    (again, other.cwnd())
+}
+
 /// In and after fast recovery, and after a time-out, duplicate acknowledgements of no more than `recover` send nothing again
 /// (RFC 6582, section 3.2).
 pub fn old_duplicates_send_nothing_again(

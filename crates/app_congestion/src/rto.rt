@@ -19,8 +19,8 @@ const RTO_AFTER_SYN: u32 = 3_000;
 /// The timeout of the retransmission timer. The caller runs the timer (section 5).
 #[derive(Debug, Clone, Copy)]
 pub struct Rto {
-    estimate: Option<Estimate>,
-    timeout: u32,
+    pub(crate) estimate: Option<Estimate>,
+    pub(crate) timeout: u32,
     ghost low: { 200 ≤ timeout },
     ghost high: { timeout ≤ 60000 },
 }

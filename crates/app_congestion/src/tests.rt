@@ -1,4 +1,5 @@
 //! Tests of both.
 
 mod rto;
+mod scoreboard;
 mod windows;

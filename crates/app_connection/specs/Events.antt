@@ -1,7 +1,9 @@
 -- The events of a connection.
 -- Pinned by: `connection/figures`
-use Rattle.std.specs.Prelude.{ℕ, ◌≡◌, ◌⊎◌, ◌<◌, length, Bool, if◌then◌else◌}
+use Rattle.std.specs.Prelude.{ℕ, ◌≡◌, ◌⊎◌, ◌<◌, length, Bool, false, not, if◌then◌else◌}
 use Rattle.tcp_model.specs.Network.{World, Close, happens}
+use Rattle.app_tcp.specs.Waits.{from_of}
+use Rattle.app_tcp.specs.declared.sending.Sending.{Sending}
 use Rattle.app_connection.specs.Endpoints.{control_of}
 use Rattle.app_connection.specs.SetUp.{Endpoint, In_closed, In_listen, In_syn_sent, hears}
 use Rattle.app_connection.specs.Worlds.{Arrives}
@@ -43,3 +45,30 @@ IsMove (event.Arrives segment iss) window old new = (new ≡ hears old (control_
 IsMove (event.Send offset count) window old new = new ≡ old
 IsMove event.Close window old new = (new ≡ old) ⊎ (new ≡ In_closed)
 IsMove event.Abort window old new = new ≡ In_closed
+
+-- the caller has a segment sent: no other event lets text or a FIN go
+abbrev pub IsSending : Event → Type 0
+IsSending event.Listen = ⊥
+IsSending (event.Open iss) = ⊥
+IsSending (event.Arrives segment iss) = ⊥
+IsSending (event.Send offset count) = Unit {0}
+IsSending event.Close = ⊥
+IsSending event.Abort = ⊥
+
+-- The item from which the segment of an event is cut. The segments of the other events have no items.
+abbrev pub cut_from : Event → Sending → ℕ
+cut_from event.Listen s = 0
+cut_from (event.Open iss) s = 0
+cut_from (event.Arrives segment iss) s = 0
+cut_from (event.Send offset count) s = from_of s offset
+cut_from event.Close s = 0
+cut_from event.Abort s = 0
+
+-- Whether an event begins another connection: an active open of an endpoint without a peer.
+abbrev pub begins : Event → Bool → Bool
+begins event.Listen has = false
+begins (event.Open iss) has = not has
+begins (event.Arrives segment iss) has = false
+begins (event.Send offset count) has = false
+begins event.Close has = false
+begins event.Abort has = false

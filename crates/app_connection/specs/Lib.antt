@@ -4,3 +4,4 @@ pub mod Endpoints
 pub mod States
 pub mod Worlds
 pub mod Events
+pub mod Fields

@@ -2,7 +2,7 @@
 
 ghost use Rattle.std.specs.Prelude.{◌≡◌, nat_lt, ◌+◌, ◌%◌, ◌≤◌, ◌<◌, ◌++◌, ◌⊎◌, ℕ, List, [], length, true, false, IfSome, Some, None, max, take};
 ghost use Rattle.tcp_model.specs.Network.{World, Event, Close, Write, Send, happens, run, start, IsPrefixOf};
-ghost use Rattle.app_tcp.specs.Stands.{Stands, room_of, IsAnswer};
+ghost use Rattle.app_tcp.specs.Stands.{Stands, reach, room_of, IsAnswer};
 ghost use Rattle.app_tcp.specs.Waits.{Waits, IsSend, from_of, unsent_of};
 ghost use Rattle.app_tcp.specs.Items.{items_of};
 ghost use Rattle.app_connection.specs.declared.state.Phase.TheVariants.{Open};
@@ -108,7 +108,23 @@ impl Connection {
         ensures rings { result ≡ true → InFits self.now.receiving incoming }
         ensures all { OutFits self.now.sending outgoing → InFits self.now.receiving incoming → result ≡ true }
     {
-        self.sending.fits(outgoing) && self.receiving.fits(incoming)
+        self.fits_outgoing(outgoing) && self.fits_incoming(incoming)
+    }
+
+    /// Whether the ring of what is sent has a size that fits.
+    pub fn fits_outgoing(&self, outgoing: usize) -> bool
+        ensures some { result ≡ true → OutFits self.now.sending outgoing }
+        ensures all { OutFits self.now.sending outgoing → result ≡ true }
+    {
+        self.sending.fits(outgoing)
+    }
+
+    /// Whether the ring of what comes has a size that fits.
+    pub fn fits_incoming(&self, incoming: usize) -> bool
+        ensures some { result ≡ true → InFits self.now.receiving incoming }
+        ensures all { InFits self.now.receiving incoming → result ≡ true }
+    {
+        self.receiving.fits(incoming)
     }
 
     /// The passive open: CLOSED becomes LISTEN. Another state stays.
@@ -156,6 +172,7 @@ impl Connection {
     /// 0 in CLOSED, LISTEN and after `close`.
     pub fn write(&mut self, outgoing: &mut [u8], bytes: &[u8]) -> usize
         requires { OutFits self.old.sending (length outgoing.old) }
+        ensures few { result ≤ length bytes.now }
         ensures out { OutFits self.new.sending (length outgoing.old) }
         ensures receiving { self.new.receiving ≡ self.old.receiving }
         ensures endpoint { endpoint_of self.new ≡ endpoint_of self.old }
@@ -229,6 +246,7 @@ impl Connection {
         ensures sending { self.new.sending ≡ self.old.sending }
         ensures receiving { self.new.receiving ≡ self.old.receiving }
         ensures reset { IfSome result (λ r. r.rst ≡ true) }
+        ensures syn { IfSome result (λ r. r.syn ≡ false) }
     {
         let state = self.state();
         self.phase = Phase::Closed;
@@ -258,6 +276,7 @@ impl Connection {
         ensures receiving { self.new.receiving ≡ self.old.receiving }
         ensures endpoint { endpoint_of self.new ≡ endpoint_of self.old }
         ensures set_up { (self.old.phase ≡ Open → ⊥) → IfSome result (λ s. IsLegal (endpoint_of self.old) (record { number = s.number; ack = s.ack; syn = s.syn; rst = s.rst })) }
+        ensures text { (self.old.phase ≡ Open → ⊥) → IfSome result (λ s. (s.payload.now ≡ []) × (s.fin ≡ false)) }
         ensures after { self.old.phase ≡ Open → self.old.sending.flight < offset → (result ≡ None) × (self.new ≡ self.old) }
         ensures sends { self.old.phase ≡ Open → IfSome result (λ s. (there : World) → Waits there self.old.sending outgoing.now → IsSend there (from_of self.old.sending offset) s.number (items_of s.syn s.payload.now s.fin)) }
         ensures waits { (there : World) → Waits there self.old.sending outgoing.now → WaitsLater there self.new.sending outgoing.now }
@@ -287,6 +306,8 @@ impl Connection {
         ensures ack { result.ack ≡ ack }
         ensures syn { result.syn ≡ true }
         ensures rst { result.rst ≡ false }
+        ensures text { result.payload.now ≡ [] }
+        ensures fin { result.fin ≡ false }
     {
         Segment {
             number: self.iss,
@@ -345,6 +366,17 @@ impl Connection {
             syn: false,
             rst: false,
         }
+    }
+
+    /// The numbers of the bytes that are kept after a gap: the first, and the one after the last, as in a SACK block (RFC 2018,
+    /// section 3).
+    pub fn kept(&self) -> Option<(u32, u32)>
+        requires { reach self.now.receiving < 1073741824 }
+        ensures some { 0 < self.now.receiving.kept → result ≡ Some ((self.now.receiving.next + self.now.receiving.gap) % 4294967296, (self.now.receiving.next + self.now.receiving.gap + self.now.receiving.kept) % 4294967296) }
+        ensures none { self.now.receiving.kept ≡ 0 → result ≡ None }
+        ensures legal { (back : World) (consumed buffer : List ℕ) → InFits self.now.receiving (length buffer) → Stands back consumed self.now.receiving buffer → IfSome result (λ range. (range.0 ≡ back.later.number) × (range.1 ≡ (back.later.number + length back.later.items) % 4294967296)) }
+    {
+        self.receiving.kept()
     }
 
     /// Whether bytes of the peer are kept after a gap.

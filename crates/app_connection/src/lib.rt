@@ -4,6 +4,7 @@
 
 mod arrival;
 mod connection;
+mod fields;
 pub mod laws;
 mod segment;
 mod sequence;
@@ -11,6 +12,7 @@ mod state;
 mod step;
 
 pub use connection::Connection;
+pub use fields::ConnectionFields;
 pub use segment::{Reply, Segment};
 pub use state::State;
 pub use step::Event;

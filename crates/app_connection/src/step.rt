@@ -1,13 +1,15 @@
 //! One call for everything that can happen to a connection.
 
-ghost use Rattle.std.specs.Prelude.{◌≡◌, ℕ, List, length, false, IfSome};
+ghost use Rattle.std.specs.Prelude.{◌≡◌, ◌<◌, ◌⊎◌, ℕ, List, [], length, true, false, IfSome};
 ghost use Rattle.tcp_model.specs.Network.{World};
-ghost use Rattle.app_tcp.specs.Stands.{room_of};
+ghost use Rattle.app_tcp.specs.Items.{items_of};
+ghost use Rattle.app_tcp.specs.Stands.{Stands, room_of, IsAnswer};
+ghost use Rattle.app_tcp.specs.Waits.{Waits, IsSend};
 ghost use Rattle.app_connection.specs.declared.state.Phase.TheVariants.{Listen, Open};
-ghost use Rattle.app_connection.specs.Endpoints.{endpoint_of, spoken, IsLegal, OutFits, InFits, edge_of};
+ghost use Rattle.app_connection.specs.Endpoints.{endpoint_of, len_of, spoken, IsLegal, OutFits, InFits, edge_of};
 ghost use Rattle.app_connection.specs.Worlds.{Stand, Went};
-ghost use Rattle.app_connection.specs.Events.{IsShort, ComesBy, IsMove, called};
-ghost use Rattle.app_connection.specs.States.{may_close, state_from};
+ghost use Rattle.app_connection.specs.Events.{IsShort, ComesBy, IsMove, IsSending, begins, called, cut_from};
+ghost use Rattle.app_connection.specs.States.{has_peer, may_close, state_from};
 
 use crate::connection::Connection;
 use crate::segment::{Reply, Segment};
@@ -46,6 +48,10 @@ impl Connection {
         ensures moves { IsMove event.entry (room_of self.old.receiving (length incoming.old)) (endpoint_of self.old) (endpoint_of self.new) }
         ensures edge { self.old.phase ≡ Open → self.old.receiving.has_fin ≡ false → self.new.receiving.has_fin ≡ false → edge_of self.new.receiving (length incoming.old) ≡ edge_of self.old.receiving (length incoming.old) }
         ensures legal { (self.old.phase ≡ Open → ⊥) → IfSome (spoken result) (λ r. IsLegal (endpoint_of self.new) r) }
+        ensures text { (self.old.phase ≡ Open → IsSending event.entry → ⊥) → IfSome result (λ s. (s.payload.now ≡ []) × (s.fin ≡ false)) }
+        ensures bare { self.old.phase ≡ Open → (IsSending event.entry → ⊥) → begins event.entry (has_peer (state_from self.old)) ≡ false → IfSome result (λ s. len_of s ≡ 0) }
+        ensures sends { self.old.phase ≡ Open → begins event.entry (has_peer (state_from self.old)) ≡ false → IfSome result (λ s. 0 < len_of s → (there : World) → Waits there self.old.sending outgoing.now → IsSend there (cut_from event.entry self.old.sending) s.number (items_of s.syn s.payload.now s.fin)) }
+        ensures answers { self.old.phase ≡ Open → IfSome result (λ s. (back : World) (consumed : List ℕ) → Stands back consumed self.new.receiving incoming.new → (s.rst ≡ true) ⊎ IfSome s.ack (λ number. IsAnswer back number)) }
     {
         let reply = match event {
             Event::Send(offset, count) => {
@@ -74,7 +80,8 @@ impl Connection {
         reply: Option<Reply>,
     ) -> Option<Segment<'a>>
         requires { InFits self.now.receiving incoming }
-        ensures { spoken result ≡ reply }
+        ensures spoken { spoken result ≡ reply }
+        ensures text { IfSome result (λ s. (s.payload.now ≡ []) × (s.fin ≡ false)) }
     {
         let Some(reply) = reply else {
             return None;

@@ -10,7 +10,7 @@ use Rattle.app_socket.specs.declared.step.Event.TheVariants as event
 abbrev pub IsShort : Event → Type 0
 IsShort event.Listen = Unit {0}
 IsShort (event.Open iss) = Unit {0}
-IsShort (event.Arrives segment fresh) = length segment.now.payload.now < 65536
+IsShort (event.Arrives segment options fresh) = length segment.now.payload.now < 65536
 IsShort event.Close = Unit {0}
 IsShort event.Abort = Unit {0}
 IsShort event.Tick = Unit {0}
@@ -19,7 +19,7 @@ IsShort event.Tick = Unit {0}
 abbrev pub move_of : Event → Move
 move_of event.Listen = move.Listen
 move_of (event.Open iss) = move.Open iss
-move_of (event.Arrives segment fresh) = move.Arrives segment fresh
+move_of (event.Arrives segment options fresh) = move.Arrives segment fresh
 move_of event.Close = move.Close
 move_of event.Abort = move.Abort
 move_of event.Tick = move.Send 0 0
@@ -28,7 +28,7 @@ move_of event.Tick = move.Send 0 0
 abbrev pub IsTick : Event → Type 0
 IsTick event.Listen = ⊥
 IsTick (event.Open iss) = ⊥
-IsTick (event.Arrives segment fresh) = ⊥
+IsTick (event.Arrives segment options fresh) = ⊥
 IsTick event.Close = ⊥
 IsTick event.Abort = ⊥
 IsTick event.Tick = Unit {0}
@@ -37,7 +37,7 @@ IsTick event.Tick = Unit {0}
 abbrev pub IsQuiet : Event → Type 0
 IsQuiet event.Listen = Unit {0}
 IsQuiet (event.Open iss) = ⊥
-IsQuiet (event.Arrives segment fresh) = ⊥
+IsQuiet (event.Arrives segment options fresh) = ⊥
 IsQuiet event.Close = Unit {0}
 IsQuiet event.Abort = Unit {0}
 IsQuiet event.Tick = Unit {0}

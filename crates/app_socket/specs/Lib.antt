@@ -1,4 +1,6 @@
 pub mod Events
+pub mod Fields
 pub mod Times
 pub mod Window
 pub mod Pieces
+pub mod Segments

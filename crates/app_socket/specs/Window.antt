@@ -39,8 +39,9 @@ is_update_due edge next room least = nat_lt (promised edge next) least && (not (
 abbrev pub HasRoom : ℕ → Receiving → ℕ → Type 0
 HasRoom edge r size = is_ahead edge (edge_of r size) ≡ true
 
--- A segment acknowledges all that came (RCV.NXT), and tells the window. The right edge that is told last never goes back, and it is that of the segment, unless
--- the room ends before it, as it does after the peer's FIN. Never more is told than there is room for.
+-- A segment acknowledges all that came (RCV.NXT), and tells the window. The right edge that is told last never goes back, and
+-- it is that of the segment, unless the room ends before it, as it does after the peer's FIN. Never more is told than there is
+-- room for.
 pub record Tells (old new : ℕ) (r : Receiving) (size ack window : ℕ) : Type 0 where
   pub next : ack ≡ r.next
   pub forward : is_ahead old new ≡ true

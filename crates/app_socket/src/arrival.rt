@@ -1,17 +1,27 @@
 //! A segment arrives.
 
-ghost use Rattle.std.specs.Prelude.{false, ◌≤◌, None, max, ◌≡◌, ◌<◌, ℕ, List, length, true, IfSome};
+ghost use Rattle.std.specs.Prelude.{[], false, ◌≤◌, None, max, ◌≡◌, ◌<◌, ◌⊎◌, ℕ, List, is_some, length, true, IfSome};
 ghost use Rattle.tcp_model.specs.Network.{World};
 ghost use Rattle.app_connection.specs.declared.state.Phase.TheVariants.{Listen};
-ghost use Rattle.app_connection.specs.Endpoints.{OutFits, InFits};
+ghost use Rattle.app_tcp.specs.Stands.{Stands, IsAnswer};
+ghost use Rattle.app_connection.specs.Endpoints.{OutFits, InFits, len_of};
 ghost use Rattle.app_connection.specs.States.{state_from};
 ghost use Rattle.app_connection.specs.Worlds.{Arrives, Stand, Went};
+ghost use Rattle.app_socket.specs.Segments.{rejects};
 ghost use Rattle.app_socket.specs.Times.{is_open, later, patience_of};
 ghost use Rattle.app_socket.specs.Window.{HasRoom, Tells};
 
 use crate::socket::Socket;
 use crate::tick::is_open;
 use app_connection::{Event as Move, Segment, State};
+use app_options::{Agreed, peer_mss};
+use wire_tcp_options::TcpOptionSummary;
+
+// Half of the sequence numbers.
+const HALF: u32 = 1 << 31;
+
+// How many segments one acknowledgement counts for at most: receivers hold back no more than that.
+const MAX_SEGMENTS: u32 = 64;
 
 // What a connection was before the segment.
 #[derive(Debug, Clone, Copy)]
@@ -33,27 +43,36 @@ impl Before {
         !segment.rst && segment.number.wrapping_sub(self.next) <= self.room.saturating_add(1)
     }
 
-    // Whether it is a duplicate acknowledgement (RFC 5681, section 2). One with a closed window answers a probe.
-    fn is_duplicate(&self, segment: &Segment) -> bool {
+    // Whether it is taken with its SACK option.
+    fn has_sack(&self, segment: &Segment, options: &TcpOptionSummary) -> bool {
+        self.is_near(segment)
+            && !segment.syn
+            && segment.ack.is_some()
+            && options.sack_ranges[0].is_some()
+    }
+
+    // Whether it is a duplicate acknowledgement (RFC 5681, section 2), or has a SACK block, also with text (RFC 6675, section 2).
+    // One with a closed window answers a probe.
+    fn is_duplicate(&self, segment: &Segment, has_sack: bool) -> bool {
+        let is_bare = segment.payload.is_empty() && !segment.fin && segment.window == self.window;
         self.flight > 0
             && self.window > 0
             && self.is_near(segment)
-            && segment.payload.is_empty()
             && !segment.syn
-            && !segment.fin
             && segment.ack == Some(self.una)
-            && segment.window == self.window
+            && (is_bare || has_sack)
     }
 }
 
 impl Socket {
-    // Takes a segment that comes, and returns what to send at once.
-    pub(crate) fn on_segment<'a>(
+    // Takes a segment with its options, unless its timestamp is too old.
+    pub(crate) fn on_arrival<'a>(
         &mut self,
         outgoing: &'a [u8],
         incoming: &mut [u8],
         now: u64,
         segment: &Segment,
+        options: &TcpOptionSummary,
         fresh: u32,
     ) -> Option<Segment<'a>>
         requires text { length segment.now.payload.now < 65536 }
@@ -65,6 +84,135 @@ impl Socket {
         ensures keeps { is_open (state_from self.old.connection) ≡ true → is_open (state_from self.new.connection) ≡ true → self.old.connection.receiving.has_fin ≡ false → self.new.connection.receiving.has_fin ≡ false → HasRoom self.old.edge self.old.connection.receiving (length incoming.old) → HasRoom self.new.edge self.new.connection.receiving (length incoming.old) }
         ensures acks { is_open (state_from self.old.connection) ≡ true → is_open (state_from self.new.connection) ≡ true → IfSome result (λ s. self.new.timers.ack_at ≡ None) }
         ensures patience { self.new.timers.ends_at ≤ max self.old.timers.ends_at (later now (patience_of self.old.options)) }
+        ensures text { IfSome result (λ s. (s.payload.now ≡ []) × (s.fin ≡ false)) }
+        ensures bare { is_open (state_from self.old.connection) ≡ true → IfSome result (λ s. len_of s ≡ 0) }
+        ensures answers { is_open (state_from self.old.connection) ≡ true → is_open (state_from self.new.connection) ≡ true → IfSome result (λ s. (back : World) (consumed : List ℕ) → Stands back consumed self.new.connection.receiving incoming.new → (s.rst ≡ true) ⊎ IfSome s.ack (λ number. IsAnswer back number)) }
+        ensures stale { rejects self.old now segment.now options.now ≡ true → self.new ≡ record self.old { timers = record self.old.timers { ack_at = self.new.timers.ack_at }; edge = self.new.edge } }
+        ensures answered { rejects self.old now segment.now options.now ≡ true → is_some result ≡ is_some options.now.timestamp }
+        ensures goes { (there back : World) (consumed : List ℕ) → (self.old.connection.phase ≡ Listen → ⊥) → (rejects self.old now segment.now options.now ≡ false → Arrives there back segment.now) → Stand there back consumed self.old.connection outgoing.now incoming.old → Went there back consumed self.new.connection outgoing.now incoming.new }
+    {
+        if self.is_stale(segment, options, now) {
+            return self.on_stale(outgoing, incoming.len(), options);
+        }
+        self.agree(segment, options, now, fresh);
+        let counts = self.is_timestamp_due(segment);
+        let scaled = self.scaled(segment);
+        let reply = self.on_segment(outgoing, incoming, now, &scaled, options, fresh);
+        if counts {
+            self.agreed.on_timestamp(options.timestamp, now);
+        }
+        reply
+    }
+
+    // Whether it may be a segment of an earlier round of the sequence numbers (PAWS; RFC 7323, section 5).
+    fn is_stale(&self, segment: &Segment, options: &TcpOptionSummary, now: u64) -> bool
+        ensures { result ≡ rejects self.now now segment.now options.now }
+    {
+        is_open(self.connection.state())
+            && !segment.rst
+            && !self.agreed.takes(options.timestamp, now)
+    }
+
+    // The answer to such a segment (section 5.3), and none to one without a timestamp (section 3.2).
+    fn on_stale<'a>(
+        &mut self,
+        outgoing: &'a [u8],
+        incoming: usize,
+        options: &TcpOptionSummary,
+    ) -> Option<Segment<'a>>
+        requires { InFits self.old.connection.receiving incoming }
+        ensures same { self.new ≡ record self.old { timers = record self.old.timers { ack_at = self.new.timers.ack_at }; edge = self.new.edge } }
+        ensures answered { is_some result ≡ is_some options.now.timestamp }
+        ensures tells { IfSome result (λ s. IfSome s.ack (λ ack. Tells self.old.edge self.new.edge self.old.connection.receiving incoming ack s.window)) }
+        ensures keeps { HasRoom self.old.edge self.old.connection.receiving incoming → HasRoom self.new.edge self.old.connection.receiving incoming }
+        ensures acks { IfSome result (λ s. self.new.timers.ack_at ≡ None) }
+        ensures text { IfSome result (λ s. (s.payload.now ≡ []) × (s.fin ≡ false)) }
+        ensures bare { IfSome result (λ s. len_of s ≡ 0) }
+        ensures answers { IfSome result (λ s. (back : World) (consumed buffer : List ℕ) → Stands back consumed self.old.connection.receiving buffer → IfSome s.ack (λ number. IsAnswer back number)) }
+    {
+        if options.timestamp.is_none() {
+            return None;
+        }
+        let number = self.connection.acknowledgement().number;
+        Some(self.acknowledge(outgoing, incoming, number))
+    }
+
+    // What the SYN of the peer says.
+    fn agree(&mut self, segment: &Segment, options: &TcpOptionSummary, now: u64, fresh: u32)
+        ensures same { self.new ≡ record self.old { agreed = self.new.agreed; limit = self.new.limit } }
+        ensures open { is_open (state_from self.old.connection) ≡ true → self.new ≡ self.old }
+    {
+        if !segment.syn {
+            return;
+        }
+        let state = self.connection.state();
+        if !matches!(state, State::Listen | State::SynSent) {
+            return;
+        }
+        if state == State::Listen {
+            self.agreed = Agreed::new(fresh);
+        }
+        self.agreed.on_syn(options, now);
+        self.limit = self.options.most().min(peer_mss(options));
+    }
+
+    // Whether the timestamp of the segment counts if it is taken (RFC 7323, section 4.3): it begins at or before the last
+    // number that was acknowledged, and is not all old.
+    fn is_timestamp_due(&self, segment: &Segment) -> bool
+        requires { length segment.now.payload.now < 65536 }
+    {
+        let next = self.next();
+        let is_acknowledged = self.timers.ack_at.is_none();
+        let end = segment.number.wrapping_add(segment.len());
+        is_open(self.connection.state())
+            && !segment.rst
+            && !segment.syn
+            && is_acknowledged
+            && next.wrapping_sub(segment.number) < HALF
+            && end.wrapping_sub(next) < HALF
+    }
+
+    // The segment with the window of the peer in bytes. That of a SYN is not scaled (RFC 7323, section 2.2).
+    fn scaled<'s>(&self, segment: &Segment<'s>) -> Segment<'s>
+        ensures { result ≡ record segment.now { window = result.window } }
+    {
+        Segment {
+            number: segment.number,
+            ack: segment.ack,
+            window: if segment.syn {
+                segment.window
+            } else {
+                self.agreed.window_in(segment.window)
+            },
+            syn: segment.syn,
+            rst: segment.rst,
+            fin: segment.fin,
+            payload: segment.payload,
+        }
+    }
+
+    // Takes a segment that comes, and returns what to send at once.
+    pub(crate) fn on_segment<'a>(
+        &mut self,
+        outgoing: &'a [u8],
+        incoming: &mut [u8],
+        now: u64,
+        segment: &Segment,
+        options: &TcpOptionSummary,
+        fresh: u32,
+    ) -> Option<Segment<'a>>
+        requires text { length segment.now.payload.now < 65536 }
+        requires out { OutFits self.old.connection.sending (length outgoing.now) }
+        requires rings { InFits self.old.connection.receiving (length incoming.old) }
+        ensures out { OutFits self.new.connection.sending (length outgoing.now) }
+        ensures rings { InFits self.new.connection.receiving (length incoming.old) }
+        ensures tells { is_open (state_from self.old.connection) ≡ true → is_open (state_from self.new.connection) ≡ true → IfSome result (λ s. IfSome s.ack (λ ack. Tells self.old.edge self.new.edge self.new.connection.receiving (length incoming.old) ack s.window)) }
+        ensures keeps { is_open (state_from self.old.connection) ≡ true → is_open (state_from self.new.connection) ≡ true → self.old.connection.receiving.has_fin ≡ false → self.new.connection.receiving.has_fin ≡ false → HasRoom self.old.edge self.old.connection.receiving (length incoming.old) → HasRoom self.new.edge self.new.connection.receiving (length incoming.old) }
+        ensures acks { is_open (state_from self.old.connection) ≡ true → is_open (state_from self.new.connection) ≡ true → IfSome result (λ s. self.new.timers.ack_at ≡ None) }
+        ensures patience { self.new.timers.ends_at ≤ max self.old.timers.ends_at (later now (patience_of self.old.options)) }
+        ensures text { IfSome result (λ s. (s.payload.now ≡ []) × (s.fin ≡ false)) }
+        ensures bare { is_open (state_from self.old.connection) ≡ true → IfSome result (λ s. len_of s ≡ 0) }
+        ensures answers { is_open (state_from self.old.connection) ≡ true → is_open (state_from self.new.connection) ≡ true → IfSome result (λ s. (back : World) (consumed : List ℕ) → Stands back consumed self.new.connection.receiving incoming.new → (s.rst ≡ true) ⊎ IfSome s.ack (λ number. IsAnswer back number)) }
         ensures goes { (there back : World) (consumed : List ℕ) → (self.old.connection.phase ≡ Listen → ⊥) → Arrives there back segment.now → Stand there back consumed self.old.connection outgoing.now incoming.old → Went there back consumed self.new.connection outgoing.now incoming.new }
     {
         let before = self.before(incoming.len());
@@ -78,7 +226,7 @@ impl Socket {
                 reply
             }
             _ => {
-                self.learn(&before, now, segment);
+                self.learn(&before, now, segment, options);
                 self.answer(&before, incoming.len(), now, segment, reply)
             }
         }
@@ -124,19 +272,20 @@ impl Socket {
     }
 
     // What an open connection learns from a segment.
-    fn learn(&mut self, before: &Before, now: u64, segment: &Segment)
+    fn learn(&mut self, before: &Before, now: u64, segment: &Segment, options: &TcpOptionSummary)
         ensures same { self.new ≡ record self.old { timers = self.new.timers; flow = self.new.flow } }
         ensures patience { self.new.timers.ends_at ≤ max self.old.timers.ends_at (later now (patience_of self.old.options)) }
     {
         let window = self.connection.window();
         if !is_open(before.state) {
-            self.flow.establish(self.options.most(), window, now);
+            let mss = self.most();
+            self.flow.establish(mss, window, now);
             self.timers.resend_at = None;
             self.hear(now);
             return;
         }
         self.learn_life(before, now, segment);
-        self.learn_ack(before, now, segment);
+        self.learn_ack(before, now, segment, options);
         self.flow.on_window(window);
         if before.window == 0 && window > 0 && self.waits() {
             self.timers.restart(now, self.flow.timeout(), true);
@@ -161,25 +310,59 @@ impl Socket {
             if before.state != State::TimeWait || segment.fin {
                 self.timers.linger(now);
             }
-        } else if before.is_near(segment) {
+        } else if before.is_near(segment) || self.has_moved(before) {
             self.hear(now);
         }
     }
 
+    // Whether text or an acknowledgement was taken.
+    fn has_moved(&self, before: &Before) -> bool {
+        self.next() != before.next || self.connection.una() != before.una
+    }
+
     // What the segment acknowledges.
-    fn learn_ack(&mut self, before: &Before, now: u64, segment: &Segment)
+    fn learn_ack(
+        &mut self,
+        before: &Before,
+        now: u64,
+        segment: &Segment,
+        options: &TcpOptionSummary,
+    )
         ensures same { self.new ≡ record self.old { timers = self.new.timers; flow = self.new.flow } }
         ensures patience { self.new.timers.ends_at ≤ max self.old.timers.ends_at (later now (patience_of self.old.options)) }
     {
-        let newly = self.connection.una().wrapping_sub(before.una);
+        let (una, flight) = (self.connection.una(), self.connection.flight());
+        let newly = una.wrapping_sub(before.una);
         if newly > 0 {
-            self.flow
-                .on_ack(before.una, newly, self.connection.flight(), now);
+            self.flow.on_ack(before.una, newly, flight, now);
             let waits = self.waits();
             self.timers.restart(now, self.flow.timeout(), waits);
-        } else if before.is_duplicate(segment) {
-            self.flow.on_duplicate(before.flight, before.una);
         }
+        let has_sack = self.agreed.has_sack() && before.has_sack(segment, options);
+        let segments = if has_sack {
+            self.learn_sack(options)
+        } else {
+            0
+        };
+        if newly == 0 && before.is_duplicate(segment, has_sack) {
+            self.flow.on_duplicates(segments.max(1), flight, una);
+        } else if newly > 0 && self.flow.is_recovering() {
+            self.flow.on_duplicates(segments, flight, una);
+        }
+    }
+
+    // What the peer has after a gap. Returns how many segments that is more than it told before (RFC 6675, section 5): receivers
+    // answer several segments with one acknowledgement.
+    fn learn_sack(&mut self, options: &TcpOptionSummary) -> u32
+        ensures same { self.new ≡ record self.old { flow = self.new.flow } }
+    {
+        let (una, flight) = (self.connection.una(), self.connection.flight());
+        let known = self.flow.sacked();
+        for (first, end) in options.sack_ranges.iter().flatten() {
+            self.flow.on_sack(una, flight, *first, *end);
+        }
+        let newly = self.flow.sacked().saturating_sub(known);
+        (newly / u32::from(self.most().max(1))).min(MAX_SEGMENTS)
     }
 
     // What goes out at once. The acknowledgement of text waits for Tick.
@@ -191,8 +374,13 @@ impl Socket {
         segment: &Segment,
         reply: Option<Segment<'a>>,
     ) -> Option<Segment<'a>>
-        requires { InFits self.old.connection.receiving incoming }
+        requires rings { InFits self.old.connection.receiving incoming }
+        requires text { IfSome reply (λ s. (s.payload.now ≡ []) × (s.fin ≡ false)) }
+        requires bare { is_open before.now.state ≡ true → IfSome reply (λ s. len_of s ≡ 0) }
         ensures same { self.new ≡ record self.old { timers = self.new.timers; edge = self.new.edge } }
+        ensures text { IfSome result (λ s. (s.payload.now ≡ []) × (s.fin ≡ false)) }
+        ensures bare { is_open before.now.state ≡ true → IfSome result (λ s. len_of s ≡ 0) }
+        ensures answers { is_open before.now.state ≡ true → IfSome result (λ s. (back : World) (consumed buffer : List ℕ) → Stands back consumed self.old.connection.receiving buffer → IfSome s.ack (λ number. IsAnswer back number)) }
         ensures tells { is_open before.now.state ≡ true → IfSome result (λ s. IfSome s.ack (λ ack. Tells self.old.edge self.new.edge self.old.connection.receiving incoming ack s.window)) }
         ensures keeps { is_open before.now.state ≡ true → HasRoom self.old.edge self.old.connection.receiving incoming → HasRoom self.new.edge self.old.connection.receiving incoming }
         ensures acks { is_open before.now.state ≡ true → IfSome result (λ s. self.new.timers.ack_at ≡ None) }

@@ -1,31 +1,38 @@
 //! What is sent, and when again (RFC 6298, RFC 5681, RFC 6582; RFC 9293, sections 3.7.4 and 3.8.6).
 
-ghost use Rattle.std.specs.Prelude.{◌≡◌, ◌<◌, ◌≤◌, IfSome};
-ghost use Rattle.app_socket.specs.Pieces.{IsWithin, is_worth};
+ghost use Rattle.std.specs.Prelude.{◌≡◌, ◌<◌, ◌≤◌, ◌⊎◌, ℕ, true, false, min, max, IfSome};
+ghost use Rattle.app_congestion.specs.Congestion.{sender_of};
+ghost use Rattle.app_congestion.specs.Scoreboard.{has};
+ghost use Rattle.app_socket.specs.Pieces.{IsSacked, IsWithin, is_worth};
 
-use app_congestion::{Congestion, Rto};
+use app_congestion::{Congestion, Rto, Scoreboard};
 
 // A segment whose round trip is timed.
+#[repr(C)]
 #[derive(Debug, Clone, Copy)]
 pub(crate) struct Timed {
     // The number after its last item.
-    end: u32,
-    sent_at: u64,
+    pub(crate) end: u32,
+    pub(crate) sent_at: u64,
 }
 
 // The state of what is sent.
 #[derive(Debug, Clone, Copy)]
 pub(crate) struct Flow {
-    rto: Rto,
-    congestion: Congestion,
+    pub(crate) rto: Rto,
+    pub(crate) congestion: Congestion,
     // Only a segment that was sent once (Karn's algorithm).
-    timing: Option<Timed>,
+    pub(crate) timing: Option<Timed>,
     // How many items after SND.UNA were sent since the last time-out.
-    cursor: u32,
+    pub(crate) cursor: u32,
     // Whether the first segment goes again at once.
-    resend: bool,
+    pub(crate) resend: bool,
+    // What the peer has after a gap, in items after SND.UNA.
+    pub(crate) scoreboard: Scoreboard,
+    // Up to where holes were sent again in this fast recovery.
+    pub(crate) rescued: u32,
     // The largest SND.WND so far.
-    max_window: u32,
+    pub(crate) max_window: u32,
 }
 
 // What the choice of the next segment sees of a connection.
@@ -87,6 +94,8 @@ impl Flow {
             timing: None,
             cursor: 0,
             resend: false,
+            scoreboard: Scoreboard::new(),
+            rescued: 0,
             max_window: 0,
         }
     }
@@ -105,6 +114,8 @@ impl Flow {
         self.timing = Some(Timed { end, sent_at: now });
         self.cursor = 1;
         self.resend = false;
+        self.scoreboard.clear();
+        self.rescued = 0;
         self.max_window = 0;
     }
 
@@ -131,17 +142,49 @@ impl Flow {
             self.rto.on_sample(elapsed(timed.sent_at, now));
             self.timing = None;
         }
-        self.resend = self
+        self.cursor = self.cursor.saturating_sub(newly);
+        self.rescued = self.rescued.saturating_sub(newly);
+        self.scoreboard.advance(newly);
+        let is_partial = self
             .congestion
             .on_ack(newly, flight, una.wrapping_add(newly));
-        self.cursor = self.cursor.saturating_sub(newly);
+        // With SACK the first segment goes only once in a fast recovery.
+        self.resend = is_partial && (self.rescued == 0 || self.scoreboard.is_empty());
     }
 
-    // A duplicate acknowledgement.
-    pub(crate) fn on_duplicate(&mut self, flight: u32, una: u32) {
+    // The peer has these numbers after a gap (RFC 2018), of the `flight` that were sent after `una`.
+    pub(crate) fn on_sack(&mut self, una: u32, flight: u32, first: u32, end: u32)
+        ensures same { self.new ≡ record self.old { scoreboard = self.new.scoreboard } }
+        ensures known { (n : ℕ) → has self.new.scoreboard n ≡ true → (has self.old.scoreboard n ≡ true) ⊎ IsSacked una flight first end n }
+    {
+        let (from, to) = (first.wrapping_sub(una), end.wrapping_sub(una));
+        if to <= flight {
+            self.scoreboard.add(from, to);
+        }
+    }
+
+    // Whether it is in fast recovery.
+    pub(crate) fn is_recovering(&self) -> bool {
+        self.congestion.is_recovering()
+    }
+
+    // How many items the peer has after a gap.
+    pub(crate) fn sacked(&self) -> u32 {
+        self.scoreboard.total()
+    }
+
+    // As many duplicate acknowledgements.
+    pub(crate) fn on_duplicates(&mut self, count: u32, flight: u32, una: u32) {
+        for _ in 0..count {
+            self.on_duplicate(flight, una);
+        }
+    }
+
+    fn on_duplicate(&mut self, flight: u32, una: u32) {
         let next = una.wrapping_add(flight);
         if self.congestion.on_duplicate(flight, una, next) {
             self.resend = true;
+            self.rescued = 0;
         }
     }
 
@@ -167,8 +210,7 @@ impl Flow {
         ensures { IsWithin result queue.now.window self.new.congestion.cwnd }
     {
         self.timing = None;
-        self.cursor = 0;
-        self.resend = false;
+        self.go_back();
         if queue.window == 0 {
             self.rto.back_off();
             return self.first(queue, Kind::Probe);
@@ -178,6 +220,25 @@ impl Flow {
             self.congestion.on_timeout(queue.flight, queue.next());
         }
         self.first(queue, Kind::Again)
+    }
+
+    // The path takes smaller segments.
+    pub(crate) fn lower_mss(&mut self, mss: u16)
+        ensures same { self.new ≡ record self.old { congestion = self.new.congestion } }
+        ensures smss { sender_of self.new.congestion ≡ record (sender_of self.old.congestion) { mss = min (max 1 mss) self.old.congestion.mss } }
+    {
+        self.congestion.lower_mss(mss);
+    }
+
+    // All goes again, also what the peer had after a gap: it may have dropped that (RFC 2018, section 8).
+    pub(crate) fn go_back(&mut self)
+        ensures same { self.new ≡ record self.old { cursor = 0; resend = false; rescued = 0; scoreboard = self.new.scoreboard } }
+        ensures known { (n : ℕ) → has self.new.scoreboard n ≡ false }
+    {
+        self.cursor = 0;
+        self.resend = false;
+        self.rescued = 0;
+        self.scoreboard.clear();
     }
 
     // The first segment: one item even where the window is closed.
@@ -199,8 +260,10 @@ impl Flow {
     {
         if self.resend {
             self.resend = false;
-            self.timing = None;
             return Some(self.first(queue, Kind::Again));
+        }
+        if let Some(piece) = self.hole(queue) {
+            return Some(piece);
         }
         let again = queue.flight.saturating_sub(self.cursor);
         let available = (again as usize).saturating_add(queue.unsent);
@@ -219,6 +282,27 @@ impl Flow {
         None
     }
 
+    // In fast recovery: the next items that the peer has not, before some that it has, and that were not sent again (RFC 6675,
+    // section 4, rule 1 of NextSeg).
+    fn hole(&self, queue: &Queue) -> Option<Piece>
+        ensures { IfSome result (λ p. IsWithin p queue.now.window self.now.congestion.cwnd) }
+    {
+        if !self.is_recovering() {
+            return None;
+        }
+        let (offset, len) = self.scoreboard.hole(self.rescued)?;
+        let usable = self.congestion.may_send(queue.window, offset);
+        let count = usable.min(u32::from(queue.mss)).min(len);
+        if count == 0 {
+            return None;
+        }
+        Some(Piece {
+            offset,
+            count,
+            kind: Kind::Again,
+        })
+    }
+
     // So many items after those that were sent.
     fn piece(&self, count: u32, kind: Kind) -> Piece
         ensures offset { result.offset ≡ self.now.cursor }
@@ -233,14 +317,17 @@ impl Flow {
 
     // This piece went out, with so many items.
     pub(crate) fn on_sent(&mut self, queue: &Queue, piece: &Piece, items: u32, now: u64)
-        ensures { self.new ≡ record self.old { timing = self.new.timing; cursor = self.new.cursor } }
+        ensures { self.new ≡ record self.old { timing = self.new.timing; cursor = self.new.cursor; rescued = self.new.rescued } }
     {
         if piece.kind == Kind::Probe {
             return;
         }
         let end = piece.offset.saturating_add(items);
         self.cursor = self.cursor.max(end);
-        if piece.kind == Kind::New && self.timing.is_none() {
+        if piece.kind == Kind::Again {
+            self.rescued = self.rescued.max(end);
+            self.timing = None;
+        } else if self.timing.is_none() {
             self.timing = Some(Timed {
                 end: queue.una.wrapping_add(end),
                 sent_at: now,

@@ -4,6 +4,8 @@
 #![tactic(auto)]
 
 mod arrival;
+mod calls;
+mod fields;
 mod flow;
 pub mod laws;
 mod options;
@@ -13,8 +15,9 @@ mod tick;
 mod timers;
 mod window;
 
+pub use fields::SocketFields;
 pub use options::Options;
-pub use socket::Socket;
+pub use socket::{Header, Socket};
 pub use step::Event;
 
 #[cfg(test)]

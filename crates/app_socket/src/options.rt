@@ -4,6 +4,7 @@ ghost use Rattle.std.specs.Prelude.{◌≡◌, ◌≤◌};
 ghost use Rattle.app_socket.specs.Times.{idle_of, mss_of};
 
 /// What the application chooses before it opens.
+#[repr(C)]
 #[derive(Debug, Clone, Copy, PartialEq, Eq)]
 pub struct Options {
     /// The most bytes of text in a segment that is sent; 0 is 536 (RFC 9293, section 3.7.1).

@@ -1,21 +1,27 @@
 //! The connection with its timers, and the calls of its application.
 
-ghost use Rattle.std.specs.Prelude.{◌≡◌, ◌==◌, ◌≤◌, ◌<◌, ◌++◌, min, if◌then◌else◌, ℕ, List, length, true, false, MatchOption, take};
+ghost use Rattle.std.specs.Prelude.{◌≡◌, ◌==◌, ◌≤◌, ◌<◌, ◌++◌, max, ℕ, List, length, true, false, MatchOption, take};
 ghost use Rattle.tcp_model.specs.Network.{World, Event, Write, happens, run, start, IsPrefixOf};
 ghost use Rattle.app_tcp.specs.Stands.{Stands, room_of};
 ghost use Rattle.app_tcp.specs.Waits.{Waits};
 ghost use Rattle.app_connection.specs.SetUp.{In_closed};
 ghost use Rattle.app_connection.specs.Endpoints.{endpoint_of, OutFits, InFits};
 ghost use Rattle.app_connection.specs.States.{state_from, has_peer};
-ghost use Rattle.app_socket.specs.Times.{due_in, mss_of};
+ghost use Rattle.app_socket.specs.Segments.{GoesAgain, Lowers, header_of, is_in_flight, is_narrower, text_of};
+ghost use Rattle.app_socket.specs.Times.{due_in};
 
 use crate::flow::{Flow, Queue};
 use crate::options::Options;
 use crate::timers::Timers;
-use app_connection::{Connection, State};
+use app_connection::{Connection, Segment, State};
+use app_options::{Agreed, syn_window};
+use wire_tcp_options::TcpOptionSummary;
 
-/// One end of a TCP connection. Times are milliseconds on the caller's clock, which never goes back. The bytes are in two rings of
-/// the caller's, each of less than 2^30 bytes.
+// The least segment of a path: beside 40 bytes of options it leaves 8 for text.
+const MIN_MSS: u16 = 48;
+
+/// One end of a TCP connection. Times are milliseconds on the caller's clock, which never goes back. The bytes are in two rings
+/// of the caller's, each of less than 2^30 bytes.
 ///
 /// After each event, `write` and `read` the caller calls `step` with `Tick` until it returns None, and again at `due`.
 #[derive(Debug, Clone, Copy)]
@@ -26,12 +32,24 @@ pub struct Socket {
     pub(crate) flow: Flow,
     // The right edge of the window that was advertised last.
     pub(crate) edge: u32,
+    pub(crate) agreed: Agreed,
+    // The largest segment that the peer and the path take, with its options.
+    pub(crate) limit: u16,
+}
+
+/// What the TCP header of a segment has beside its numbers, flags and text.
+#[derive(Debug, Clone, Copy, PartialEq, Eq)]
+pub struct Header {
+    /// The window field, after scaling (RFC 7323, section 2.3).
+    pub window: u16,
+    pub options: TcpOptionSummary,
 }
 
 impl Socket {
     /// In CLOSED.
     pub fn new(options: Options) -> Socket
         ensures endpoint { endpoint_of result.connection ≡ In_closed }
+        ensures options { result.options ≡ options }
         ensures out { (size : ℕ) → 0 < size → size < 1073741824 → OutFits result.connection.sending size }
         ensures rings { (size : ℕ) → 0 < size → size < 1073741824 → InFits result.connection.receiving size }
     {
@@ -41,18 +59,80 @@ impl Socket {
             timers: Timers::new(),
             flow: Flow::new(),
             edge: 0,
+            agreed: Agreed::new(0),
+            limit: options.most(),
         }
     }
 
-    /// Lowers the largest segment that is sent: to the MSS option of the peer's SYN (RFC 9293, section 3.7.1), or when the MTU of
-    /// the path gets smaller. 0 changes nothing.
+    /// The header of a segment that `step` returned at this time. An RST has no options.
+    pub fn header(&self, segment: &Segment, incoming: usize, now: u64) -> Header
+        requires { InFits self.now.connection.receiving incoming }
+        ensures { result ≡ header_of self.now segment.now incoming now }
+    {
+        if segment.syn {
+            return Header {
+                window: syn_window(segment.window),
+                options: self
+                    .agreed
+                    .of_syn(self.options.most(), incoming, now, segment.ack.is_some()),
+            };
+        }
+        Header {
+            window: self.agreed.window_out(segment.window, incoming),
+            options: if segment.rst {
+                TcpOptionSummary::default()
+            } else {
+                self.agreed.of_segment(self.connection.kept(), now)
+            },
+        }
+    }
+
+    /// An ICMP error says that a segment of this number was too big, and that the path takes segments with `mss` bytes of text
+    /// and options (RFC 1191, RFC 8201). An error about no segment in flight changes nothing (RFC 5927, section 4.1). What is
+    /// in flight goes again if segments were larger; `mss` counts as at least 48. Returns whether a segment of this number is
+    /// in flight.
+    pub fn on_too_big(&mut self, number: u32, mss: u16) -> bool
+        ensures same { self.new ≡ record self.old { limit = self.new.limit; flow = self.new.flow } }
+        ensures value { result ≡ is_in_flight self.old.connection number }
+        ensures lowers { is_narrower self.old number mss ≡ true → Lowers self.old self.new (max 48 mss) }
+        ensures again { is_narrower self.old number mss ≡ true → GoesAgain self.old.flow self.new.flow }
+        ensures other { is_narrower self.old number mss ≡ false → self.new ≡ self.old }
+    {
+        let is_in_flight = number.wrapping_sub(self.connection.una()) < self.connection.flight();
+        if is_in_flight && mss < self.limit {
+            self.lower(mss.max(MIN_MSS));
+            self.flow.go_back();
+        }
+        is_in_flight
+    }
+
+    /// Lowers the largest segment that is sent, with its options: when the MTU of the path gets smaller. 0 changes nothing.
     pub fn limit_mss(&mut self, mss: u16)
-        ensures same { self.new ≡ record self.old { options = record self.old.options { mss = self.new.options.mss } } }
-        ensures value { mss_of self.new.options ≡ (if mss == 0 then mss_of self.old.options else min mss (mss_of self.old.options)) }
+        ensures same { self.new ≡ record self.old { limit = self.new.limit; flow = record self.old.flow { congestion = self.new.flow.congestion } } }
+        ensures lowers { 0 < mss → Lowers self.old self.new mss }
+        ensures none { mss ≡ 0 → self.new ≡ self.old }
     {
         if mss != 0 {
-            self.options.mss = mss.min(self.options.most());
+            self.lower(mss);
         }
+    }
+
+    // The largest segment, and with it that of congestion control (SMSS).
+    fn lower(&mut self, mss: u16)
+        ensures same { self.new ≡ record self.old { limit = self.new.limit; flow = record self.old.flow { congestion = self.new.flow.congestion } } }
+        ensures lowers { Lowers self.old self.new mss }
+    {
+        self.limit = mss.min(self.limit);
+        let most = self.most();
+        self.flow.lower_mss(most);
+    }
+
+    // The most bytes of text in the next segment.
+    pub(crate) fn most(&self) -> u16
+        ensures { result ≡ text_of self.now }
+    {
+        self.agreed
+            .text_limit(self.limit, self.connection.has_gap())
     }
 
     /// Its state.
@@ -86,10 +166,11 @@ impl Socket {
         self.connection.room(incoming)
     }
 
-    /// Takes bytes of the application, as far as the ring has room, also before the connection is established. Returns how many:
-    /// 0 in CLOSED, LISTEN and after `close`.
+    /// Takes bytes of the application, as far as the ring has room, also before the connection is established. Returns how
+    /// many: 0 in CLOSED, LISTEN and after `close`.
     pub fn write(&mut self, outgoing: &mut [u8], bytes: &[u8]) -> usize
         requires { OutFits self.old.connection.sending (length outgoing.old) }
+        ensures few { result ≤ length bytes.now }
         ensures out { OutFits self.new.connection.sending (length outgoing.old) }
         ensures receiving { self.new.connection.receiving ≡ self.old.connection.receiving }
         ensures waits { has_peer (state_from self.old.connection) ≡ true → (w : World) → Waits w self.old.connection.sending outgoing.old → Waits (happens w (Write (take result bytes.now))) self.new.connection.sending outgoing.new }
@@ -152,7 +233,7 @@ impl Socket {
                 self.connection.state(),
                 State::FinWait1 | State::Closing | State::LastAck
             ),
-            mss: self.options.most(),
+            mss: self.most(),
             is_eager: self.options.is_eager,
         }
     }

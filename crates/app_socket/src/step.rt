@@ -1,7 +1,9 @@
 //! One call for everything that can happen.
 
-ghost use Rattle.std.specs.Prelude.{max, false, ◌≡◌, ◌<◌, ◌≤◌, ℕ, List, length, true, Some, None, IfSome};
+ghost use Rattle.std.specs.Prelude.{[], max, false, ◌≡◌, ◌<◌, ◌≤◌, ◌⊎◌, ℕ, List, is_some, length, true, Some, None, IfSome};
 ghost use Rattle.tcp_model.specs.Network.{World};
+ghost use Rattle.app_tcp.specs.Stands.{Stands, IsAnswer};
+ghost use Rattle.app_tcp.specs.Waits.{Waits};
 ghost use Rattle.app_connection.specs.declared.state.Phase.TheVariants.{Listen};
 ghost use Rattle.app_connection.specs.SetUp.{In_closed};
 ghost use Rattle.app_connection.specs.Endpoints.{endpoint_of, len_of, OutFits, InFits};
@@ -9,12 +11,15 @@ ghost use Rattle.app_connection.specs.Worlds.{Stand, Went};
 ghost use Rattle.app_connection.specs.Events.{ComesBy, called};
 ghost use Rattle.app_connection.specs.States.{has_peer, may_close, state_from};
 ghost use Rattle.app_socket.specs.Events.{IsShort, IsTick, IsQuiet, move_of};
+ghost use Rattle.app_socket.specs.Segments.{IsSent, has_timestamp, is_stale};
 ghost use Rattle.app_socket.specs.Times.{due_in, is_open, later, patience_of};
 ghost use Rattle.app_socket.specs.Window.{HasRoom, Tells, end_after, limit_of};
 
 use crate::socket::Socket;
 use crate::tick::has_peer;
 use app_connection::{Event as Move, Segment};
+use app_options::Agreed;
+use wire_tcp_options::TcpOptionSummary;
 
 /// What can happen.
 #[derive(Debug, Clone, Copy)]
@@ -23,8 +28,8 @@ pub enum Event<'s> {
     Listen,
     /// The application opens, with a fresh number (ISS, RFC 6528).
     Open(u32),
-    /// A segment arrives, its window after scaling; the number is a fresh one.
-    Arrives(&'s Segment<'s>, u32),
+    /// A segment arrives, with its window as in the header, and its options; the number is a fresh one.
+    Arrives(&'s Segment<'s>, &'s TcpOptionSummary, u32),
     /// The application closes.
     Close,
     /// The application gives up.
@@ -47,21 +52,26 @@ impl Socket {
         requires rings { InFits self.old.connection.receiving (length incoming.old) }
         ensures out { OutFits self.new.connection.sending (length outgoing.now) }
         ensures rings { InFits self.new.connection.receiving (length incoming.old) }
-        ensures goes { (there back : World) (consumed : List ℕ) → (self.old.connection.phase ≡ Listen → ⊥) → ComesBy (move_of event.entry) there back → Stand there back consumed self.old.connection outgoing.now incoming.old → Went (called (move_of event.entry) (may_close (state_from self.old.connection)) there) back consumed self.new.connection outgoing.now incoming.new }
+        ensures goes { (there back : World) (consumed : List ℕ) → (self.old.connection.phase ≡ Listen → ⊥) → (is_stale self.old now event.entry ≡ false → ComesBy (move_of event.entry) there back) → Stand there back consumed self.old.connection outgoing.now incoming.old → Went (called (move_of event.entry) (may_close (state_from self.old.connection)) there) back consumed self.new.connection outgoing.now incoming.new }
         ensures ends { IsTick event.entry → has_peer (state_from self.old.connection) ≡ true → self.old.timers.ends_at ≤ now → endpoint_of self.new.connection ≡ In_closed }
         ensures idle { IsTick event.entry → has_peer (state_from self.old.connection) ≡ false → self.new ≡ self.old }
         ensures later { IsQuiet event.entry → self.new.timers.ends_at ≤ self.old.timers.ends_at }
         ensures tells { is_open (state_from self.old.connection) ≡ true → is_open (state_from self.new.connection) ≡ true → IfSome result (λ s. IfSome s.ack (λ ack. Tells self.old.edge self.new.edge self.new.connection.receiving (length incoming.old) ack s.window)) }
         ensures keeps { is_open (state_from self.old.connection) ≡ true → is_open (state_from self.new.connection) ≡ true → self.old.connection.receiving.has_fin ≡ false → self.new.connection.receiving.has_fin ≡ false → HasRoom self.old.edge self.old.connection.receiving (length incoming.old) → HasRoom self.new.edge self.new.connection.receiving (length incoming.old) }
-        ensures within { IsTick event.entry → is_open (state_from self.old.connection) ≡ true → is_open (state_from self.new.connection) ≡ true → IfSome result (λ s. 0 < len_of s → end_after self.old.connection.sending.una s ≤ limit_of self.old.connection.wnd self.new.flow.congestion.cwnd) }
+        ensures text { (IsTick event.entry → ⊥) → IfSome result (λ s. (s.payload.now ≡ []) × (s.fin ≡ false)) }
+        ensures sends { is_open (state_from self.old.connection) ≡ true → IfSome result (λ s. 0 < len_of s → (there : World) → Waits there self.old.connection.sending outgoing.now → IsSent there s) }
+        ensures answers { is_open (state_from self.old.connection) ≡ true → is_open (state_from self.new.connection) ≡ true → IfSome result (λ s. (back : World) (consumed : List ℕ) → Stands back consumed self.new.connection.receiving incoming.new → (s.rst ≡ true) ⊎ IfSome s.ack (λ number. IsAnswer back number)) }
+        ensures stale { is_stale self.old now event.entry ≡ true → self.new ≡ record self.old { timers = record self.old.timers { ack_at = self.new.timers.ack_at }; edge = self.new.edge } }
+        ensures answered { is_stale self.old now event.entry ≡ true → is_some result ≡ has_timestamp event.entry }
+        ensures within { is_open (state_from self.old.connection) ≡ true → is_open (state_from self.new.connection) ≡ true → IfSome result (λ s. 0 < len_of s → end_after self.old.connection.sending.una s ≤ limit_of self.old.connection.wnd self.new.flow.congestion.cwnd) }
         ensures acks { is_open (state_from self.old.connection) ≡ true → is_open (state_from self.new.connection) ≡ true → IfSome result (λ s. self.new.timers.ack_at ≡ None) }
         ensures patience { self.new.timers.ends_at ≤ max self.old.timers.ends_at (later now (patience_of self.old.options)) }
         ensures rests { IsTick event.entry → now < 9223372036854775808 → result ≡ None → IfSome (due_in (state_from self.new.connection) self.new.timers) (λ t. now < t) }
     {
         match event {
             Event::Tick => self.tick(outgoing, incoming, now),
-            Event::Arrives(segment, fresh) => {
-                self.on_segment(outgoing, incoming, now, segment, fresh)
+            Event::Arrives(segment, options, fresh) => {
+                self.on_arrival(outgoing, incoming, now, segment, options, fresh)
             }
             Event::Open(iss) => self.open(outgoing, incoming, now, iss),
             Event::Listen => {
@@ -90,6 +100,7 @@ impl Socket {
         ensures rings { InFits self.new.connection.receiving (length incoming.old) }
         ensures none { is_open (state_from self.old.connection) ≡ true → result ≡ None }
         ensures stays { is_open (state_from self.old.connection) ≡ true → self.new ≡ self.old }
+        ensures text { IfSome result (λ s. (s.payload.now ≡ []) × (s.fin ≡ false)) }
         ensures patience { self.new.timers.ends_at ≤ max self.old.timers.ends_at (later now (patience_of self.old.options)) }
     {
         if has_peer(self.connection.state()) {
@@ -98,6 +109,8 @@ impl Socket {
         let syn = self.connection.step(outgoing, incoming, Move::Open(iss));
         if syn.is_some() {
             self.begin(now, iss);
+            self.agreed = Agreed::new(iss);
+            self.limit = self.options.most();
         }
         syn
     }

@@ -1,3 +1,4 @@
 //! Connections over time.
 
+mod options;
 mod scenarios;

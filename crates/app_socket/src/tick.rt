@@ -1,7 +1,8 @@
 //! Time passes.
 
-ghost use Rattle.std.specs.Prelude.{false, ◌≡◌, ◌<◌, ◌≤◌, ℕ, List, length, true, Some, None, IfSome, not, ◌||◌};
+ghost use Rattle.std.specs.Prelude.{[], false, ◌≡◌, ◌<◌, ◌≤◌, ◌⊎◌, ℕ, List, length, true, Some, None, IfSome, not, ◌||◌};
 ghost use Rattle.tcp_model.specs.Network.{World};
+ghost use Rattle.app_tcp.specs.Stands.{Stands, IsAnswer};
 ghost use Rattle.app_tcp.specs.Waits.{Waits};
 ghost use Rattle.app_connection.specs.declared.state.Phase.TheVariants.{Listen, Open};
 ghost use Rattle.app_connection.specs.SetUp.{In_closed};
@@ -9,6 +10,7 @@ ghost use Rattle.app_connection.specs.Endpoints.{endpoint_of, len_of, OutFits, I
 ghost use Rattle.app_connection.specs.Worlds.{Stand, Went, WaitsLater};
 ghost use Rattle.app_connection.specs.States.{has_peer, state_from};
 ghost use Rattle.app_socket.specs.Pieces.{IsWithin};
+ghost use Rattle.app_socket.specs.Segments.{IsSent};
 ghost use Rattle.app_socket.specs.Times.{due_in, is_open};
 ghost use Rattle.app_socket.specs.Window.{HasRoom, Tells, end_after, limit_of};
 
@@ -52,6 +54,8 @@ impl Socket {
         ensures within { is_open (state_from self.old.connection) ≡ true → is_open (state_from self.new.connection) ≡ true → IfSome result (λ s. 0 < len_of s → end_after self.old.connection.sending.una s ≤ limit_of self.old.connection.wnd self.new.flow.congestion.cwnd) }
         ensures keeps { is_open (state_from self.old.connection) ≡ true → is_open (state_from self.new.connection) ≡ true → self.old.connection.receiving.has_fin ≡ false → self.new.connection.receiving.has_fin ≡ false → HasRoom self.old.edge self.old.connection.receiving (length incoming.old) → HasRoom self.new.edge self.new.connection.receiving (length incoming.old) }
         ensures acks { is_open (state_from self.old.connection) ≡ true → is_open (state_from self.new.connection) ≡ true → IfSome result (λ s. self.new.timers.ack_at ≡ None) }
+        ensures sends { is_open (state_from self.old.connection) ≡ true → IfSome result (λ s. 0 < len_of s → (there : World) → Waits there self.old.connection.sending outgoing.now → IsSent there s) }
+        ensures answers { is_open (state_from self.old.connection) ≡ true → is_open (state_from self.new.connection) ≡ true → IfSome result (λ s. (back : World) (consumed : List ℕ) → Stands back consumed self.new.connection.receiving incoming.new → (s.rst ≡ true) ⊎ IfSome s.ack (λ number. IsAnswer back number)) }
         ensures rests { now < 9223372036854775808 → result ≡ None → IfSome (due_in (state_from self.new.connection) self.new.timers) (λ t. now < t) }
     {
         let state = self.connection.state();
@@ -107,6 +111,8 @@ impl Socket {
         ensures still { now < 9223372036854775808 → now < self.old.timers.ends_at → now < self.new.timers.ends_at }
         ensures resend { now < 9223372036854775808 → IfSome self.new.timers.resend_at (λ t. now < t) }
         ensures tells { IfSome result (λ s. IfSome s.ack (λ ack. Tells self.old.edge self.new.edge self.new.connection.receiving incoming ack s.window)) }
+        ensures sends { self.old.connection.phase ≡ Open → IfSome result (λ s. 0 < len_of s → (there : World) → Waits there self.old.connection.sending outgoing.now → IsSent there s) }
+        ensures answers { IfSome result (λ s. (back : World) (consumed buffer : List ℕ) → Stands back consumed self.old.connection.receiving buffer → IfSome s.ack (λ number. IsAnswer back number)) }
         ensures within { self.old.connection.phase ≡ Open → IfSome result (λ s. 0 < len_of s → end_after self.old.connection.sending.una s ≤ limit_of self.old.connection.wnd self.new.flow.congestion.cwnd) }
         ensures keeps { HasRoom self.old.edge self.old.connection.receiving incoming → HasRoom self.new.edge self.old.connection.receiving incoming }
         ensures acks { IfSome result (λ s. self.new.timers.ack_at ≡ None) }
@@ -143,6 +149,7 @@ impl Socket {
         ensures still { now < 9223372036854775808 → now < self.old.timers.ends_at → now < self.new.timers.ends_at }
         ensures resend { now < 9223372036854775808 → IfSome self.new.timers.resend_at (λ t. now < t) }
         ensures edge { self.new.edge ≡ self.old.edge }
+        ensures sends { self.old.connection.phase ≡ Open → IfSome result (λ s. (there : World) → Waits there self.old.connection.sending outgoing.now → IsSent there s) }
         ensures within { self.old.connection.phase ≡ Open → IfSome result (λ s. end_after self.old.connection.sending.una s ≤ limit_of self.old.connection.wnd self.new.flow.congestion.cwnd) }
     {
         let Some(piece) = self.piece(now) else {
@@ -192,6 +199,7 @@ impl Socket {
         ensures receiving { self.new.connection.receiving ≡ self.old.connection.receiving }
         ensures waits { (there : World) → Waits there self.old.connection.sending outgoing.now → WaitsLater there self.new.connection.sending outgoing.now }
         ensures congestion { self.new.flow.congestion ≡ self.old.flow.congestion }
+        ensures sends { self.old.connection.phase ≡ Open → IfSome result (λ s. (there : World) → Waits there self.old.connection.sending outgoing.now → IsSent there s) }
         ensures within { self.old.connection.phase ≡ Open → (window : ℕ) → IsWithin piece.now window self.old.flow.congestion.cwnd → IfSome result (λ s. end_after self.old.connection.sending.una s ≤ limit_of window self.old.flow.congestion.cwnd) }
     {
         let queue = self.queue();
@@ -228,10 +236,17 @@ impl Socket {
     }
 
     // An acknowledgement of all that came, with this number.
-    fn acknowledge<'a>(&mut self, outgoing: &'a [u8], incoming: usize, number: u32) -> Segment<'a>
+    pub(crate) fn acknowledge<'a>(
+        &mut self,
+        outgoing: &'a [u8],
+        incoming: usize,
+        number: u32,
+    ) -> Segment<'a>
         requires { InFits self.old.connection.receiving incoming }
         ensures same { self.new ≡ record self.old { timers = record self.old.timers { ack_at = None }; edge = self.new.edge } }
+        ensures text { (result.payload.now ≡ []) × (result.fin ≡ false) }
         ensures len { len_of result ≡ 0 }
+        ensures answers { (back : World) (consumed buffer : List ℕ) → Stands back consumed self.old.connection.receiving buffer → IfSome result.ack (λ number. IsAnswer back number) }
         ensures tells { IfSome result.ack (λ ack. Tells self.old.edge self.new.edge self.old.connection.receiving incoming ack result.window) }
         ensures keeps { HasRoom self.old.edge self.old.connection.receiving incoming → HasRoom self.new.edge self.old.connection.receiving incoming }
     {
@@ -251,8 +266,8 @@ impl Socket {
     pub(crate) fn advertise<'a>(&mut self, segment: Segment<'a>, incoming: usize) -> Segment<'a>
         requires { InFits self.old.connection.receiving incoming }
         ensures same { self.new ≡ record self.old { timers = record self.old.timers { ack_at = None }; edge = self.new.edge } }
-        ensures number { result.number ≡ segment.entry.number }
-        ensures len { len_of result ≡ len_of segment.entry }
+        ensures segment { result ≡ record segment.entry { ack = result.ack; window = result.window } }
+        ensures answers { (back : World) (consumed buffer : List ℕ) → Stands back consumed self.old.connection.receiving buffer → IfSome result.ack (λ number. IsAnswer back number) }
         ensures tells { IfSome result.ack (λ ack. Tells self.old.edge self.new.edge self.old.connection.receiving incoming ack result.window) }
         ensures keeps { HasRoom self.old.edge self.old.connection.receiving incoming → HasRoom self.new.edge self.old.connection.receiving incoming }
     {

@@ -84,8 +84,8 @@ impl Timers {
         };
     }
 
-    // The retransmission timer runs if something waits, and only then. Where something begins to wait, the peer's patience ends with
-    // the user timeout.
+    // The retransmission timer runs if something waits, and only then. Where something begins to wait, the peer's patience ends
+    // with the user timeout.
     pub(crate) fn run(&mut self, now: u64, rto: u32, waits: bool)
         ensures off { waits ≡ false → self.new ≡ record self.old { resend_at = None } }
         ensures starts { waits ≡ true → self.old.resend_at ≡ None → self.new ≡ record self.old { resend_at = Some (later now rto); ends_at = min self.old.ends_at (later now 300000) } }

@@ -13,6 +13,7 @@ use crate::ring::{RING_LIMIT, put, wrapped};
 const HALF: usize = 1 << 31;
 
 /// The receiving half of a connection. The bytes are in a ring of the caller's, of less than 2^30 bytes.
+#[repr(C)]
 #[derive(Debug, Clone, Copy)]
 pub struct Receiving {
     // RCV.NXT

@@ -22,6 +22,7 @@ pub struct Segment<'a> {
 }
 
 /// The sending half of a connection. The bytes are in a ring of the caller's, of less than 2^30 bytes.
+#[repr(C)]
 #[derive(Debug, Clone, Copy)]
 pub struct Sending {
     // SND.UNA

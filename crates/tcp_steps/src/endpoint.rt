@@ -3,6 +3,7 @@
 ghost use Rattle.std.specs.Prelude.{length};
 ghost use Rattle.app_connection.specs.Endpoints.{OutFits, InFits};
 
+use crate::options::{options_of, options_text};
 use crate::words::{NOTHING, Words};
 use app_connection::{Connection, Event, Segment, State};
 use app_socket::{Event as Timed, Options, Socket};
@@ -152,6 +153,7 @@ fn timed_answer(
     requires out { OutFits socket.old.connection.sending (length outgoing.old) }
     requires rings { InFits socket.old.connection.receiving (length incoming.old) }
 {
+    let size = incoming.len();
     match name {
         "at" => String::from_str(alloc, NOTHING),
         "write" => {
@@ -159,32 +161,63 @@ fn timed_answer(
             format!(in alloc; "{count}")
         }
         "read" => String::from_str(alloc, shown(socket.read(incoming, operands.size()))),
+        "too-big" => {
+            let number = operands.number();
+            let _ = socket.on_too_big(number, operands.mss());
+            String::from_str(alloc, NOTHING)
+        }
         "arrives" => {
             let segment = operands.segment();
-            let event = Timed::Arrives(&segment, operands.number());
-            segment_text(alloc, socket.step(outgoing, incoming, now, event))
+            let options = options_of(operands.word());
+            let event = Timed::Arrives(&segment, &options, operands.number());
+            let sent = socket.step(outgoing, incoming, now, event);
+            packet_text(alloc, socket, size, now, sent)
         }
         _ => match operands.timed_event(name) {
-            Some(event) => segment_text(alloc, socket.step(outgoing, incoming, now, event)),
+            Some(event) => {
+                let sent = socket.step(outgoing, incoming, now, event);
+                packet_text(alloc, socket, size, now, sent)
+            }
             None => String::from_str(alloc, "unknown"),
         },
     }
 }
 
-// A segment that goes out, and `-` for none.
-fn segment_text(alloc: Global, segment: Option<Segment<'_>>) -> Result<String, AllocError> {
+// A segment that a socket sends, with its window field and its options, and `-` for none.
+fn packet_text(
+    alloc: Global,
+    socket: &Socket,
+    incoming: usize,
+    now: u64,
+    segment: Option<Segment<'_>>,
+) -> Result<String, AllocError>
+    requires { InFits socket.now.connection.receiving incoming }
+{
     let Some(segment) = segment else {
         return String::from_str(alloc, NOTHING);
     };
+    let header = socket.header(&segment, incoming, now);
+    let fields = fields_text(alloc, &segment, u32::from(header.window))?;
+    let options = options_text(alloc, &header.options)?;
+    format!(in alloc; "{fields} {options}")
+}
+
+// A segment that a connection sends, and `-` for none.
+fn segment_text(alloc: Global, segment: Option<Segment<'_>>) -> Result<String, AllocError> {
+    match segment {
+        Some(segment) => fields_text(alloc, &segment, segment.window),
+        None => String::from_str(alloc, NOTHING),
+    }
+}
+
+// A segment with this window.
+fn fields_text(alloc: Global, segment: &Segment<'_>, window: u32) -> Result<String, AllocError> {
     let ack = number_text(alloc, segment.ack)?;
     let syn = if segment.syn { "S" } else { "" };
     let fin = if segment.fin { "F" } else { "" };
     let rst = if segment.rst { "R" } else { "" };
     let text = shown(segment.payload);
-    format!(in alloc;
-        "{} {ack} .{syn}{fin}{rst} {} {text}",
-        segment.number, segment.window
-    )
+    format!(in alloc; "{} {ack} .{syn}{fin}{rst} {window} {text}", segment.number)
 }
 
 fn number_text(alloc: Global, number: Option<u32>) -> Result<String, AllocError> {

@@ -41,6 +41,11 @@ impl<'a> Words<'a> {
         self.word().parse().unwrap_or(0)
     }
 
+    /// The next word as a segment size.
+    pub fn mss(&mut self) -> u16 {
+        self.word().parse().unwrap_or(0)
+    }
+
     /// The next word as a time.
     pub fn time(&mut self) -> u64 {
         self.word().parse().unwrap_or(0)
@@ -113,7 +118,7 @@ impl<'a> Words<'a> {
     /// The next words as options of a socket.
     pub fn options(&mut self) -> Options {
         Options {
-            mss: self.word().parse().unwrap_or(0),
+            mss: self.mss(),
             keep_alive: self.number(),
             is_eager: self.number() != 0,
         }

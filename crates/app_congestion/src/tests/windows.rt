@@ -1,4 +1,5 @@
-//! Events of a sender with cwnd and ssthresh after each, by hand from RFC 5681, RFC 6582 and RFC 6928.
+//! Events of a sender with cwnd and ssthresh after each, by hand from RFC 3042, RFC 5681, RFC 6582 and
+//! RFC 6928.
 
 use crate::{Congestion, MAX_CWND};
 use Turn::{Ack, Duplicate, Timeout};
@@ -60,8 +61,8 @@ fn fast_recovery(rt: HostRuntime) {
         (Ack(500, 9_000, 1_501), 11_500, MAX_CWND, false),
         (Ack(3_000, 9_000, 4_501), 12_500, MAX_CWND, false),
         // Two segments are lost. The third duplicate: half of 12,001, and three segments.
-        (Duplicate(12_000, 4_501, 16_501), 12_500, MAX_CWND, false),
-        (Duplicate(12_000, 4_501, 16_501), 12_500, MAX_CWND, false),
+        (Duplicate(12_001, 4_501, 16_501), 13_500, MAX_CWND, false),
+        (Duplicate(12_001, 4_501, 16_501), 14_500, MAX_CWND, false),
         (Duplicate(12_001, 4_501, 16_501), 9_000, 6_000, true),
         (Duplicate(12_000, 4_501, 16_501), 10_000, 6_000, false),
         (Duplicate(12_000, 4_501, 16_501), 11_000, 6_000, false),
@@ -72,16 +73,57 @@ fn fast_recovery(rt: HostRuntime) {
         // A full one: FlightSize and a segment.
         (Ack(9_500, 3_000, 16_501), 4_000, 6_000, false),
         // No more than `recover` is acknowledged.
-        (Duplicate(3_000, 16_501, 19_501), 4_000, 6_000, false),
-        (Duplicate(3_000, 16_501, 19_501), 4_000, 6_000, false),
-        (Duplicate(3_000, 16_501, 19_501), 4_000, 6_000, false),
+        (Duplicate(3_000, 16_501, 19_501), 5_000, 6_000, false),
+        (Duplicate(3_000, 16_501, 19_501), 6_000, 6_000, false),
+        (Duplicate(3_000, 16_501, 19_501), 6_000, 6_000, false),
         (Ack(1_000, 2_000, 17_501), 5_000, 6_000, false),
         // More is.
-        (Duplicate(5_001, 17_501, 22_502), 5_000, 6_000, false),
-        (Duplicate(5_001, 17_501, 22_502), 5_000, 6_000, false),
+        (Duplicate(5_001, 17_501, 22_502), 6_000, 6_000, false),
+        (Duplicate(5_001, 17_501, 22_502), 7_000, 6_000, false),
         (Duplicate(5_001, 17_501, 22_502), 5_500, 2_500, true),
     ];
     check(&rt, "fast recovery", &rows);
+}
+
+// RFC 3042, section 2: each of the first two duplicates allows a segment; cwnd is not changed by them. RFC 5681, section 3.2,
+// step 2: what they sent does not count for ssthresh.
+#[test]
+fn limited_transmit(rt: HostRuntime) {
+    let rows = [
+        (Timeout(10_000, 10_001), 1_000, 5_000, false),
+        (Ack(1_000, 9_000, 1_001), 2_000, 5_000, false),
+        (Ack(1_000, 8_000, 2_001), 3_000, 5_000, false),
+        (Ack(10_000, 4_000, 12_001), 4_000, 5_000, false),
+        // Reordering: two duplicates, and slow start from 4,000 on.
+        (Duplicate(4_000, 12_001, 16_001), 5_000, 5_000, false),
+        (Duplicate(5_000, 12_001, 17_001), 6_000, 5_000, false),
+        (Ack(2_000, 4_000, 14_001), 5_000, 5_000, false),
+        // A loss: 4,000 bytes are in flight at the first duplicate, and 6,000 at the third.
+        (Duplicate(4_000, 14_001, 18_001), 6_000, 5_000, false),
+        (Duplicate(5_000, 14_001, 19_001), 7_000, 5_000, false),
+        (Duplicate(6_000, 14_001, 20_001), 5_000, 2_000, true),
+        (Duplicate(6_000, 14_001, 20_001), 6_000, 2_000, false),
+        (Ack(6_000, 0, 20_001), 2_000, 2_000, false),
+        // Congestion avoidance: a duplicate, and a segment for 3,000 bytes.
+        (Ack(2_000, 1_000, 22_001), 3_000, 2_000, false),
+        (Duplicate(3_000, 22_001, 25_001), 4_000, 2_000, false),
+        (Ack(2_999, 1, 25_000), 3_000, 2_000, false),
+        (Ack(1, 0, 25_001), 4_000, 2_000, false),
+    ];
+    check(&rt, "limited transmit", &rows);
+}
+
+// RFC 3042, section 2: at most cwnd and two segments are in flight, if the window of the receiver allows it.
+#[test]
+fn limited_flight(rt: HostRuntime) {
+    let mut c = Congestion::new(1_000);
+    assert_eq!(rt; c.may_send(65_535, 10_000), 0);
+    let _ = c.on_duplicate(10_000, 1, 10_001);
+    assert_eq!(rt; c.may_send(65_535, 10_000), 1_000);
+    assert_eq!(rt; c.may_send(10_000, 10_000), 0);
+    let _ = c.on_duplicate(11_000, 1, 11_001);
+    assert_eq!(rt; c.may_send(65_535, 11_000), 1_000);
+    assert_eq!(rt; c.may_send(65_535, 12_000), 0);
 }
 
 #[test]
@@ -92,9 +134,9 @@ fn time_outs(rt: HostRuntime) {
         (Timeout(1_000, 22_502), 1_000, 2_500, false),
         // Slow start, also after three duplicates of what was sent before.
         (Ack(1_000, 4_001, 18_501), 2_000, 2_500, false),
-        (Duplicate(4_001, 18_501, 22_502), 2_000, 2_500, false),
-        (Duplicate(4_001, 18_501, 22_502), 2_000, 2_500, false),
-        (Duplicate(4_001, 18_501, 22_502), 2_000, 2_500, false),
+        (Duplicate(4_001, 18_501, 22_502), 3_000, 2_500, false),
+        (Duplicate(4_001, 18_501, 22_502), 4_000, 2_500, false),
+        (Duplicate(4_001, 18_501, 22_502), 4_000, 2_500, false),
         (Ack(1_000, 3_001, 19_501), 3_000, 2_500, false),
         // Congestion avoidance: a segment for 3,000 bytes.
         (Ack(1_000, 2_001, 20_501), 3_000, 2_500, false),
@@ -127,13 +169,13 @@ fn wraps(rt: HostRuntime) {
     let rows = [
         (
             Duplicate(8_000, 4_294_965_000, 5_704),
-            10_000,
+            11_000,
             MAX_CWND,
             false,
         ),
         (
             Duplicate(8_000, 4_294_965_000, 5_704),
-            10_000,
+            12_000,
             MAX_CWND,
             false,
         ),

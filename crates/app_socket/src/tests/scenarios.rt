@@ -2,10 +2,11 @@
 
 ghost use Rattle.app_socket.specs.Events.{IsShort};
 
-use crate::{Event, Options, Socket};
+use crate::{Event, Header, Options, Socket};
 use Turn::{Close, Gets, Listen, Open, Read, Tick, Write};
 use app_connection::{Segment, State as S};
 use std::process::Abort;
+use wire_tcp_options::TcpOptionSummary;
 
 /// The size of both rings, and of the longest segment.
 const SIZE: usize = 4000;
@@ -20,18 +21,18 @@ const OPTIONS: Options = Options {
     is_eager: false,
 };
 
-/// A segment, with the number of its bytes.
+/// A segment with the window of its header, and with the number of its bytes.
 #[derive(Debug, Clone, Copy, PartialEq, Eq)]
-struct Line {
-    number: u32,
-    ack: Option<u32>,
-    flags: Flags,
-    window: u32,
-    len: usize,
+pub(super) struct Line {
+    pub(super) number: u32,
+    pub(super) ack: Option<u32>,
+    pub(super) flags: Flags,
+    pub(super) window: u32,
+    pub(super) len: usize,
 }
 
 #[derive(Debug, Clone, Copy, PartialEq, Eq)]
-enum Flags {
+pub(super) enum Flags {
     None,
     Syn,
     Rst,
@@ -40,7 +41,7 @@ enum Flags {
 
 /// What happens.
 #[derive(Debug, Clone, Copy)]
-enum Turn {
+pub(super) enum Turn {
     Listen,
     Open(u32),
     Gets(Line),
@@ -53,15 +54,14 @@ enum Turn {
 /// When something happens, what it sends, and when the next Tick is due.
 type Row = (u64, Turn, Option<Line>, Option<u64>);
 
-/// A connection with its rings.
+/// A connection with the ring of what it sends.
 #[derive(Debug, Clone, Copy)]
-struct End {
-    socket: Socket,
+pub(super) struct End {
+    pub(super) socket: Socket,
     outgoing: [u8; SIZE],
-    incoming: [u8; SIZE],
 }
 
-fn plain(number: u32, ack: Option<u32>, flags: Flags, len: usize) -> Line {
+pub(super) fn plain(number: u32, ack: Option<u32>, flags: Flags, len: usize) -> Line {
     Line {
         number,
         ack,
@@ -71,15 +71,15 @@ fn plain(number: u32, ack: Option<u32>, flags: Flags, len: usize) -> Line {
     }
 }
 
-fn syn(number: u32) -> Line {
+pub(super) fn syn(number: u32) -> Line {
     plain(number, None, Flags::Syn, 0)
 }
 
-fn syn_ack(number: u32, ack: u32) -> Line {
+pub(super) fn syn_ack(number: u32, ack: u32) -> Line {
     plain(number, Some(ack), Flags::Syn, 0)
 }
 
-fn ack(number: u32, ack: u32) -> Line {
+pub(super) fn ack(number: u32, ack: u32) -> Line {
     plain(number, Some(ack), Flags::None, 0)
 }
 
@@ -97,18 +97,18 @@ fn fin(number: u32, ack: u32) -> Line {
     }
 }
 
-fn tells(number: u32, ack: u32, window: u32) -> Line {
+pub(super) fn tells(number: u32, ack: u32, window: u32) -> Line {
     Line {
         window,
         ..plain(number, Some(ack), Flags::None, 0)
     }
 }
 
-fn text(number: u32, ack: u32, len: usize) -> Line {
+pub(super) fn text(number: u32, ack: u32, len: usize) -> Line {
     plain(number, Some(ack), Flags::None, len)
 }
 
-fn line_of(segment: &Segment) -> Line {
+fn line_of(segment: &Segment, header: &Header) -> Line {
     let flags = if segment.syn {
         Flags::Syn
     } else if segment.rst {
@@ -122,20 +122,33 @@ fn line_of(segment: &Segment) -> Line {
         number: segment.number,
         ack: segment.ack,
         flags,
-        window: segment.window,
+        window: u32::from(header.window),
         len: segment.payload.len(),
     }
 }
 
 impl End {
-    fn turn(&mut self, now: u64, turn: Turn) -> Option<Line> {
-        if !self.socket.fits(SIZE, SIZE) {
+    pub(super) fn new() -> End {
+        End {
+            socket: Socket::new(OPTIONS),
+            outgoing: [0; SIZE],
+        }
+    }
+
+    pub(super) fn turn(
+        &mut self,
+        incoming: &mut [u8],
+        now: u64,
+        turn: Turn,
+        options: &TcpOptionSummary,
+    ) -> Option<(Line, TcpOptionSummary)> {
+        if !self.socket.fits(SIZE, incoming.len()) {
             return None;
         }
         match turn {
-            Turn::Listen => self.step(now, Event::Listen),
-            Turn::Open(iss) => self.step(now, Event::Open(iss)),
-            Turn::Gets(line) => self.gets(now, line),
+            Turn::Listen => self.step(incoming, now, Event::Listen),
+            Turn::Open(iss) => self.step(incoming, now, Event::Open(iss)),
+            Turn::Gets(line) => self.gets(incoming, now, line, options),
             Turn::Write(count) => {
                 let _ = self
                     .socket
@@ -143,15 +156,21 @@ impl End {
                 None
             }
             Turn::Read(count) => {
-                let _ = self.socket.read(&self.incoming, count);
+                let _ = self.socket.read(incoming, count);
                 None
             }
-            Turn::Close => self.step(now, Event::Close),
-            Turn::Tick => self.step(now, Event::Tick),
+            Turn::Close => self.step(incoming, now, Event::Close),
+            Turn::Tick => self.step(incoming, now, Event::Tick),
         }
     }
 
-    fn gets(&mut self, now: u64, line: Line) -> Option<Line> {
+    fn gets(
+        &mut self,
+        incoming: &mut [u8],
+        now: u64,
+        line: Line,
+        options: &TcpOptionSummary,
+    ) -> Option<(Line, TcpOptionSummary)> {
         let segment = Segment {
             number: line.number,
             ack: line.ack,
@@ -161,35 +180,46 @@ impl End {
             fin: line.flags == Flags::Fin,
             payload: &TEXT[..line.len.min(SIZE)],
         };
-        self.step(now, Event::Arrives(&segment, 500))
+        self.step(incoming, now, Event::Arrives(&segment, options, 500))
     }
 
-    fn step(&mut self, now: u64, event: Event) -> Option<Line>
+    fn step(
+        &mut self,
+        incoming: &mut [u8],
+        now: u64,
+        event: Event,
+    ) -> Option<(Line, TcpOptionSummary)>
         requires { IsShort event }
     {
-        if !self.socket.fits(SIZE, SIZE) {
+        let size = incoming.len();
+        if !self.socket.fits(SIZE, size) {
             return None;
         }
-        let sent = self
-            .socket
-            .step(&self.outgoing, &mut self.incoming, now, event);
+        let sent = self.socket.step(&self.outgoing, incoming, now, event);
         match sent {
-            Some(segment) => Some(line_of(&segment)),
+            Some(segment) => {
+                let header = self.socket.header(&segment, size, now);
+                Some((line_of(&segment, &header), header.options))
+            }
             None => None,
         }
     }
 }
 
-/// The rows, in order, from CLOSED on, and the state after them.
+/// The rows, in order, from CLOSED on, and the state after them. The peer has an MSS option only.
 fn check(rt: &impl Abort, name: &str, rows: &[Row], state: S) {
-    let mut end = End {
-        socket: Socket::new(OPTIONS),
-        outgoing: [0; SIZE],
-        incoming: [0; SIZE],
-    };
+    let mut end = End::new();
+    let mut incoming = [0; SIZE];
     for (i, (now, turn, sends, due)) in rows.iter().enumerate() {
-        let sent = end.turn(*now, *turn);
-        assert_eq!(rt; sent, *sends, "{name}, row {i}");
+        let options = TcpOptionSummary {
+            max_segment_size: Some(MSS),
+            ..TcpOptionSummary::default()
+        };
+        let line = match end.turn(&mut incoming, *now, *turn, &options) {
+            Some((line, _)) => Some(line),
+            None => None,
+        };
+        assert_eq!(rt; line, *sends, "{name}, row {i}");
         assert_eq!(rt; end.socket.due(), *due, "{name}, row {i}");
     }
     assert_eq!(rt; end.socket.state(), state, "{name}");

@@ -1,18 +1,24 @@
-use Rattle.std.proofs.Common.{◌≡◌, ◌⊎◌, inl, inr, refl, sym, ◌∙◌, subst, ap, ℕ, List, Bool, true, false, length}
+use Rattle.std.proofs.Common.{◌≡◌, ◌⊎◌, inl, inr, refl, sym, ◌∙◌, subst, ap, ℕ, ◌<◌, List, [], Bool, true, false, length, arith}
+use Rattle.std.specs.Prelude.{Option, Some, None, IfSome, not, if◌then◌else◌}
 use Rattle.tcp_model.specs.Network.{World, Close, happens}
-use Rattle.app_tcp.specs.Stands.{room_of}
+use Rattle.app_tcp.specs.Stands.{Stands, room_of}
 use Rattle.app_tcp.specs.Waits.{Waits}
+use Rattle.app_tcp.specs.declared.receiving.Receiving.{Receiving}
 use Rattle.app_tcp.specs.declared.sending.Sending.{Sending}
 use Rattle.app_connection.specs.declared.step.Event.{Event}
 use Rattle.app_connection.specs.declared.step.Event.TheVariants as event
 use Rattle.app_connection.specs.declared.state.Phase.{Phase}
 use Rattle.app_connection.specs.declared.state.Phase.TheVariants as phase
 use Rattle.app_connection.specs.declared.connection.Connection.{Connection}
-use Rattle.app_connection.specs.Endpoints.{endpoint_in, endpoint_of, control_of}
-use Rattle.app_connection.specs.Events.{ComesBy, IsMove, called}
+use Rattle.app_connection.specs.declared.segment.Reply.{Reply}
+use Rattle.app_connection.specs.declared.segment.Segment.{Segment}
+use Rattle.app_connection.specs.declared.state.State.{State}
+use Rattle.app_connection.specs.declared.state.State.TheVariants as state
+use Rattle.app_connection.specs.Endpoints.{endpoint_in, endpoint_of, control_of, len_of, one, spoken, refused_by, acknowledgement_of}
+use Rattle.app_connection.specs.Events.{ComesBy, IsMove, IsSending, begins, called}
 use Rattle.app_connection.specs.SetUp.{Endpoint, In_closed, In_syn_sent, Control, hears}
 use Rattle.app_connection.specs.States.{may_close, has_peer, state_from}
-use Rattle.app_connection.specs.Worlds.{Went, Arrives}
+use Rattle.app_connection.specs.Worlds.{Went, Arrives, IsAnswered}
 use Rattle.app_connection.proofs.Going.{went, went_still, waits_now, stands_as, stands_now}
 use Rattle.app_connection.proofs.connection.Connection.step.Goals as goal
 use Rattle.app_connection.proofs.connection.Connection.step.Goals.{in-Open, in-Arrives, in-Abort}
@@ -134,3 +140,129 @@ returns-clause-moves c =
           let new = w.abort-reply.new.self in
           moves_as c.args.event event.Abort window (endpoint_of old) (endpoint_of c.match-event.self) (endpoint_of new) w.in-Abort.is (ap endpoint_of w.self-is) w.abort-reply.ensures.endpoint
     ]
+
+-- what holds of each reply holds of the segment that says it
+of_reply : (P : Reply → Type 0) (o : Option Segment) (r : Option Reply) → spoken o ≡ r → IfSome r P → IfSome o (λ s. P (record { number = s.number; ack = s.ack; syn = s.syn; rst = s.rst }))
+of_reply P None r is h = tt
+of_reply P (Some s) r is h = let said : IfSome (spoken (Some s)) P = subst (λ (x : Option Reply). IfSome x P) (sym is) h in said
+
+if_some : (P Q : Reply → Type 0) (o : Option Reply) → ((r : Reply) → P r → Q r) → IfSome o P → IfSome o Q
+if_some P Q None f h = tt
+if_some P Q (Some r) f h = f r h
+
+-- no reply
+if_none : (P : Reply → Type 0) (o : Option Reply) → o ≡ None → IfSome o P
+if_none P o is = subst (λ (x : Option Reply). IfSome x P) (sym is) tt
+
+-- a segment without SYN, text and FIN takes no sequence number
+takes_none : (s : Segment) → s.syn ≡ false → (s.payload.now ≡ []) × (s.fin ≡ false) → len_of s ≡ 0
+takes_none s syn text = let t : length s.payload.now ≡ 0 = ap length text.0 in omega (arith, t, ap one syn, ap one text.1)
+
+bare_of : (o : Option Segment) → IfSome o (λ s. s.syn ≡ false) → IfSome o (λ s. (s.payload.now ≡ []) × (s.fin ≡ false)) → IfSome o (λ s. len_of s ≡ 0)
+bare_of None syn text = tt
+bare_of (Some s) syn text = takes_none s syn text
+
+takes_none_if : (P : Segment → Type 0) (o : Option Segment) → IfSome o (λ s. len_of s ≡ 0) → IfSome o (λ s. 0 < len_of s → P s)
+takes_none_if P None none = tt
+takes_none_if P (Some s) none = λ some. absurd (omega (arith, some, none))
+
+-- an endpoint in CLOSED answers without SYN
+refused_by_no_syn : (s : Segment) (ack : Option ℕ) → (refused_by s ack).syn ≡ false
+refused_by_no_syn s (Some ack) = refl
+refused_by_no_syn s None = refl
+
+refused_no_syn : (s : Segment) (rst : Bool) → IfSome (if rst then None else Some (refused_by s s.ack)) (λ r. r.syn ≡ false)
+refused_no_syn s true = tt
+refused_no_syn s false = refused_by_no_syn s s.ack
+
+is_shut : (s : State) → (s ≡ state.Closed) ⊎ (s ≡ state.Closed → ⊥)
+is_shut state.Closed = inl refl
+is_shut state.Listen = inr (λ is. absurd (cc))
+is_shut state.SynSent = inr (λ is. absurd (cc))
+is_shut state.SynReceived = inr (λ is. absurd (cc))
+is_shut state.Established = inr (λ is. absurd (cc))
+is_shut state.FinWait1 = inr (λ is. absurd (cc))
+is_shut state.FinWait2 = inr (λ is. absurd (cc))
+is_shut state.CloseWait = inr (λ is. absurd (cc))
+is_shut state.Closing = inr (λ is. absurd (cc))
+is_shut state.LastAck = inr (λ is. absurd (cc))
+is_shut state.TimeWait = inr (λ is. absurd (cc))
+
+-- an active open of an endpoint with a peer begins nothing
+has_of_open : (e : Event) (iss : ℕ) (has : Bool) → e ≡ event.Open iss → begins e has ≡ false → has ≡ true
+has_of_open e iss has is none =
+    let h : not has ≡ false = subst (λ (x : Event). begins x has ≡ false) is none in
+    negated has h
+  where
+    negated : (b : Bool) → not b ≡ false → b ≡ true
+    negated true is = refl
+    negated false is = absurd (cc)
+
+pub returns-clause-bare : goal.returns-clause-bare
+returns-clause-bare c = λ opened none same.
+    let old = c.args.self.now in
+    let no_syn : IfSome c.match-event.reply (λ r. r.syn ≡ false) = elim c.match-event.branch [
+      | in-Open w ↦ if_none (λ r. r.syn ≡ false) c.match-event.reply (w.reply-is ∙ w.open-reply.ensures.none (has_of_open c.args.event w.in-Open.iss (has_peer (state_from old)) w.in-Open.is same))
+      | in-Arrives w ↦
+          let new = w.on_segment-reply.new.self in
+          let s = w.in-Arrives.segment in
+          let h : IfSome w.on_segment-reply.result (λ r. r.syn ≡ false) = elim (is_shut (state_from old)) [
+            | inl shut ↦ subst (λ (x : Option Reply). IfSome x (λ r. r.syn ≡ false)) (sym (w.on_segment-reply.ensures.closed shut)) (refused_no_syn s.now s.now.rst)
+            | inr other ↦ if_some (λ r. r ≡ acknowledgement_of new) (λ r. r.syn ≡ false) w.on_segment-reply.result (λ r is. ap (λ (x : Reply). x.syn) is) (w.on_segment-reply.ensures.replies opened other)
+          ] in
+          subst (λ (x : Option Reply). IfSome x (λ r. r.syn ≡ false)) (sym w.reply-is) h
+      | in-Abort w ↦ subst (λ (x : Option Reply). IfSome x (λ r. r.syn ≡ false)) (sym w.reply-is) w.abort-reply.ensures.syn
+    ] in
+    bare_of c.without_text.result (of_reply (λ r. r.syn ≡ false) c.without_text.result c.match-event.reply c.without_text.ensures.spoken no_syn) c.without_text.ensures.text
+
+-- no other event has a segment sent
+sends_none : (e f : Event) → e ≡ f → (IsSending f → ⊥) → IsSending e → ⊥
+sends_none e f is none sending = none (subst IsSending is sending)
+
+pub returns-clause-sends : goal.returns-clause-sends
+returns-clause-sends c = λ opened same.
+    let none : IsSending c.args.event → ⊥ = elim c.match-event.branch [
+      | in-Open w ↦ sends_none c.args.event (event.Open w.in-Open.iss) w.in-Open.is (λ x. x)
+      | in-Arrives w ↦ sends_none c.args.event (event.Arrives w.in-Arrives.segment w.in-Arrives.fresh) w.in-Arrives.is (λ x. x)
+      | in-Abort w ↦ sends_none c.args.event event.Abort w.in-Abort.is (λ x. x)
+    ] in
+    takes_none_if _ c.without_text.result (returns-clause-bare c opened none same)
+
+-- the acknowledgement of a reply is that of the receiving half
+abbrev Acknowledges : Receiving → List ℕ → Reply → Type 0
+Acknowledges receiving incoming r = (back : World) (consumed : List ℕ) → Stands back consumed receiving incoming → IsAnswered back r
+
+acknowledges_as : (c d : Connection) (old new : List ℕ) (o q : Option Reply) → d ≡ c → new ≡ old → q ≡ o → IfSome o (Acknowledges c.receiving old) → IfSome q (Acknowledges d.receiving new)
+acknowledges_as c d old new o q is same equal h =
+    subst (λ (x : Option Reply). IfSome x (Acknowledges d.receiving new)) (sym equal)
+    (subst (λ (l : List ℕ). IfSome o (Acknowledges d.receiving l)) (sym same) (subst (λ (x : Connection). IfSome o (Acknowledges x.receiving old)) (sym is) h))
+
+-- the SYN of an active open acknowledges nothing
+syn_acknowledges : (receiving : Receiving) (incoming : List ℕ) (iss : ℕ) (o : Option Reply) → o ≡ Some (record { number = iss; ack = None; syn = true; rst = false }) → IfSome o (Acknowledges receiving incoming)
+syn_acknowledges receiving incoming iss o is =
+    let h : Acknowledges receiving incoming (record { number = iss; ack = None; syn = true; rst = false }) = λ back consumed stands. inr tt in
+    subst (λ (x : Option Reply). IfSome x (Acknowledges receiving incoming)) (sym is) h
+
+pub returns-clause-answers : goal.returns-clause-answers
+returns-clause-answers c = λ opened.
+    let old = c.args.self.now in
+    let incoming = c.args.incoming.now in
+    let acks : IfSome c.match-event.reply (Acknowledges c.match-event.self.receiving c.match-event.incoming) = elim c.match-event.branch [
+      | in-Open w ↦
+          let new = w.open-reply.new.self in
+          let h : IfSome w.open-reply.result (Acknowledges new.receiving incoming) = elim (either (has_peer (state_from old))) [
+            | inl has ↦ if_none (Acknowledges new.receiving incoming) w.open-reply.result (w.open-reply.ensures.none has)
+            | inr none ↦ syn_acknowledges new.receiving incoming w.in-Open.iss w.open-reply.result (w.open-reply.ensures.syn none)
+          ] in
+          acknowledges_as new c.match-event.self incoming c.match-event.incoming w.open-reply.result c.match-event.reply w.self-is w.incoming-is w.reply-is h
+      | in-Arrives w ↦
+          let new = w.on_segment-reply.new in
+          acknowledges_as new.self c.match-event.self new.incoming c.match-event.incoming w.on_segment-reply.result c.match-event.reply w.self-is w.incoming-is w.reply-is (w.on_segment-reply.ensures.answers opened)
+      | in-Abort w ↦
+          let new = w.abort-reply.new.self in
+          let h : IfSome w.abort-reply.result (Acknowledges new.receiving incoming) =
+          if_some (λ r. r.rst ≡ true) (Acknowledges new.receiving incoming) w.abort-reply.result (λ r rst back consumed stands. inl rst) w.abort-reply.ensures.reset
+          in
+          acknowledges_as new c.match-event.self incoming c.match-event.incoming w.abort-reply.result c.match-event.reply w.self-is w.incoming-is w.reply-is h
+    ] in
+    of_reply (Acknowledges c.match-event.self.receiving c.match-event.incoming) c.without_text.result c.match-event.reply c.without_text.ensures.spoken acks

@@ -1,5 +1,6 @@
 use Rattle.std.proofs.Common.{refl}
 use Rattle.app_connection.proofs.Going.{went, went_still, stands_as, stands_now}
+use Rattle.app_socket.proofs.Opened.{no_items, open_phase}
 use Rattle.app_socket.proofs.socket.Socket.tick.Goals as goal
 
 pub returns-then-not-has_peer-clause-goes : goal.returns-then-not-has_peer-clause-goes
@@ -20,3 +21,9 @@ returns-clause-goes c = λ there back consumed other stand.
     let new = c.tick_open.new.self.connection in
     went there back consumed new c.args.outgoing.now c.args.incoming.now (c.tick_open.ensures.waits there stand.waits)
     (stands_as back consumed old.receiving new.receiving c.args.incoming.now c.tick_open.ensures.receiving (stands_now back consumed old.receiving c.args.incoming.now stand.stands))
+
+pub returns-then-self-now-clause-sends : goal.returns-then-self-now-clause-sends
+returns-then-self-now-clause-sends c = λ opened. no_items _ c.step.result (c.step.ensures.bare (open_phase c.args.self.now.connection opened) (λ x. x) refl)
+
+pub returns-clause-sends : goal.returns-clause-sends
+returns-clause-sends c = λ opened. c.tick_open.ensures.sends (open_phase c.args.self.now.connection opened)

@@ -1,0 +1,4 @@
+pub mod Windows
+pub mod Timestamps
+pub mod Options
+pub mod Fields

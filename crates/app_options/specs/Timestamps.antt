@@ -1,0 +1,47 @@
+-- Timestamps, and protection against wrapped sequence numbers (PAWS; RFC 7323, sections 3 to 5), in milliseconds.
+-- Pinned by: `options/timestamps`
+use Rattle.std.specs.Prelude.{ℕ, ◌+◌, ◌-◌, ◌%◌, Bool, true, false, not, ◌&&◌, nat_lt, Option, Some, None}
+use Rattle.app_options.specs.declared.timestamps.Recent.{Recent}
+
+-- the timestamp clock at a time (section 5.4)
+abbrev pub stamp : ℕ → ℕ → ℕ
+stamp offset now = (offset + now) % 4294967296
+
+-- the way forward from a timestamp s to t, in unsigned 32-bit arithmetic
+abbrev pub ahead : ℕ → ℕ → ℕ
+ahead t s = (t + (4294967296 - s)) % 4294967296
+
+-- s < t: 0 < (t - s) < 2^31 (section 5.2)
+abbrev pub is_before : ℕ → ℕ → Bool
+is_before s t = nat_lt 0 (ahead t s) && nat_lt (ahead t s) 2147483648
+
+-- TS.Recent is older than 24 days, so it is not used (section 5.5)
+abbrev pub is_outdated : Recent → ℕ → Bool
+is_outdated recent now = nat_lt (recent.heard_at + 2073600000) now
+
+-- a timestamp shows an old duplicate (section 5.3, R1)
+abbrev pub is_old : Recent → ℕ → ℕ → Bool
+is_old recent tsval now = not (is_outdated recent now) && is_before tsval recent.value
+
+-- Whether a segment without RST is taken, by TS.Recent and its own timestamp. If timestamps are agreed on, each segment has one
+-- (section 3.2).
+abbrev pub takes : Option Recent → Option (ℕ × ℕ) → ℕ → Bool
+takes None timestamp now = true
+takes (Some recent) None now = false
+takes (Some recent) (Some timestamp) now = not (is_old recent timestamp.0 now)
+
+-- TS.Recent after a SYN (section 3.2), if it has a timestamp
+abbrev pub heard : Option (ℕ × ℕ) → ℕ → Option Recent
+heard None now = None
+heard (Some timestamp) now = Some (record { value = timestamp.0; heard_at = now })
+
+-- TS.Recent after a segment whose timestamp counts (section 4.3)
+abbrev pub updated : Option Recent → Option (ℕ × ℕ) → ℕ → Option Recent
+updated None timestamp now = None
+updated (Some recent) None now = Some recent
+updated (Some recent) (Some timestamp) now = heard (Some timestamp) now
+
+-- the timestamp option of a segment that is no first SYN: TSval, and TSecr is TS.Recent (section 3.2)
+abbrev pub echoes : Option Recent → ℕ → ℕ → Option (ℕ × ℕ)
+echoes None offset now = None
+echoes (Some recent) offset now = Some (stamp offset now, recent.value)

@@ -1,0 +1,5 @@
+//! Tests of all calls.
+
+mod options;
+mod timestamps;
+mod windows;

@@ -1,0 +1,51 @@
+-- What holds of a connection that is set up.
+use Rattle.std.proofs.Common.{◌≡◌, ◌⊎◌, inr, refl, sym, ◌∙◌, ap, subst, ℕ, ◌<◌, List, true, arith}
+use Rattle.std.specs.Prelude.{Option, Some, None, IfSome}
+use Rattle.tcp_model.specs.Network.{World}
+use Rattle.app_tcp.specs.Stands.{Stands, IsAnswer}
+use Rattle.app_tcp.specs.declared.receiving.Receiving.{Receiving}
+use Rattle.app_connection.specs.declared.connection.Connection.{Connection}
+use Rattle.app_connection.specs.declared.segment.Segment.{Segment}
+use Rattle.app_connection.specs.declared.state.Phase.{Phase}
+use Rattle.app_connection.specs.declared.state.Phase.TheVariants as phase
+use Rattle.app_connection.specs.declared.state.State.{State}
+use Rattle.app_connection.specs.Endpoints.{len_of}
+use Rattle.app_connection.specs.States.{state_from, state_in}
+use Rattle.app_connection.specs.Worlds.{Arrives, Stand, Went}
+use Rattle.app_socket.specs.Times.{is_open}
+
+open_in : (p : Phase) (s : State) → is_open (state_in p s) ≡ true → p ≡ phase.Open
+open_in phase.Closed s is = absurd (cc)
+open_in phase.Listen s is = absurd (cc)
+open_in phase.SynSent s is = absurd (cc)
+open_in phase.SynReceived s is = absurd (cc)
+open_in phase.Open s is = refl
+
+-- the phase of a synchronized state
+pub open_phase : (c : Connection) → is_open (state_from c) ≡ true → c.phase ≡ phase.Open
+open_phase c is = open_in c.phase _ is
+
+-- a segment that takes no sequence number has no items
+pub no_items : (P : Segment → Type 0) (o : Option Segment) → IfSome o (λ s. len_of s ≡ 0) → IfSome o (λ s. 0 < len_of s → P s)
+no_items P None bare = tt
+no_items P (Some s) bare = λ some. absurd (omega (arith, some, bare))
+
+-- a segment with another window comes with the same items and acknowledgement
+arrives_as : (there back : World) (s t : Segment) (window : ℕ) → t ≡ record s { window = window } → Arrives there back s → Arrives there back t
+arrives_as there back s t window is comes =
+    let scaled : Arrives there back (record s { window = window }) = record { which = comes.which; text = comes.text; ack = comes.ack } in
+    subst (λ (x : Segment). Arrives there back x) (sym is) scaled
+
+pub goes_scaled : (there back : World) (consumed : List ℕ) (c d new : Connection) (s t : Segment) (window : ℕ) (outgoing incoming brought : List ℕ) → d ≡ c → t ≡ record s { window = window }
+    → ((d.phase ≡ phase.Listen → ⊥) → Arrives there back t → Stand there back consumed d outgoing incoming → Went there back consumed new outgoing brought)
+    → (c.phase ≡ phase.Listen → ⊥) → Arrives there back s → Stand there back consumed c outgoing incoming → Went there back consumed new outgoing brought
+goes_scaled there back consumed c d new s t window outgoing incoming brought same is goes other comes stand =
+    goes (λ listens. other (sym (ap (λ (x : Connection). x.phase) same) ∙ listens)) (arrives_as there back s t window is comes)
+    (subst (λ (x : Connection). Stand there back consumed x outgoing incoming) (sym same) stand)
+
+-- what holds of the acknowledgement of a segment holds of the receiving half as it is after it
+pub answers_as : (o : Option Segment) (r t : Receiving) (incoming : List ℕ) → t ≡ r
+    → IfSome o (λ s. (back : World) (consumed buffer : List ℕ) → Stands back consumed r buffer → IfSome s.ack (λ number. IsAnswer back number))
+    → IfSome o (λ s. (back : World) (consumed : List ℕ) → Stands back consumed t incoming → (s.rst ≡ true) ⊎ IfSome s.ack (λ number. IsAnswer back number))
+answers_as None r t incoming is answers = tt
+answers_as (Some s) r t incoming is answers = λ back consumed stands. inr (answers back consumed incoming (subst (λ (x : Receiving). Stands back consumed x incoming) is stands))
