@@ -25,7 +25,9 @@ enum {
     X(index_routes) X(choose_route) X(check_source) X(parse_endpoint) X(parse_ethernet)                \
     X(print_ethernet) X(read_packet) X(read_captured) X(next_tcp_option) X(update_checksum)            \
     X(update_checksum_addr) X(update_udp_checksum) X(update_udp_checksum_addr)                         \
-    X(update_checksum_bytes) X(update_udp_checksum_bytes) X(make_route_table) X(choose_route_by_table) X(check_source_by_table) X(fragment) X(reassemble)
+    X(update_checksum_bytes) X(update_udp_checksum_bytes) X(make_route_table)                          \
+    X(choose_route_by_table) X(check_source_by_table) X(fragment) X(reassemble)                        \
+    X(connection_step) X(connection_tick) X(connection_write) X(connection_read)
 #define CALL(name) __typeof__(lk_##name) *name;
 
 struct library {

@@ -1,6 +1,7 @@
 /* The rows of the table. */
 #include <stdio.h>
 #include "rows_routing.h"
+#include "rows_connection.h"
 
 REPEAT(call_checksum, checksum, bytes, row->size)
 REPEAT(call_read, read_frame, bytes, frame_len, &out.frame)
@@ -372,6 +373,8 @@ static void visit_rows(visitor *visit)
                 visit_block(&tcp_blocks[j], &headers[i], visit);
     for (size_t i = 0; i < COUNT(routing_blocks); i++)
         visit_block(&routing_blocks[i], NULL, visit);
+    for (size_t i = 0; i < COUNT(connection_blocks); i++)
+        visit_block(&connection_blocks[i], NULL, visit);
     visit_block(&own_block, NULL, visit);
     visit_block(&link_block, NULL, visit);
     visit_block(&own_tcp_block, &headers[1], visit);

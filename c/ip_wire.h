@@ -20,7 +20,8 @@
  *   it: all but the source port of UDP. A 0 in any other field is written as 0.
  *
  * A call that does something begins with its verb: `parse` and `print` are for texts, `read` and `emit` for
- * headers. A call that only tells something is named after it, as lk_tcp_header_len.
+ * headers. A call that only tells something is named after it, as lk_tcp_header_len. All calls of a TCP connection begin with
+ * lk_connection_.
  *
  * A program for version 0.3 must be compiled anew, and these are the changes that it may need:
  *
@@ -1327,6 +1328,121 @@ int lk_translate_out(const struct lk_nat *nat, struct lk_mapping *mappings, size
                      size_t len);
 int lk_translate_in(const struct lk_nat *nat, struct lk_mapping *mappings, size_t count, uint64_t now, uint8_t *frame,
                     size_t len);
+
+/* ---- TCP connections ---- */
+
+/* One end of a TCP connection (RFC 9293), with its timers, congestion control (RFC 5681, RFC 6298, RFC 6582), selective
+ * acknowledgements (RFC 2018), window scale and timestamps (RFC 7323). It is private: lk_connection_init makes it, and
+ * only the calls lk_connection_.. write it. A copy of it is another connection. */
+struct lk_connection {
+    uint64_t memory[64];
+};
+
+/* A TCP segment without its ports. */
+struct lk_segment {
+    struct lk_tcp tcp;
+    struct lk_tcp_options options;
+    const uint8_t *payload;
+    size_t payload_len;
+};
+
+/* Where a connection is (RFC 9293, section 3.3.2). */
+enum lk_connection_state {
+    LK_CLOSED,
+    LK_LISTEN,
+    LK_SYN_SENT,
+    LK_SYN_RECEIVED,
+    LK_ESTABLISHED,
+    LK_FIN_WAIT_1,
+    LK_FIN_WAIT_2,
+    LK_CLOSE_WAIT,
+    LK_CLOSING,
+    LK_LAST_ACK,
+    LK_TIME_WAIT
+};
+
+/* A connection sends from the ring `outgoing`, and receives into the ring `incoming`. Each has at least 1 byte and less than
+ * 2^30. A connection always gets the same two rings. A call that gets a ring of another length returns -1 if the bytes of
+ * the connection do not fit into it; then nothing changes. Which of two rings of a fitting length it gets is not tested.
+ *
+ * `now` is a clock in milliseconds that never goes back. A call that stores a segment in `out` returns 1: send it. It returns
+ * 0 if there is none; then `out` is unchanged. The payload of a segment is in `outgoing`: it is valid until another call for
+ * the connection. After each other call, and at the time of lk_connection_due, call lk_connection_tick until it returns 0.
+ *
+ *     struct lk_segment in = {f.tcp, options, frame + f.payload_offset, f.payload_len}, out;
+ *     if (lk_connection_step(&c, outgoing, OUTGOING, incoming, INCOMING, now, &in, random32(), &out) == 1)
+ *         send_segment(&out);
+ *     while (lk_connection_tick(&c, outgoing, OUTGOING, incoming, INCOMING, now, &out) == 1)
+ *         send_segment(&out);
+ *
+ * Here send_segment writes a frame to the peer, whose addresses and ports are in `headers`:
+ *
+ *     headers.tcp = out->tcp;
+ *     len = lk_emit_tcp_frame(&headers, &out->options, out->payload, out->payload_len, frame, sizeof frame); */
+
+/* Makes a connection in LK_CLOSED, whatever `connection` was. `mss` is the largest segment that it takes and sends, in
+ * bytes: the MTU without the IP and TCP header, 1460 for IPv4 over Ethernet and 1440 for IPv6; 0 is 536. Where the peer
+ * is silent for `keep_alive` seconds, it is probed; 0 is 7200. If `is_eager` is not 0, small segments go at once, as with
+ * TCP_NODELAY: Nagle's algorithm is off. */
+void lk_connection_init(struct lk_connection *connection, uint16_t mss, uint32_t keep_alive, int is_eager);
+
+/* Waits for the SYN of a peer: LK_CLOSED becomes LK_LISTEN. In another state nothing happens. The connection is that with
+ * the peer whose SYN comes: a program has one connection for each peer. */
+void lk_connection_listen(struct lk_connection *connection);
+
+/* Opens the connection, from LK_CLOSED or LK_LISTEN, and stores its SYN. `iss` is its sequence number: hard to guess (RFC
+ * 6528), as random bytes are. Returns 0 in another state. */
+int lk_connection_connect(struct lk_connection *connection, const uint8_t *outgoing, size_t outgoing_len,
+                          uint8_t *incoming, size_t incoming_len, uint64_t now, uint32_t iss,
+                          struct lk_segment *out);
+
+/* Takes a segment of the peer, and stores the segment that answers it at once. The caller has found the connection by
+ * addresses and ports, and checked the checksum. `fresh` is a sequence number as `iss` is: that of the SYN that answers the
+ * peer's SYN in LK_LISTEN. A connection in LK_CLOSED answers with RST. Returns -1 also if the payload has more than 65535
+ * bytes. */
+int lk_connection_step(struct lk_connection *connection, const uint8_t *outgoing, size_t outgoing_len,
+                       uint8_t *incoming, size_t incoming_len, uint64_t now, const struct lk_segment *segment,
+                       uint32_t fresh, struct lk_segment *out);
+
+/* Stores the next segment that is to be sent at this time: new bytes, bytes or a SYN or FIN that go again, an
+ * acknowledgement, or a probe. A connection whose peer was silent for too long ends, with a RST. */
+int lk_connection_tick(struct lk_connection *connection, const uint8_t *outgoing, size_t outgoing_len,
+                       uint8_t *incoming, size_t incoming_len, uint64_t now, struct lk_segment *out);
+
+/* The application writes no more: after the bytes that were written a FIN goes to the peer. What the peer sends can be read
+ * as before. In LK_LISTEN and LK_SYN_SENT the connection ends at once (RFC 9293, section 3.10.4), without the bytes. */
+void lk_connection_close(struct lk_connection *connection);
+
+/* Gives the connection up: LK_CLOSED. Stores a RST for the peer, if there may be one. */
+int lk_connection_abort(struct lk_connection *connection, struct lk_segment *out);
+
+/* Writes bytes for the peer into the ring, as far as it has room. Returns how many: 0 in LK_CLOSED and LK_LISTEN, and after
+ * lk_connection_close. */
+ptrdiff_t lk_connection_write(struct lk_connection *connection, uint8_t *outgoing, size_t outgoing_len,
+                              const uint8_t *ptr, size_t len);
+
+/* Copies the next bytes of the peer to `out`, at most `cap`, and returns how many. If it is 0, and
+ * lk_connection_is_ended is 1, the peer writes no more. */
+ptrdiff_t lk_connection_read(struct lk_connection *connection, const uint8_t *incoming, size_t incoming_len,
+                             uint8_t *out, size_t cap);
+
+/* Returns when lk_connection_tick has something to do, if no other call comes before. UINT64_MAX: never. */
+uint64_t lk_connection_due(const struct lk_connection *connection);
+
+/* Returns an `lk_connection_state`. */
+int lk_connection_state(const struct lk_connection *connection);
+
+/* Whether the application has read all that the peer wrote, and the peer has closed. */
+int lk_connection_is_ended(const struct lk_connection *connection);
+
+/* Returns how many numbers the peer has not acknowledged: one for each byte that was written, and one for a SYN or FIN. So
+ * the ring `outgoing` has room for at least `outgoing_len` without this many bytes. */
+size_t lk_connection_waiting(const struct lk_connection *connection);
+
+/* An ICMP error says that the segment with `seq_number`, which it quotes, was too big (RFC 1191, RFC 8201). `mss` is the MTU
+ * of the error without the IP header and the 20 bytes of a TCP header. Returns 1, or 0 if no such segment is in flight; then
+ * nothing is changed (RFC 5927, section 4.1). */
+int lk_connection_too_big(struct lk_connection *connection, uint32_t seq_number, uint16_t mss);
 
 #ifdef __cplusplus
 }

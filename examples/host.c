@@ -1,6 +1,6 @@
 /* A host on a TAP device (Linux). It echoes what comes to port 7 by UDP and TCP over IPv4 and IPv6, and rejects every
- * other connection. lk_answer answers all but TCP: also ping, ARP, neighbour solicitations, and UDP to other ports.
- * host_tcp.c has its TCP.
+ * other connection. sockets.h has its TCP connections. lk_answer answers the rest: the echo of UDP, ping, ARP, neighbour
+ * solicitations, and what comes to other ports.
  *     host DEVICE HARDWARE_ADDRESS IPV4_ADDRESS IPV6_ADDRESS
  * Makes the device, unless it exists, and prints "ready". SIGINT and SIGTERM end it: then it prints counts. It
  * ends with status 1 if the device is deleted. While the device is down, it waits.
@@ -10,9 +10,8 @@
  * Not supported: ICMP errors that come in, but for "packet too big". */
 #define _GNU_SOURCE
 #include "error_limit.h"
-#include "host_tcp.h"
 #include "process.h"
-#include "tap.h"
+#include "sockets.h"
 
 static const char help[] =
     "usage: host DEVICE HARDWARE_ADDRESS IPV4_ADDRESS IPV6_ADDRESS\n"
@@ -23,10 +22,10 @@ static const char help[] =
     "  --help            prints this\n"
     "SIGINT and SIGTERM end it, and it prints counts.\n";
 
-enum { LONGEST_IP_HEADER = 60, TCP_HEADER = 20 };
+enum { ECHO_PORT = 7 };
 
-size_t mtu;
 static struct lk_host own = {.echo_port = ECHO_PORT};
+static struct sockets sockets = {.own = &own, .port = ECHO_PORT};
 static struct error_limit limit;
 static struct fragments fragments;
 static struct listener listener;
@@ -39,16 +38,6 @@ static void send_out(ptrdiff_t len)
 {
     if (len > 0)
         frames_out += write_packet(device, &fragments, out, (size_t)len);
-}
-
-struct lk_frame headers_to(const struct lk_frame *in)
-{
-    struct lk_frame reply = *in;
-    lk_reply(&reply);
-    memcpy(reply.ethernet.src, own.hardware, 6);
-    reply.ip.dscp = 0;
-    reply.tcp = (struct lk_tcp){.flags = 0};
-    return reply;
 }
 
 static void answer(const uint8_t *frame, size_t len)
@@ -70,47 +59,15 @@ static void expire_fragments(void)
     }
 }
 
-void send_tcp(const struct lk_frame *headers, const struct lk_tcp_options *options, const uint8_t *ptr, size_t len)
+/* Writes back what was read, as far as there is room for it, and closes after the peer. */
+static void echo(struct socket *s)
 {
-    send_out(lk_emit_tcp_frame(headers, options, ptr, len, out, sizeof out));
-}
-
-/* Whether a packet is for this host, from addresses that another host can have (RFC 1122, section 3.2.1.3). Without
- * routes lk_check_source finds those that none can have. */
-static int is_for_us(const struct lk_frame *in)
-{
-    const struct lk_addr *addr = in->network == LK_IPV4 ? &own.ipv4 : &own.ipv6, *src = &in->src.addr;
-    int is_to_us = memcmp(in->ethernet.dst, own.hardware, 6) == 0 && memcmp(&in->dst.addr, addr, sizeof *addr) == 0;
-    return is_to_us && lk_is_unicast(addr) && (in->ethernet.src[0] & 1) == 0 && memcmp(src, addr, sizeof *addr) != 0
-           && lk_check_source(NULL, 0, NULL, 0, src, 0) != LK_MARTIAN;
-}
-
-/* Whether a packet is the ICMP error "packet too big" (RFC 4443, section 3.2), over IPv4 "fragmentation needed" (RFC
- * 1191). */
-static int is_too_big(const struct lk_frame *in)
-{
-    const struct lk_icmp *icmp = &in->icmp;
-    return in->transport == LK_ICMP && (in->network == LK_IPV4 ? icmp->type == 3 && icmp->code == 4 : icmp->type == 2);
-}
-
-/* The error quotes the IP header of a packet, and at least 8 bytes after it (RFC 792). In a TCP header these are the
- * ports and the sequence number. */
-static void on_too_big(const struct lk_frame *in, const uint8_t *frame)
-{
-    uint8_t quote[LONGEST_IP_HEADER + TCP_HEADER] = {0};
-    size_t len = in->payload_len < sizeof quote ? in->payload_len : sizeof quote;
-    struct lk_frame sent;
-    memcpy(quote, frame + in->payload_offset, len);
-    lk_read_captured_packet(quote, sizeof quote, LK_MAX_LEN, &sent);
-    int is_tcp = (sent.transport == LK_TCP || sent.rejected == LK_TCP) && sent.transport_offset + 8 <= len;
-    if (is_tcp && sent.network == in->network)
-        lower_mtu(&sent, in->network == LK_IPV4 ? in->icmp.word & 0xffff : in->icmp.word);
-}
-
-static int has_wrong_checksum(const struct lk_frame *in)
-{
-    int verdict = in->transport_checksum;
-    return in->ipv4_checksum == LK_WRONG || verdict == LK_WRONG || verdict == LK_LEFT_TO_DEVICE;
+    static uint8_t bytes[BUFFER];
+    size_t len;
+    while ((len = read_bytes(s, bytes, room_of(s))) > 0)
+        write_bytes(s, bytes, len);
+    if (lk_connection_is_ended(&s->tcp))
+        lk_connection_close(&s->tcp);
 }
 
 /* `is_whole`: the frame was put together from fragments. */
@@ -129,16 +86,12 @@ static void on_frame(const uint8_t *frame, size_t len, int is_whole)
         rejected++;
     if (has_wrong_checksum(&in))
         wrong_checksums++;
-    else if (is_too_big(&in) && is_for_us(&in))
-        on_too_big(&in, frame);
+    else if (is_too_big(&in) && is_for_us(&own, &in))
+        on_too_big(&sockets, &in, frame);
     else if (in.network == LK_IPV6 && in.transport == LK_ICMP && in.icmp.type == MLD_QUERY)
         hear_query(&listener, milliseconds(), &own.ipv6, 0, frame, len);
-    else if (in.transport != LK_TCP && in.rejected != LK_TCP)
+    else if (in.transport != LK_TCP || !is_for_us(&own, &in) || !on_tcp(&sockets, &in, &options, frame))
         answer(frame, len);
-    else if (is_for_us(&in) && reason == LK_BAD_FLAGS)
-        reset(&in, in.payload_len - in.tcp.header_len); /* here the payload begins at the TCP header */
-    else if (is_for_us(&in) && reason == LK_READ)
-        on_tcp(&in, &options, frame);
 }
 
 /* Reads some frames, so that signals and timers have their turn. Returns 0 if the device has been deleted. */
@@ -162,7 +115,7 @@ static int serve(const char *name, int signals)
     struct pollfd fds[2] = {{.fd = signals, .events = POLLIN}, {.fd = device, .events = POLLIN}};
     for (;;) {
         int other = sooner(until_expire(&fragments), until_report(&listener, milliseconds()));
-        poll(fds, 2, sooner(run_timers(), other));
+        poll(fds, 2, sooner(run_sockets(&sockets), other));
         expire_fragments();
         frames_out += report_group(&listener, milliseconds(), &own, device);
         if (fds[0].revents != 0)
@@ -189,8 +142,11 @@ int main(int argc, char **argv)
     device = open_tap("host", argv[1]);
     if (device < 0)
         return 1;
-    mtu = mtu_of(device);
-    if (mtu == 0 || !make_fragments(&fragments)) {
+    sockets.device = device;
+    sockets.serve = echo;
+    make_sockets(&sockets);
+    sockets.mtu = mtu_of(device);
+    if (sockets.mtu == 0 || !make_fragments(&fragments)) {
         perror("host");
         return 1;
     }
@@ -203,7 +159,7 @@ int main(int argc, char **argv)
     listener.report_at = milliseconds();
     print(&output, "ready\n");
     int status = serve(argv[1], signals);
-    print(&output, "frames read %lu, written %lu, rejected %lu, wrong checksums %lu\n", frames_in, frames_out,
-          rejected, wrong_checksums);
+    print(&output, "frames read %lu, written %lu, rejected %lu, wrong checksums %lu\n", frames_in,
+          frames_out + sockets.frames_out, rejected, wrong_checksums);
     return status;
 }

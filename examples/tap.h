@@ -1,4 +1,4 @@
-/* What host.c, proved_host.c and bridge.c share: the TAP device and the addresses of a host. */
+/* What host.c, http.c, proved_host.c and bridge.c share: the TAP device and the addresses of a host. */
 #ifndef TAP_H
 #define TAP_H
 

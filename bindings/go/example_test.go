@@ -2,6 +2,7 @@ package ipwire_test
 
 import (
 	"fmt"
+	"io"
 	"log"
 	"net/netip"
 	"time"
@@ -135,6 +136,47 @@ func ExampleReassembler() {
 	// 1514 0 <nil>
 	// 1514 0 <nil>
 	// 82 3042 <nil>
+}
+
+// wire is one end of a device in memory. A file of /dev/net/tun is an io.ReadWriter of frames too.
+type wire struct{ in, out chan []byte }
+
+func (w wire) Read(frame []byte) (int, error) { return copy(frame, <-w.in), nil }
+func (w wire) Write(frame []byte) (int, error) {
+	w.out <- append([]byte{}, frame...)
+	return len(frame), nil
+}
+
+// One host echoes what another one writes.
+func ExampleStack() {
+	there, back := make(chan []byte, 100), make(chan []byte, 100)
+	server := ipwire.NewStack(wire{there, back}, ipwire.StackConfig{IPv4: netip.MustParseAddr("192.0.2.2")})
+	client := ipwire.NewStack(wire{back, there}, ipwire.StackConfig{IPv4: netip.MustParseAddr("192.0.2.1")})
+	go server.Serve()
+	go client.Serve()
+	listener, err := server.Listen(7)
+	if err != nil {
+		log.Fatal(err)
+	}
+	go func() {
+		if conn, err := listener.Accept(); err == nil {
+			io.Copy(conn, conn)
+			conn.Close()
+		}
+	}()
+	conn, err := client.Dial(&ipwire.Headers{
+		Src: netip.MustParseAddrPort("192.0.2.1:4000"),
+		Dst: netip.MustParseAddrPort("192.0.2.2:7"),
+		IP:  ipwire.IP{HopLimit: 64, DontFragment: true},
+	})
+	if err != nil {
+		log.Fatal(err)
+	}
+	fmt.Fprint(conn, "ping")
+	conn.CloseWrite()
+	reply, err := io.ReadAll(conn)
+	fmt.Println(string(reply), err)
+	// Output: ping <nil>
 }
 
 // A packet of a capture of the loopback device of BSD: the address family of IPv4 comes before it.

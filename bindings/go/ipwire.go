@@ -1,9 +1,9 @@
-// Package ipwire parses and writes Ethernet II, ARP, IPv4, IPv6, ICMP, UDP and TCP packets by the proved C
-// library ip_wire, which it finds by pkg-config. The manual page ip_wire(3) and ip_wire.h describe the calls.
+// Package ipwire parses and writes Ethernet II, ARP, IPv4, IPv6, ICMP, UDP and TCP packets, and has TCP connections, by
+// the proved C library ip_wire, which it finds by pkg-config. The manual page ip_wire(3) and ip_wire.h describe the calls.
 //
-// No call keeps a slice, has state, or writes outside of the slice that it is given to write to. Calls may run in
-// many goroutines at once, if none writes memory that another one uses. What a call writes must not overlap another
-// argument.
+// No call keeps a slice or writes outside of the slice that it is given to write to. Only a Reassembler, and a Stack with
+// its connections, have state. Calls may run in many goroutines at once, if none writes memory that another one uses. What
+// a call writes must not overlap another argument.
 //
 // The library needs an x86-64-v2 processor (SSE4.2 and POPCNT). On an older one the program ends with a panic when
 // it starts.

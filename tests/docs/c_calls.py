@@ -28,12 +28,15 @@ FIELDS = {"ethertype": "type", "msg_type": "type"}
 # What is in C.
 OF_C = ("/c/cpu.c", "/c/names.c")
 # The crates of the structs and calls. The first ones are used without C too, and their structs have other names there.
-OF_LIBRARY = ("wire_link", "app_fragment", "app_router", "app_nat", "c_structs", "c_icmp", "c_routing", "c_exports")
-STRUCTS = {"Node": "struct lk_route_node", "Mapping": "struct lk_mapping", "Nat": "struct lk_nat", "Partial": "struct lk_partial"}
+OF_LIBRARY = ("wire_link", "app_fragment", "app_router", "app_nat", "c_structs", "c_icmp", "c_routing", "c_socket", "c_exports")
+STRUCTS = {"Node": "struct lk_route_node", "Mapping": "struct lk_mapping", "Nat": "struct lk_nat", "Partial": "struct lk_partial",
+           "SocketFields": "struct lk_connection"}
+# The struct whose fields C does not see. c_socket compares its size.
+OPAQUE = "lk_connection"
 # Structs in a struct, which has their fields in C.
 PARTS = ("Datagram", "FragKey", "Ends")
 # Enums that are used without C too, and whose doc lines do not name them as C does.
-ENUMS = {"Side": "lk_side", "Offload": "lk_offload"}
+ENUMS = {"Side": "lk_side", "Offload": "lk_offload", "State": "lk_connection_state"}
 # The flags of a TCP header, from bit 0 on (RFC 9293, section 3.1).
 TCP_FLAGS = ("FIN", "SYN", "RST", "PSH", "ACK", "URG", "ECE", "CWR")
 
@@ -94,7 +97,7 @@ class Library:
 
     def calls(self):
         for item in self.items:
-            head = re.fullmatch(r'extern "C" fn (lk_\w+)\((.*)\)(?: -> (\w+))?', item.text)
+            head = re.fullmatch(r'extern "C" fn (lk_\w+)(?:<\'a>)?\((.*)\)(?: -> (\w+))?', item.text.replace("&'a ", "&"))
             if head:
                 name, parameters, result = head.groups()
                 found = re.findall(r"\w+: (&?(?:mut )?(?:\[.*?\]|[^,\s]+))", parameters)
@@ -117,7 +120,8 @@ class Library:
     def enums(self):
         yield "lk_tcp_flag", {"LK_" + flag: 1 << bit for bit, flag in enumerate(TCP_FLAGS)}
         for item in self.plain_enums:
-            yield ENUMS[item.name], {"LK_" + member.text.upper(): number for number, member in enumerate(item.members)}
+            words = [re.sub(r"\B([A-Z0-9])", r"_\1", member.text).upper() for member in item.members]
+            yield ENUMS[item.name], {"LK_" + word: number for number, word in enumerate(words)}
         for item in self.items:
             found = re.match(r"`enum (lk_\w+)`", " ".join(item.docs)) if item.kind == "enum" else None
             if found:
@@ -138,7 +142,7 @@ class Library:
             name, array, length, slice_of, plain = declared.groups("")
             if slice_of:
                 yield "const " + self.name(slice_of) + " *", name, ""
-                yield "size_t", re.sub("s$", "", name) + "_count", ""
+                yield "size_t", name + "_len" if slice_of == "u8" else re.sub("s$", "", name) + "_count", ""
             else:
                 yield self.name(array or plain), FIELDS.get(name, name), self.constants.get(length, length)
 
@@ -171,7 +175,7 @@ def main(top):
     calls = dict(c_calls(header))
     found = [
         *differences(calls, [*sources.calls(), *(call for name in OF_C for call in c_calls(read(top + name)))]),
-        *differences((it for it in structs_of(header) if it[0] not in ONLY_C), sources.structs()),
+        *differences((it for it in structs_of(header) if it[0] not in {*ONLY_C, OPAQUE}), sources.structs()),
         *differences(c_failures(header), sources.failures()),
         *differences(c_enums(header), sources.enums()),
         *unknown_names(top, header),

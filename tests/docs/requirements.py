@@ -19,17 +19,17 @@ DOCUMENT = "docs/audit/REQUIREMENTS.md"
 # The crates with test functions, by the first word of their names in the tables.
 TESTS = {
     "wire": "test_wire", "apps": "test_apps", "fragments": "test_fragments", "tcp": "app_tcp",
-    "connection": "app_connection", "congestion": "app_congestion", "socket": "app_socket",
-    "frames": "ip_frames",
+    "connection": "app_connection", "congestion": "app_congestion", "options": "app_options",
+    "socket": "app_socket", "frames": "ip_frames",
 }
 LIBRARY = re.compile(r"net_base|ip_wire|wire_\w+")
 # The libraries whose types a Rattle program uses, also those of `wire_*` that `ip_wire` does not export. The types of the
 # crates for C are its structs and numbers.
 SHOWN = re.compile(r"net_base|(?:ip|app|wire)_\w+")
 # The crates that use the layer through `ip_wire` only. They may name the formats beside `ip_wire` too. Crates with tests or
-# needs of the layer name what they test, so that they are proved early.
+# needs of the layer name what they test, and those of TCP name its options, so that they are proved early.
 ABOVE = re.compile(r"ip_(?!wire\b)\w+|app_\w+|promises|needs_(?!layer\b)\w+|test_(?!wire\b|support\b)\w+")
-BESIDE = ("wire_icmp", "wire_link", "wire_extensions")
+BESIDE = ("wire_icmp", "wire_link", "wire_extensions", "wire_tcp_options")
 TEST_FUNCTION = re.compile(r"#\[test\]\n(?: *#.*\n)* *fn (\w+)\(")
 # A function that allocates is given an allocator, and returns one of these types.
 ALLOCATES = re.compile(r"\b(alloc|AllocError|HostRuntime|Vec|String|Box|Rc|Arc)\b")
@@ -59,7 +59,7 @@ class Statements:
             self.definitions |= {f"{path[-1]}.{d.name}" for path, module in crate.specs.items() for d in module.items}
         crates = (
             "ip_wire", "wire_icmp", "app_nat", "app_host", "app_edit", "app_fragment", "app_tcp", "app_connection",
-            "app_congestion", "app_socket", "c_read", "c_write", "c_icmp",
+            "app_congestion", "app_options", "app_socket", "c_read", "c_write", "c_icmp",
         )
         self.laws = {name[-1] for crate in crates
                      for name, target in sources.exports(crate).items() if name[0] == "laws" and name[-1][0].islower()}

@@ -70,6 +70,8 @@ __attribute__((constructor)) static void choose(void)
         "the length of an authentication header in units of 8 bytes", "an address before a route with segments left written",
         "a parameter problem about an option to be dropped", "a pointer that counts from the end of the IPv6 header",
         "the ports of a later fragment", "a router alert of RSVP", "a query for another group taken",
+        "a payload of 65536 bytes taken", "segments of one byte lost", "a connection changed by a ring that does not fit",
+        "a byte written past those of the peer",
     };
     const char *number = getenv("FAULT");
     fault = number ? (enum fault)atoi(number) : NO_FAULT;

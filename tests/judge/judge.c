@@ -32,6 +32,8 @@ static void run_case(uint64_t seed, uint64_t number)
         translate_frames();
     else if (number % 128 == 95)
         reassemble_frames();
+    else if (number % 128 == 111)
+        connect_ends();
     else
         cases[number % count]();
 }

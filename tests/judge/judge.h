@@ -88,6 +88,11 @@ void forget_mappings(void);
 /* The same for reassembly. */
 void forget_partials(void);
 
+/* ---- calls_connection.c ---- */
+
+/* Two connections and the network between them. */
+void connect_ends(void);
+
 /* ---- values.c, frames.c: values and frames ---- */
 
 void any_hardware(uint8_t *octets);

@@ -225,10 +225,10 @@ static int by_name(const void *a, const void *b)
 
 void print_counts(void)
 {
-    struct call *sorted[100];
+    struct call *sorted[200];
     unsigned long sum = 0;
     size_t count = 0, kinds = 0;
-    for (struct call *call = calls; call && count < 100; call = call->next) {
+    for (struct call *call = calls; call && count < 200; call = call->next) {
         sorted[count++] = call;
         sum += call->count;
     }

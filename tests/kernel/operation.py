@@ -1,7 +1,7 @@
 #!/usr/bin/env python3
 """The kernel's side of tests/kernel, for what surrounds the packets in examples/: files, arguments, signals, output, limits.
 
-tests/kernel/operation.py PROGRAMS CLOCK    the folder of router, nat, host, proved_host and bridge; a fast clock to be preloaded
+tests/kernel/operation.py PROGRAMS CLOCK    the folder of router, nat, host, http, proved_host and bridge; a fast clock to be preloaded
 
 Prints how many exchanges were right. The status is 1 if one was wrong.
 """
@@ -28,7 +28,8 @@ from routed_frames import HARDWARE, HOSTS
 from router import ADDRESSES, AT_ONCE, OF_TAPS, send_chunk, start_on_taps as start_router
 
 HOST_ARGUMENTS = ["tap0", "02:00:00:00:aa:07", "10.77.0.2", "fd77::2"]
-ARGUMENTS = {"host": HOST_ARGUMENTS, "proved_host": [*HOST_ARGUMENTS, "80"], "bridge": ["tap0", "tap1"]}
+ARGUMENTS = {"host": HOST_ARGUMENTS, "http": [*HOST_ARGUMENTS, "/dev/null"], "proved_host": [*HOST_ARGUMENTS, "80"],
+             "bridge": ["tap0", "tap1"]}
 PROGRAMS = ("router", "nat", *ARGUMENTS)
 
 # ---- files and arguments
@@ -109,6 +110,8 @@ BAD_ARGUMENTS = (
     ("bridge", ["tap0", 16 * "x"], f"bridge: {16 * 'x'}: Invalid argument\n", 1), ("host", ["tap0"], "usage: host DEVICE", 2),
     ("host", ["tap0", "03:00:00:00:00:01", *HOST_ARGUMENTS[2:]], "host: 03:00:00:00:00:01: not the Ethernet address of a host\n", 2),
     ("host", [*HOST_ARGUMENTS[:2], "224.0.0.1", "fd77::2"], "host: 224.0.0.1: not the IPv4 address of a host\n", 2),
+    ("http", HOST_ARGUMENTS, "usage: http DEVICE", 2),
+    ("http", [*HOST_ARGUMENTS, "/no/such"], "http: /no/such: No such file or directory\n", 1),
     ("proved_host", [*HOST_ARGUMENTS[:3], "10.77.0.3"], "proved_host: 10.77.0.3: not the IPv6 address of a host\n", 2),
     ("proved_host", [*HOST_ARGUMENTS, "80", "65536"], "proved_host: 65536: not a port from 1 to 65535\n", 2),
 )

@@ -18,7 +18,7 @@ SO_TIMESTAMPNS = 35
 PLACES, USER_TIMEOUT = 64, 300
 # RFC 6298, sections 2 and 5: the first interval, which then doubles, up to a minute. RFC 1122, section 4.2.3.5: a SYN is
 # sent again for 3 minutes.
-AFTER_SYN, AFTER_LOST_SYN = (1, 2, 4, 8, 16, 32, 60, 60), (3, 6, 12, 24, 48, 60, 60, 60)
+AFTER_SYN, AFTER_LOST_SYN = (1, 2, 4, 8, 16, 32, 60), (3, 6, 12, 24, 48, 60, 60, 60)
 LAST = 60  # the host gives up so long after the last one
 DATA = b"data"
 

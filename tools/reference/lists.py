@@ -23,7 +23,7 @@ GROUPS = {
     "app_router": "Router", "app_nat": "NAT", "app_edit": "Edits of a field",
     "app_fragment": "Fragments", "app_mld": "Multicast listener discovery", "app_tcp": "TCP streams",
     "app_connection": "TCP connections", "app_congestion": "TCP timers and congestion control",
-    "app_socket": "TCP connections with timers",
+    "app_options": "TCP options of a connection", "app_socket": "TCP connections with timers",
     "tcp_model": "TCP over a network",
 }
 # What types come first below a heading, by the end of their names.

@@ -19,6 +19,8 @@ Calls by task; `help(ip_wire.parse_frame)` describes one call:
     other headers       parse_tcp_options, raw_tcp_options, tcp_header_len, ipv6_headers, parse_ndisc
     edit a frame        set_hop_limit, set_dscp, set_addr, set_port, set_bytes, fill_checksum
     host                Host.answer
+    TCP connections     Stack.listen, Stack.connect, Stack.receive, Stack.tick (over a device)
+                        Connection.step, Connection.tick, Connection.write, Connection.read (by themselves)
     router              Routes.choose, Routes.check_source, forward, clamp_mss
     NAT                 Nat.translate_out, Nat.translate_in, translate
     fragments           fragments, Reassembler.reassemble, Reassembler.expire
@@ -42,6 +44,7 @@ from .addresses import (
     print_block, print_ethernet,
 )  # fmt: skip
 from .arithmetic import add_seq, checksum, compare_seq, subtract_seq, update_checksum, update_checksum_bytes
+from .connections import Connection, ConnectionState, Segment, Socket, Stack
 from .editing import fill_checksum, set_addr, set_bytes, set_dscp, set_hop_limit, set_port
 from .frames import (
     Frame, Link, Network, Transport, Verdict, ethertype_name, parse_captured, parse_frame, parse_frame_options, parse_frames,
@@ -60,15 +63,16 @@ from .writing import (
 )  # fmt: skip
 
 __all__ = [
-    "__version__", "Address", "AnyBlock", "Arp", "Block", "Data", "Endpoint", "Ethernet", "Frame", "Headers",
-    "Host", "Icmp", "Interface", "Ip", "Ipv6Header", "Link", "Nat", "Ndisc", "Network", "Offload", "Problem",
-    "RawOption", "Reason", "Reassembler", "Rejected", "Rejection", "Route", "Routes", "Side", "Tcp", "TcpFlag", "TcpOptions", "Transport",
-    "Verdict", "WireError", "add_seq", "checksum", "clamp_mss", "compare_seq", "contains", "emit_arp",
-    "emit_arp_packet", "emit_ethernet_header", "emit_icmp", "emit_icmp_message", "emit_ip_header", "emit_ndisc",
-    "emit_tcp", "emit_tcp_segment", "emit_udp", "emit_udp_packet", "ethertype_name", "fill_checksum", "forward",
-    "fragments", "ipv6_headers", "is_multicast", "is_unicast", "parse_addr", "parse_block", "parse_captured", "parse_endpoint",
-    "parse_ethernet", "parse_frame", "parse_frame_options", "parse_frames", "parse_link", "parse_linktype", "parse_ndisc",
-    "parse_packet", "parse_tcp_options", "print_addr", "print_block", "print_ethernet", "protocol_name",
-    "raw_tcp_options", "rebuild", "set_addr", "set_bytes", "set_dscp", "set_hop_limit", "set_port", "subtract_seq",
-    "tcp_header_len", "translate", "update_checksum", "update_checksum_bytes", "wrap_tcp", "wrap_udp",
+    "__version__", "Address", "AnyBlock", "Arp", "Block", "Connection", "ConnectionState", "Data", "Endpoint",
+    "Ethernet", "Frame", "Headers", "Host", "Icmp", "Interface", "Ip", "Ipv6Header", "Link", "Nat", "Ndisc", "Network",
+    "Offload", "Problem", "RawOption", "Reason", "Reassembler", "Rejected", "Rejection", "Route", "Routes", "Segment",
+    "Side", "Socket", "Stack", "Tcp", "TcpFlag", "TcpOptions", "Transport", "Verdict", "WireError", "add_seq",
+    "checksum", "clamp_mss", "compare_seq", "contains", "emit_arp", "emit_arp_packet", "emit_ethernet_header",
+    "emit_icmp", "emit_icmp_message", "emit_ip_header", "emit_ndisc", "emit_tcp", "emit_tcp_segment", "emit_udp",
+    "emit_udp_packet", "ethertype_name", "fill_checksum", "forward", "fragments", "ipv6_headers", "is_multicast",
+    "is_unicast", "parse_addr", "parse_block", "parse_captured", "parse_endpoint", "parse_ethernet", "parse_frame",
+    "parse_frame_options", "parse_frames", "parse_link", "parse_linktype", "parse_ndisc", "parse_packet",
+    "parse_tcp_options", "print_addr", "print_block", "print_ethernet", "protocol_name", "raw_tcp_options", "rebuild",
+    "set_addr", "set_bytes", "set_dscp", "set_hop_limit", "set_port", "subtract_seq", "tcp_header_len", "translate",
+    "update_checksum", "update_checksum_bytes", "wrap_tcp", "wrap_udp",
 ]  # fmt: skip

@@ -71,6 +71,8 @@ Mapping = _declare(
     "lk_mapping", expires=c_uint64, inside=c_uint8 * 4, remote=c_uint8 * 4, inside_port=c_uint16, remote_port=c_uint16,
     state=c_uint8, shared=c_uint8, reach=c_uint16
 )
+Connection = _declare("lk_connection", memory=c_uint64 * 64)
+Segment = _declare("lk_segment", tcp=Tcp, options=TcpOptions, payload=POINTER(c_uint8), payload_len=c_size_t)
 
 VERSION = "0.4.0"
 DATA = (c_char_p, c_size_t)  # bytes that are read
@@ -153,4 +155,18 @@ CALLS: Dict[str, Tuple[Any, ...]] = {
     "lk_check_source": (c_int, _many(Route), _many(RouteNode), Addr, c_uint16),
     "lk_translate_out": (c_int, Nat, _many(Mapping), c_uint64, OUT),
     "lk_translate_in": (c_int, Nat, _many(Mapping), c_uint64, OUT),
+    "lk_connection_init": (None, Connection, c_uint16, c_uint32, c_int),
+    "lk_connection_listen": (None, Connection),
+    "lk_connection_connect": (c_int, Connection, DATA, OUT, c_uint64, c_uint32, Segment),
+    "lk_connection_step": (c_int, Connection, DATA, OUT, c_uint64, Segment, c_uint32, Segment),
+    "lk_connection_tick": (c_int, Connection, DATA, OUT, c_uint64, Segment),
+    "lk_connection_close": (None, Connection),
+    "lk_connection_abort": (c_int, Connection, Segment),
+    "lk_connection_write": (c_ssize_t, Connection, OUT, DATA),
+    "lk_connection_read": (c_ssize_t, Connection, DATA, OUT),
+    "lk_connection_due": (c_uint64, Connection),
+    "lk_connection_state": (c_int, Connection),
+    "lk_connection_is_ended": (c_int, Connection),
+    "lk_connection_waiting": (c_size_t, Connection),
+    "lk_connection_too_big": (c_int, Connection, c_uint32, c_uint16),
 }

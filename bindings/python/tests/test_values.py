@@ -13,8 +13,8 @@ from unittest.mock import patch
 
 import ip_wire
 import model
-from ip_wire import Arp, Endpoint, Ethernet, Headers, Host, Icmp, Interface, Ip, Ndisc, Network, Offload, Problem, Reason
-from ip_wire import Rejection, Side, Tcp, TcpFlag, TcpOptions, Transport, Verdict
+from ip_wire import Arp, ConnectionState, Endpoint, Ethernet, Headers, Host, Icmp, Interface, Ip, Ndisc, Network, Offload
+from ip_wire import Problem, Reason, Rejection, Side, Tcp, TcpFlag, TcpOptions, Transport, Verdict
 from ip_wire import _c as c
 
 TOP = os.path.join(os.path.dirname(os.path.abspath(__file__)), "..", "..", "..")
@@ -43,7 +43,7 @@ class Declarations(unittest.TestCase):
     def test_numbers(self):
         enums = {"lk_reason": (Reason, 1), "lk_network": (Network, 1), "lk_transport": (Transport, 1),
                  "lk_verdict": (Verdict, 0), "lk_problem": (Problem, 1), "lk_rejection": (Rejection, 1),
-                 "lk_side": (Side, 0), "lk_offload": (Offload, 0)}  # fmt: skip
+                 "lk_side": (Side, 0), "lk_offload": (Offload, 0), "lk_connection_state": (ConnectionState, 0)}  # fmt: skip
         for name, (enum, first) in enums.items():
             words = re.findall(r"LK_(\w+)", re.search(rf"enum {name} {{(.*?)}}", self.header, re.S).group(1))
             self.assertEqual([member.name for member in enum], words[first:])
@@ -140,6 +140,7 @@ ADDR, BLOCK = ENDPOINT.addr, ip_interface("192.0.2.1/24")
 ARP, HOST, OWN = Arp(1, HARDWARE, HARDWARE, ADDR, ADDR), Host(HARDWARE, ADDR, IPV6, 1), Interface(HARDWARE)
 OPTIONS = TcpOptions(1460, 7, True, ((1, 2),), (3, 4))
 ROUTES, NAT = ip_wire.Routes([]), ip_wire.Nat(ADDR, ports=1)
+CONNECTION, STACK = ip_wire.Connection(), ip_wire.Stack(len, HOST)
 # Of each call good arguments.
 ARGUMENTS = [
     (ip_wire.parse_addr, "::"), (ip_wire.parse_endpoint, "::"), (ip_wire.parse_block, "::/0"),
@@ -160,6 +161,8 @@ ARGUMENTS = [
     (ROUTES.choose, ADDR), (NAT.translate_out, b""), (ip_wire.checksum, b""), (ip_wire.update_checksum, 0, 0, 0),
     (ip_wire.update_checksum, 0, ADDR, ADDR), (ip_wire.update_checksum_bytes, 0, 0, b"", b""), (ip_wire.add_seq, 0, 0), (ip_wire.subtract_seq, 0, 0),
     (ip_wire.compare_seq, 0, 0), (ip_wire.forward, b"", HARDWARE, HARDWARE),
+    (CONNECTION.write, b""), (CONNECTION.read, 0), (CONNECTION.too_big, 0, 0), (STACK.receive, b""), (STACK.listen, 0),
+    (STACK.connect, HEADERS),
     (ip_wire.translate, b"", Side.SOURCE, ENDPOINT), (ROUTES.check_source, ADDR, 0), (NAT.translate_in, b"", 0),
 ]  # fmt: skip
 # Of each class a good object, and a call that writes it.

@@ -230,6 +230,17 @@ structs! {
         shared: u8,
         reach: u16,
     }
+
+    struct Connection {
+        memory: [u64; 64],
+    }
+
+    struct Segment {
+        tcp: Tcp,
+        options: TcpOptions,
+        payload: *const u8,
+        payload_len: usize,
+    }
 }
 
 calls! {
@@ -336,4 +347,31 @@ calls! {
     ) -> c_int;
     fn lk_translate_out(nat: &Nat, mappings: *mut Mapping, count: usize, now: u64, frame: *mut u8, len: usize) -> c_int;
     fn lk_translate_in(nat: &Nat, mappings: *mut Mapping, count: usize, now: u64, frame: *mut u8, len: usize) -> c_int;
+    fn lk_connection_init(connection: &mut Connection, mss: u16, keep_alive: u32, is_eager: c_int);
+    fn lk_connection_listen(connection: &mut Connection);
+    fn lk_connection_connect(
+        connection: &mut Connection, outgoing: *const u8, outgoing_len: usize, incoming: *mut u8, incoming_len: usize,
+        now: u64, iss: u32, out: &mut Segment
+    ) -> c_int;
+    fn lk_connection_step(
+        connection: &mut Connection, outgoing: *const u8, outgoing_len: usize, incoming: *mut u8, incoming_len: usize,
+        now: u64, segment: &Segment, fresh: u32, out: &mut Segment
+    ) -> c_int;
+    fn lk_connection_tick(
+        connection: &mut Connection, outgoing: *const u8, outgoing_len: usize, incoming: *mut u8, incoming_len: usize,
+        now: u64, out: &mut Segment
+    ) -> c_int;
+    fn lk_connection_close(connection: &mut Connection);
+    fn lk_connection_abort(connection: &mut Connection, out: &mut Segment) -> c_int;
+    fn lk_connection_write(
+        connection: &mut Connection, outgoing: *mut u8, outgoing_len: usize, ptr: *const u8, len: usize
+    ) -> isize;
+    fn lk_connection_read(
+        connection: &mut Connection, incoming: *const u8, incoming_len: usize, out: *mut u8, cap: usize
+    ) -> isize;
+    fn lk_connection_due(connection: &Connection) -> u64;
+    fn lk_connection_state(connection: &Connection) -> c_int;
+    fn lk_connection_is_ended(connection: &Connection) -> c_int;
+    fn lk_connection_waiting(connection: &Connection) -> usize;
+    fn lk_connection_too_big(connection: &mut Connection, seq_number: u32, mss: u16) -> c_int;
 }

@@ -138,6 +138,23 @@ numbered! {
     }
 }
 
+numbered! {
+    /// Where a TCP connection is (RFC 9293, section 3.3.2).
+    enum ConnectionState {
+        Closed: "CLOSED",
+        Listen: "LISTEN",
+        SynSent: "SYN-SENT",
+        SynReceived: "SYN-RECEIVED",
+        Established: "ESTABLISHED",
+        FinWait1: "FIN-WAIT-1",
+        FinWait2: "FIN-WAIT-2",
+        CloseWait: "CLOSE-WAIT",
+        Closing: "CLOSING",
+        LastAck: "LAST-ACK",
+        TimeWait: "TIME-WAIT",
+    }
+}
+
 /// Why a receiver should drop a frame.
 #[derive(Clone, Copy, Debug, PartialEq, Eq, Hash)]
 #[non_exhaustive]

@@ -9,6 +9,7 @@
 //! | parse a frame, packet or capture | [`Frame`], [`Link`], [`Ipv6Headers`], [`RawOptions`], [`Ndisc::parse`] |
 //! | write a frame | [`Headers`], [`Arp`], [`Ndisc`], [`rebuild`], [`layer`] |
 //! | answer as a host | [`Host`], [`Interface::emit_error`] |
+//! | hold TCP connections | [`Socket`] over any [`Device`], [`Connection`] |
 //! | route and translate | [`RouteTable`], [`forward`], [`clamp_mss`], [`Nat`], [`translate`] |
 //! | edit a frame in place | [`edit`] |
 //! | cut a packet into fragments, put it together | [`Fragments`], [`Reassembler`] |
@@ -59,6 +60,7 @@ extern crate std;
 
 mod addr;
 pub mod checksum;
+mod connection;
 pub mod edit;
 mod emit;
 mod error;
@@ -74,12 +76,14 @@ mod link;
 mod nat;
 mod reassembly;
 mod routes;
+mod socket;
 mod sys;
 mod tcp;
 
 pub use addr::{is_unicast, parse_addr, parse_endpoint, Block, EthernetAddr, ParseError};
+pub use connection::{Connection, ConnectionConfig, Segment};
 pub use emit::rebuild;
-pub use error::{Defect, Error, Network, Reason, Rejection, Transport, Verdict};
+pub use error::{ConnectionState, Defect, Error, Network, Reason, Rejection, Transport, Verdict};
 pub use fragments::Fragments;
 pub use frame::Frame;
 pub use headers::{ethertype_name, protocol_name, Arp, Ethernet, Headers, Icmp, Ip};
@@ -91,6 +95,7 @@ pub use link::Link;
 pub use nat::{Mapping, Nat, NatConfig};
 pub use reassembly::{Partial, Reassembler};
 pub use routes::{InterfaceId, Route, RouteNode, RouteTable};
+pub use socket::{poll, Device, Socket};
 pub use tcp::{
     RawOption, RawOptions, SackRange, SackRanges, SeqNumber, Tcp, TcpFlags, TcpOptions, Timestamp,
 };

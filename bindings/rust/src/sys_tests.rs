@@ -1,7 +1,7 @@
 //! Compares the enums with `ip_wire.h`, by a C compiler, and names with those of the library.
 
 use super::{Addr, Endpoint};
-use crate::{Error, Network, Offload, Problem, Reason, Rejection, Side, Transport, Verdict};
+use crate::{ConnectionState, Error, Network, Offload, Problem, Reason, Rejection, Side, Transport, Verdict};
 use core::ffi::{c_char, c_int, CStr};
 use core::net::{IpAddr, SocketAddr};
 use std::fmt::Debug;
@@ -39,6 +39,12 @@ fn numbers<T: Debug>(of_number: fn(usize) -> Option<T>, count: usize) -> String 
     assert_numbers((1..=count).map(|number| c_name(of_number(number).unwrap())).zip(1..))
 }
 
+/// The same of the states, from 0 on.
+fn states() -> String {
+    let name = |state| c_name(state).replace("WAIT1", "WAIT_1").replace("WAIT2", "WAIT_2");
+    assert_numbers((1..=11).map(|place| name(ConnectionState::of_number(place).unwrap())).zip(0..))
+}
+
 /// The same of enums that have numbers of their own.
 fn own_numbers() -> String {
     let problems = [
@@ -70,6 +76,7 @@ fn enums_are_those_of_the_header() {
         numbers(Network::of_number, 3),
         numbers(Transport::of_number, 3),
         numbers(Rejection::of_number, 14),
+        states(),
         own_numbers(),
     ];
     let folder = env::temp_dir().join(format!("ip_wire_{}", std::process::id()));

@@ -16,4 +16,5 @@ pub mod reassembly;
 pub mod rebuild;
 pub mod routes;
 pub mod routing;
+pub mod sockets;
 pub mod summary;

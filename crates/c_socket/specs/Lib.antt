@@ -1,0 +1,4 @@
+pub mod Options
+pub mod Segments
+pub mod Calls
+pub mod Application
