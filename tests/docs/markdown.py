@@ -29,7 +29,7 @@ LONGEST = {
     "docs/CONTRACTS.md": 260,
     "docs/C.md": 150,
     "docs/USES.md": 305,
-    "docs/TCP.md": 152,
+    "docs/TCP.md": 153,
     "docs/ROUTER.md": 200,
     "docs/DIFFERENCES.md": 150,
     "docs/TRUST.md": 181,
@@ -40,7 +40,7 @@ LONGEST = {
     "bindings/python/README.md": 100,
     "bindings/go/README.md": 60,
 }
-MOST = 2726
+MOST = 2727
 # Names of old commits, of smoltcp, of the standard library and of Linux.
 FOREIGN = {"ip_nat", "pretty_print", "AsMut", "is_private", "to_ipv6_mapped", "CAP_NET_ADMIN",
            "CAP_NET_RAW", "frame_raw"}
