@@ -153,7 +153,7 @@ class Socket:
         return self.is_open and "R" not in seg.bits and self.agreed.recent is not None
 
     def answer_to_old(self):
-        """RFC 7323, section 5.3, R1."""
+        """RFC 7323, section 5.3."""
         return self.advertised(self.acknowledgement())
 
     def counts(self, seg):

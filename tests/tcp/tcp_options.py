@@ -128,7 +128,7 @@ class Agreed:
         return field << (self.scale or 0)
 
     def is_old(self, stamps, now):
-        """PAWS: SEG.TSval < TS.Recent, and TS.Recent is valid (RFC 7323, section 5.3, R1)."""
+        """PAWS: SEG.TSval < TS.Recent, and TS.Recent is valid (RFC 7323, section 5.3)."""
         return is_before(stamps[0], self.recent) and now - self.recent_at <= VALID
 
 
