@@ -87,17 +87,16 @@ def exchanges(wire):
 
 
 def syns_again(wire):
-    """A SYN that comes again is not acceptable (RFC 9293, section 3.10.7.4), so it is acknowledged, whatever else it says, and
-    from wherever it comes."""
+    """A SYN that comes again gets its answer again, whatever else it says, and from wherever it comes."""
     for flags in (SYN, SYN | ECE | CWR, SYN | ECE, SYN | PSH, SYN | URG):
         seq = ANY.randrange(ALL)
         first, again = (wire.frame(TCP, segment(SYN_CLIENT, seq, 0, chosen)) for chosen in (SYN, flags))
         answer, = answers(wire, first)
         own = int.from_bytes(tcp_of(answer)[4:8], "big")
-        expected = struct.pack(">II", (own + 1) % ALL, (seq + 1) % ALL)
+        expected = struct.pack(">II", own, (seq + 1) % ALL)
         for hardware in (wire.hardware[0], MOVED):
             found = [(frame[:6], tcp_of(frame)[4:12], tcp_of(frame)[13]) for frame in answers(wire, from_hardware(hardware, again))]
-            check("SYN again", found == [(hardware, expected, ACK)], (flags, found))
+            check("SYN again", found == [(hardware, expected, SYN | ACK)], (flags, found))
         wire.sock.send(wire.frame(TCP, segment(SYN_CLIENT, (seq + 1) % ALL, 0, RST)))
 
 

@@ -23,6 +23,13 @@ class Rto:
             self.srtt8 += rtt - self.srtt8 // 8
         self.timeout = min(60 * SECOND, self.srtt8 // 8 + max(200, self.rttvar4))
 
+    @property
+    def probe_timeout(self):
+        """Of a loss probe (RFC 8985, section 7.2), not before what RTTVAR allows."""
+        if self.srtt8 is None:
+            return self.timeout
+        return min(self.timeout, 2 * self.srtt8 // 8 + max(10, self.rttvar4))
+
     def back_off(self):
         """Section 5.5."""
         self.timeout = min(60 * SECOND, 2 * self.timeout)
@@ -47,6 +54,11 @@ class Congestion:
         """RFC 6928."""
         return min(10 * self.mss, max(2 * self.mss, 14600))
 
+    @property
+    def unlimited(self):
+        """cwnd without what limited transmit allows."""
+        return max(self.mss, self.cwnd - min(LIMITED, self.duplicates) * self.mss)
+
     def set_cwnd(self, cwnd):
         self.cwnd = min(cwnd, MAX_CWND)
 
@@ -59,10 +71,10 @@ class Congestion:
 
     def on_ack(self, newly, flight, una):
         """New data is acknowledged. Returns whether the first segment goes again: after a partial acknowledgement."""
-        limited, self.duplicates, self.is_resent = min(LIMITED, self.duplicates), 0, False
+        unlimited, self.duplicates, self.is_resent = self.unlimited, 0, False
         if self.is_recovering:
             return self.on_ack_in_recovery(newly, flight, una)
-        self.cwnd = max(self.mss, self.cwnd - limited * self.mss)
+        self.cwnd = unlimited
         self.forget(una)
         self.grow(newly)
         return False
@@ -113,6 +125,12 @@ class Congestion:
         self.set_cwnd(self.ssthresh + 3 * self.mss)
         self.acked, self.recover, self.is_recovering = 0, after, True
         return True
+
+    def on_probe(self, flight, after):
+        """RFC 8985, section 7.4, as if a loss were certain. In fast recovery a segment is lost again (RFC 5681, section 4.3)."""
+        self.lose(min(flight, self.ssthresh if self.is_recovering else self.unlimited))
+        self.cwnd, self.acked, self.duplicates = self.ssthresh, 0, 0
+        self.recover, self.is_recovering = after, True
 
     def on_timeout(self, flight, after):
         """RFC 5681, section 3.1; RFC 6582, section 3.2, step 4."""

@@ -29,6 +29,13 @@ class SynEnds(Connection):
         return super().in_other(seg)
 
 
+class AnswersWithoutSyn(Connection):
+    """The first SYN that comes again gets an acknowledgement without SYN."""
+
+    def challenge(self, seg):
+        return self.acknowledgement()
+
+
 class FirstNumberOnly(Connection):
     """A segment is acceptable by its first number only."""
 
@@ -224,6 +231,96 @@ class ShortAfterSyn(Socket):
     def establish(self):
         self.timing = self.timing or (self.snd_una, self.now)
         super().establish()
+
+
+class NoProbe(Socket):
+    """No loss probe goes."""
+
+    @property
+    def timer(self):
+        return self.rto.timeout
+
+
+class ProbesOn(Socket):
+    """A loss probe follows another one without a sample."""
+
+    def loss_probe(self):
+        super().loss_probe()
+        self.is_probed = False
+
+
+class ProbesAfterAck(Socket):
+    """Any acknowledgement of new text allows another loss probe, also without a sample."""
+
+    def move_on(self, newly):
+        super().move_on(newly)
+        self.is_probed = False
+
+
+class ProbesOne(Socket):
+    """A loss probe goes also for one segment."""
+
+    def is_worth_probe(self):
+        return self.snd_wnd > 0 and self.cursor >= self.flight > 0
+
+
+class ProbesWindow(Socket):
+    """A loss probe goes also if the window is closed."""
+
+    def is_worth_probe(self):
+        return self.cursor >= self.flight > self.most
+
+
+class ProbesGoingBack(Socket):
+    """A loss probe goes also while all goes again."""
+
+    def is_worth_probe(self):
+        return self.snd_wnd > 0 and self.flight > self.most
+
+
+class ProbesSteady(Socket):
+    """A loss probe does not wait for what varies."""
+
+    @property
+    def timer(self):
+        early = self.rto.srtt8 is not None and not self.is_probed
+        return min(self.rto.timeout, self.rto.srtt8 // 4 + 10) if early else super().timer
+
+
+class ProbeIsFree(Socket):
+    """A loss probe leaves cwnd."""
+
+    def loss_probe(self):
+        cwnd = self.congestion.cwnd
+        super().loss_probe()
+        self.congestion.cwnd = cwnd
+
+
+class HalvesOnce(Socket):
+    """A loss probe in fast recovery leaves ssthresh."""
+
+    def loss_probe(self):
+        ssthresh, was = self.congestion.ssthresh, self.congestion.is_recovering
+        super().loss_probe()
+        if was and "loss probe" in self.met:
+            self.congestion.cwnd = self.congestion.ssthresh = ssthresh
+
+
+class ProbeCountsLimited(Socket):
+    """What limited transmit sent counts at a loss probe."""
+
+    def loss_probe(self):
+        self.congestion.duplicates = 0
+        super().loss_probe()
+
+
+class ProbeLeavesHoles(Socket):
+    """After a loss probe no hole goes again."""
+
+    def loss_probe(self):
+        rescued = self.rescued
+        super().loss_probe()
+        self.rescued = rescued
 
 
 class AllAgain(Socket):

@@ -45,7 +45,7 @@ OPTIONS = ((socket.TCP_CONGESTION, b"reno"), (TCP_RTO_MAX_MS, 1000), (socket.TCP
 # Processes, each with its namespace and its connections, and the seconds that they have.
 PROCESSES, LATEST = 4, 280
 # How many packets are lost, and how many bytes each end writes then.
-LOSSES = ((0.01, 200_000), (0.03, 200_000), (0.1, 15_000))
+LOSSES = ((0.01, 200_000), (0.03, 200_000), (0.1, 60_000))
 AFTER_TIME_WAIT = 61_000
 LETTERS = b"abcdefghijklmnopqrstuvwxyz"
 

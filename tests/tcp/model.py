@@ -250,17 +250,23 @@ class Connection:
         if not is_acceptable:
             if seg.length == 0 and self.state != SYN_RECEIVED:
                 return self.beside_window(seg)
-            return self.acknowledgement()
+            return self.challenge(seg)
         if "S" in seg.bits:
             if self.state == SYN_RECEIVED and self.is_passive:
                 self.return_to_listen()
                 return self.done("SYN: to LISTEN")
-            return self.done("SYN: challenge", self.acknowledgement())
+            return self.done("SYN: challenge", self.challenge(seg))
         if seg.ack is None:
             return self.done("no ACK")
         if self.state == SYN_RECEIVED:
             return self.in_syn_received(seg)
         return self.with_ack(seg)
+
+    def challenge(self, seg):
+        """The answer to a segment that is not taken. The first SYN that comes again gets that of the first time."""
+        if self.state == SYN_RECEIVED and seg.seq == self.irs and "S" in seg.bits:
+            return self.done("SYN again", self.syn_segment())
+        return self.acknowledgement()
 
     def is_acceptable(self, seg):
         """The four cases of the first check."""

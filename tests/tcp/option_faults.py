@@ -144,7 +144,8 @@ class OldRst(Socket):
     """A RST with an old timestamp is dropped."""
 
     def has_timestamps(self, seg):
-        return super().has_timestamps(seg._replace(bits=seg.bits.replace("R", ""))) and seg.options.stamps is not None
+        is_stamped = "R" in seg.bits and seg.options.stamps is not None
+        return super().has_timestamps(seg._replace(bits=seg.bits.replace("R", "")) if is_stamped else seg)
 
 
 class PawsInSetUp(Socket):
@@ -176,6 +177,31 @@ class StampsAsNumbers(Socket):
     class agreement(tcp_options.Agreed):
         def is_old(self, stamps, now):
             return stamps[0] < self.recent
+
+
+class KarnAlways(Socket):
+    """Timestamps tell no round trip."""
+
+    class agreement(tcp_options.Agreed):
+        def round_trip(self, options, now):
+            return None
+
+
+class TimeOfPeer(Socket):
+    """The round trip is by TSval."""
+
+    class agreement(tcp_options.Agreed):
+        def round_trip(self, options, now):
+            return super().round_trip(options._replace(stamps=options.stamps and options.stamps[::-1]), now)
+
+
+class EchoFromAhead(Socket):
+    """A TSecr that is ahead of the clock tells a very long round trip."""
+
+    class agreement(tcp_options.Agreed):
+        def round_trip(self, options, now):
+            echo = options.stamps and options.stamps[1]
+            return None if echo is None or self.recent is None else distance(self.stamp(now), echo)
 
 
 class RecentAfterGap(Socket):

@@ -1,5 +1,6 @@
 """A TCP connection with time: a connection of model.py with the timers of RFC 9293 (section 3.8), RFC 1122 (section 4.2.3) and
-RFC 6298, the congestion control of RFC 5681 and RFC 6582, and the options of RFC 7323 and RFC 2018. Times are in milliseconds.
+RFC 6298, the congestion control of RFC 5681 and RFC 6582, a loss probe as in RFC 8985, and the options of RFC 7323 and RFC 2018.
+Times are in milliseconds.
 
 Each event returns the packet that goes out, or None. After each event the caller calls `tick` until it returns None, and
 again at `due`. `met` has the rules that handled the last event.
@@ -47,6 +48,8 @@ class Socket:
         self.cursor, self.resend, self.max_window = 1, False, 0
         # What the peer has after a gap, and up to where items were sent again in this fast recovery.
         self.scoreboard, self.rescued = self.board(), 0
+        # Whether the timer expired since the last sample.
+        self.is_probed = False
 
     def __getattr__(self, name):
         """The variables of the connection, and the calls that need no time."""
@@ -69,6 +72,11 @@ class Socket:
     @property
     def is_waiting(self):
         return self.flight + self.unsent > 0
+
+    @property
+    def timer(self):
+        """At first that of a loss probe."""
+        return self.rto.timeout if self.is_probed else self.rto.probe_timeout
 
     @property
     def patience(self):
@@ -216,7 +224,17 @@ class Socket:
 
     def sample(self):
         self.rto.on_sample(min(MASK, max(0, self.now - self.timing[1])))
-        self.timing = None
+        self.timing, self.is_probed = None, False
+
+    def take_time(self, options):
+        """The round trip of the segment that is timed, or if none is, by timestamps (RFC 7323, section 4.1)."""
+        if self.timing:
+            return self.sample() if not is_before(self.snd_una, self.timing[0]) else None
+        rtt = self.agreed.round_trip(options, self.now)
+        if rtt is not None:
+            self.met.append("RTTM")
+            self.rto.on_sample(rtt)
+            self.is_probed = False
 
     def hear(self, seg, was, is_alive):
         """The peer is there."""
@@ -231,10 +249,9 @@ class Socket:
         newly = distance(self.snd_una, una)
         is_duplicate = not newly and is_near and self.is_duplicate(seg, una, flight, window)
         if newly:
-            if self.timing and not is_before(self.snd_una, self.timing[0]):
-                self.sample()
+            self.take_time(seg.options)
             self.move_on(newly)
-            self.resend_at = self.now + self.rto.timeout if self.is_waiting else None
+            self.resend_at = self.now + self.timer if self.is_waiting else None
         total = self.scoreboard.total
         if self.is_accepted(seg, is_near):
             self.take_blocks(seg)
@@ -245,7 +262,7 @@ class Socket:
             self.count_duplicates(count, flight)
         self.max_window = max(self.max_window, self.snd_wnd)
         if window == 0 < self.snd_wnd and self.is_waiting:
-            self.resend_at = self.now + self.rto.timeout
+            self.resend_at = self.now + self.timer
 
     def count_duplicates(self, count, flight):
         """One, or as many as there are segments in its blocks (RFC 6675, section 5)."""
@@ -336,7 +353,9 @@ class Socket:
     def tick_open(self):
         self.time_what_waits()
         if self.resend_at is not None and self.resend_at <= self.now:
-            return self.time_out()
+            if self.timer == self.rto.timeout:
+                return self.time_out()
+            self.loss_probe()
         if self.resend:
             return self.send_first()
         return self.send_hole() or self.send_next() or self.acknowledge() or self.keep_alive_probe()
@@ -348,8 +367,20 @@ class Socket:
             if self.now > self.probe_at - self.keep_alive + self.rto.timeout:
                 self.congestion.on_idle()
                 self.met.append("idle")
-            self.resend_at = self.now + self.rto.timeout
+            self.resend_at = self.now + self.timer
             self.ends_at = min(self.ends_at, self.now + USER_TIMEOUT)
+
+    def loss_probe(self):
+        """The first segment goes again, in fast recovery, before the time-out."""
+        self.is_probed, self.resend_at = True, self.now + self.rto.timeout
+        if self.is_worth_probe():
+            self.met.append("loss probe")
+            self.congestion.on_probe(self.flight, self.snd_nxt)
+            self.resend, self.rescued = True, 0
+
+    def is_worth_probe(self):
+        """The peer may delay the acknowledgement of one segment. All that is in flight was sent since the last time-out."""
+        return self.snd_wnd > 0 and self.cursor >= self.flight > self.most
 
     def time_out(self):
         """A retransmission, a probe of a closed window, or text that silly window avoidance held back."""
@@ -358,7 +389,7 @@ class Socket:
         self.met.append("window probe" if not self.snd_wnd else "time-out" if self.flight else "override")
         if self.flight and self.snd_wnd:
             self.congestion.on_timeout(self.flight, self.snd_nxt)
-        self.timing = None
+        self.timing, self.is_probed = None, True
         self.go_back()
         self.resend_at = self.now + self.rto.timeout
         return self.send_first() if self.snd_wnd else self.advertised(self.connection.send(0, 1))

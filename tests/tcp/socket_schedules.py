@@ -10,6 +10,8 @@ WEIGHTS = (46, 18, 3, 16, 9, 0.1, 0.1)
 CLOSES, FORGED, SACKS, ERRORS = (1, 2, 8), (0, 0, 2, 10), (0, 4, 15), (0, 0.5, 2)
 # How far a clock jumps, in milliseconds, if not to where `tick` is due.
 JUMPS = (1,) * 8 + (2, 39, 41, 41, 200, 300, 700, 1000, 3000, 3000, 60_000, 75_000, 299_999, 8_000_000)
+# Longer than any timeout.
+PAUSE = 61_000
 # The most times that a socket waits in silence.
 SILENCE = 60
 
@@ -39,8 +41,17 @@ class SocketSchedule(Schedule):
             kind = self.next_kind(end)
             for _ in range(self.rng.choice((1, 5)) if kind == "sack" else 1):
                 yield from self.with_ticks(getattr(self, kind)(end))
+            one = self.ends[end]
+            if one.is_open and not one.is_waiting and one.congestion.cwnd > one.congestion.initial:
+                yield from self.pause(end)
         for end in (0, 1) if self.is_silent else ():
             yield from self.silence(end)
+
+    def pause(self, end):
+        """Then as much goes out as at first."""
+        yield end, "at", self.ends[end].now + PAUSE
+        yield end, "write", self.text(200)
+        yield from self.ticks(end)
 
     def with_ticks(self, event):
         yield event

@@ -2,7 +2,7 @@
 import struct
 from typing import NamedTuple, Optional, Tuple
 
-from model import MASK, Segment, is_before
+from model import HALF, MASK, Segment, distance, is_before
 
 MAX_FIELD, MAX_SCALE = 65535, 14
 DEFAULT_MSS, MIN_MSS, MIN_TEXT = 536, 48, 8
@@ -104,6 +104,11 @@ class Agreed:
 
     def stamp(self, now):
         return (self.offset + now) & MASK
+
+    def round_trip(self, options, now):
+        """By the timestamp that comes back, unless that is ahead of the clock (RFC 7323, section 4.1). None: no timestamps."""
+        elapsed = distance(self.stamp(now), options.stamps[1]) if options.stamps else HALF
+        return elapsed if elapsed < HALF and self.recent is not None else None
 
     def stamps(self, now):
         return None if self.recent is None else (self.stamp(now), self.recent)

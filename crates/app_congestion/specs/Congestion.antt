@@ -141,6 +141,16 @@ duplicated s flight una next =
     then third s flight next
     else record s { duplicates = min 255 (s.duplicates + 1) }
 
+-- what counts as in flight at most: in fast recovery cwnd is inflated
+abbrev pub allowed : Sender → ℕ
+allowed s = if is_in_recovery s.phase then s.ssthresh else unchanged s
+
+-- A loss probe (RFC 8985, section 7.4): fast recovery begins, and no segment has left the network. In fast recovery the segment
+-- that was sent again is lost, so ssthresh is halved again (RFC 5681, section 4.3).
+abbrev pub probed : Sender → ℕ → ℕ → Sender
+probed s flight next =
+    record s { ssthresh = halved s (min (allowed s) flight); cwnd = halved s (min (allowed s) flight); acked = 0; duplicates = 0; phase = Recovery next }
+
 -- the retransmission timer expires (RFC 5681, section 3.1, equation 4; RFC 6582, section 3.2, step 4)
 abbrev pub timed_out : Sender → ℕ → ℕ → Sender
 timed_out s flight next =

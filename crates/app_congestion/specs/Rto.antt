@@ -19,6 +19,16 @@ sampled (Some e) r = record { srtt_8 = e.srtt_8 - e.srtt_8 / 8 + r; rttvar_4 = e
 abbrev pub timeout_of : Estimate → ℕ
 timeout_of e = min 60000 (srtt_of e + max 200 e.rttvar_4)
 
+-- When a loss probe goes: 2 * SRTT (RFC 8985, section 7.2) + max (10, 4 * RTTVAR), so that a round trip which varies has no
+-- probe before the timeout.
+abbrev pub probe_of : Estimate → ℕ
+probe_of e = min 60000 (e.srtt_8 / 4 + max 10 e.rttvar_4)
+
+-- the same before the first sample, and at most the timeout
+abbrev pub probe_after : Option Estimate → ℕ → ℕ
+probe_after None timeout = timeout
+probe_after (Some e) timeout = min timeout (probe_of e)
+
 -- a and b differ by at most d
 abbrev pub IsWithin : ℕ → ℕ → ℕ → Type 0
 IsWithin d a b = (a ≤ b + d) × (b ≤ a + d)

@@ -39,7 +39,7 @@ pub struct Congestion {
 
 impl Congestion {
     ghost use Rattle.std.specs.Prelude.{◌≡◌, ◌+◌, ◌/◌, ◌==◌, ◌&&◌, not, max, min, true, false};
-    ghost use Rattle.app_congestion.specs.Congestion.{sender_of, begins, halved, capped, is_past, is_partial, is_in_recovery, is_third, grown, unchanged, partial, acknowledged, duplicated, timed_out, restarted};
+    ghost use Rattle.app_congestion.specs.Congestion.{sender_of, begins, halved, capped, is_past, is_partial, is_in_recovery, is_third, grown, unchanged, allowed, partial, acknowledged, duplicated, probed, timed_out, restarted};
 
     /// A connection with this maximum segment size (SMSS); 0 counts as 1. Its initial window is that of RFC 6928: 10 segments
     /// of up to 1,460 bytes.
@@ -164,6 +164,21 @@ impl Congestion {
         true
     }
 
+    /// A loss probe goes (RFC 8985, section 7) with `flight` bytes in flight: the segment at SND.UNA is sent again, and counts as
+    /// lost. `next` is the number after the highest one that was sent. Fast recovery begins. In it the segment was sent again
+    /// before, and ssthresh is halved again (RFC 5681, section 4.3).
+    pub fn on_probe(&mut self, flight: u32, next: u32)
+        ensures sender { sender_of self.new ≡ probed (sender_of self.old) flight next }
+        ensures half { self.new.ssthresh ≤ max (flight / 2) (2 * self.old.mss) }
+        ensures cwnd { self.new.cwnd ≡ self.new.ssthresh }
+    {
+        self.ssthresh = self.half(flight.min(self.allowed()));
+        self.cwnd = self.ssthresh;
+        self.acked = 0;
+        self.duplicates = 0;
+        self.phase = Phase::Recovery(next);
+    }
+
     /// The retransmission timer expired with `flight` bytes in flight. `next` is the number after the highest one that was
     /// sent. The segment at SND.UNA is sent again.
     pub fn on_timeout(&mut self, flight: u32, next: u32)
@@ -221,6 +236,17 @@ impl Congestion {
     {
         let limited = u32::from(self.duplicates.min(LIMITED)) * self.mss;
         self.cwnd.saturating_sub(limited).max(self.mss)
+    }
+
+    // What counts as in flight at most: in fast recovery cwnd is inflated.
+    fn allowed(&self) -> u32
+        ensures { result ≡ allowed (sender_of self.now) }
+    {
+        if self.is_recovering() {
+            self.ssthresh
+        } else {
+            self.unchanged()
+        }
     }
 
     // A larger window, at most the largest.

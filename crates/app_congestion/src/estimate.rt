@@ -1,9 +1,9 @@
 //! The estimate of the round-trip time (RFC 6298, section 2).
 
 ghost use Rattle.std.specs.Prelude.{◌≡◌, Some, None};
-ghost use Rattle.app_congestion.specs.Rto.{sampled, timeout_of};
+ghost use Rattle.app_congestion.specs.Rto.{probe_of, sampled, timeout_of};
 
-use crate::rto::{MAX_RTO, MIN_RTO};
+use crate::rto::{MAX_RTO, MIN_PROBE, MIN_RTO};
 
 // SRTT and RTTVAR, in milliseconds.
 #[repr(C)]
@@ -42,6 +42,14 @@ impl Estimate {
         ensures { result ≡ timeout_of self.now }
     {
         let timeout = (self.srtt_8 / 8).saturating_add(self.rttvar_4.max(u64::from(MIN_RTO)));
+        timeout.min(u64::from(MAX_RTO)) as u32
+    }
+
+    // When a loss probe goes.
+    pub(crate) fn probe(&self) -> u32
+        ensures { result ≡ probe_of self.now }
+    {
+        let timeout = (self.srtt_8 / 4).saturating_add(self.rttvar_4.max(u64::from(MIN_PROBE)));
         timeout.min(u64::from(MAX_RTO)) as u32
     }
 }

@@ -48,6 +48,7 @@ impl Rto {
     ghost use Rattle.app_congestion.specs.Fields.{rto_of};
 
     /// Its fields.
+    #[inline(always)]
     pub fn fields(&self) -> RtoFields
         ensures { rto_of result ≡ self.now }
     {
@@ -67,6 +68,7 @@ impl RtoFields {
     ghost use Rattle.app_congestion.specs.Fields.{rto_of};
 
     /// The value with these fields.
+    #[inline(always)]
     pub fn value(&self) -> Rto
         ensures { result ≡ rto_of self.now }
     {
@@ -86,6 +88,7 @@ impl Congestion {
     ghost use Rattle.app_congestion.specs.Fields.{congestion_of};
 
     /// Its fields.
+    #[inline(always)]
     pub fn fields(&self) -> CongestionFields
         ensures { congestion_of result ≡ self.now }
     {
@@ -114,6 +117,7 @@ impl CongestionFields {
     ghost use Rattle.app_congestion.specs.Fields.{congestion_of, phase_of};
 
     /// The value with these fields.
+    #[inline(always)]
     pub fn value(&self) -> Congestion
         ensures { result ≡ congestion_of self.now }
     {

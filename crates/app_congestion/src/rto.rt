@@ -11,6 +11,9 @@ pub const MIN_RTO: u32 = 200;
 /// The longest timeout: 60 s (section 2.5).
 pub const MAX_RTO: u32 = 60_000;
 
+// By how much a loss probe is later than two round trips, at least.
+pub(crate) const MIN_PROBE: u32 = 10;
+
 // The timeout before the first sample (section 2.1), and after the SYN was sent again (section 5.7).
 const INITIAL_RTO: u32 = 1_000;
 
@@ -27,7 +30,7 @@ pub struct Rto {
 
 impl Rto {
     ghost use Rattle.std.specs.Prelude.{◌≡◌, ◌+◌, ◌*◌, min, Some, None, IfSome};
-    ghost use Rattle.app_congestion.specs.Rto.{IsRounded, sampled, srtt_of, timeout_of};
+    ghost use Rattle.app_congestion.specs.Rto.{IsRounded, probe_after, sampled, srtt_of, timeout_of};
 
     /// Before the first sample: 1 s (section 2.1).
     pub fn new() -> Rto
@@ -47,6 +50,19 @@ impl Rto {
         ensures high { result ≤ 60000 }
     {
         self.timeout
+    }
+
+    /// When a loss probe goes (RFC 8985, section 7.2), in milliseconds: after 2 SRTT and at least 10 ms, 4 RTTVAR if that is
+    /// more, and at most the timeout. The timeout before the first sample.
+    pub fn probe_timeout(&self) -> u32
+        ensures value { result ≡ probe_after self.now.estimate self.now.timeout }
+        ensures low { 10 ≤ result }
+        ensures high { result ≤ self.now.timeout }
+    {
+        match &self.estimate {
+            None => self.timeout,
+            Some(estimate) => estimate.probe().min(self.timeout),
+        }
     }
 
     /// Takes a round-trip time in milliseconds (sections 2.2 and 2.3), and ends the back-off (section 5). Never pass that of a

@@ -1,6 +1,6 @@
 -- What a connection of the code stands for in the set-up.
 -- Pinned by: `connection/figures`
-use Rattle.std.specs.Prelude.{ℕ, ◌≡◌, ◌==◌, ◌+◌, ◌-◌, ◌%◌, ◌&&◌, ◌<◌, ◌≤◌, not, Option, Some, None, length, Bool, true, false, if◌then◌else◌}
+use Rattle.std.specs.Prelude.{ℕ, ◌≡◌, ◌==◌, ◌+◌, ◌-◌, ◌%◌, ◌&&◌, ◌<◌, ◌≤◌, not, Option, Some, None, is_some, length, Bool, true, false, if◌then◌else◌}
 use Rattle.tcp_model.specs.Endpoint.{distance}
 use Rattle.app_tcp.specs.Stands.{reach, room_of}
 use Rattle.app_tcp.specs.declared.receiving.Receiving.{Receiving}
@@ -97,6 +97,10 @@ is_of_unsent c (Some ack) = is_earlier (next_of c) ack
 -- a segment without text, SYN, FIN and RST: an acknowledgement only
 abbrev pub is_bare : Segment → Bool
 is_bare s = not s.rst && len_of s == 0
+
+-- a segment with text, SYN or FIN, with an acknowledgement and without RST
+abbrev pub has_items : Segment → Bool
+has_items s = not s.rst && (not (len_of s == 0) && is_some s.ack)
 
 -- Whether a connection with this window answers a bare acknowledgement: one before RCV.NXT, as a keep-alive probe, or one of
 -- something not yet sent. One after the window is not answered.

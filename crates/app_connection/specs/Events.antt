@@ -4,7 +4,8 @@ use Rattle.std.specs.Prelude.{ℕ, ◌≡◌, ◌⊎◌, ◌<◌, length, Bool, 
 use Rattle.tcp_model.specs.Network.{World, Close, happens}
 use Rattle.app_tcp.specs.Waits.{from_of}
 use Rattle.app_tcp.specs.declared.sending.Sending.{Sending}
-use Rattle.app_connection.specs.Endpoints.{control_of}
+use Rattle.app_connection.specs.Endpoints.{control_of, has_items, is_bare, answers_bare}
+use Rattle.app_connection.specs.declared.connection.Connection.{Connection}
 use Rattle.app_connection.specs.SetUp.{Endpoint, In_closed, In_listen, In_syn_sent, hears}
 use Rattle.app_connection.specs.Worlds.{Arrives}
 use Rattle.app_connection.specs.declared.step.Event.{Event}
@@ -72,3 +73,30 @@ begins (event.Arrives segment iss) has = false
 begins (event.Send offset count) has = false
 begins event.Close has = false
 begins event.Abort has = false
+
+-- whether an event is a segment with items and an acknowledgement, without RST
+abbrev pub brings_items : Event → Bool
+brings_items event.Listen = false
+brings_items (event.Open iss) = false
+brings_items (event.Arrives segment iss) = has_items segment.now
+brings_items (event.Send offset count) = false
+brings_items event.Close = false
+brings_items event.Abort = false
+
+-- whether an event is a segment without items and RST
+abbrev pub brings_bare : Event → Bool
+brings_bare event.Listen = false
+brings_bare (event.Open iss) = false
+brings_bare (event.Arrives segment iss) = is_bare segment.now
+brings_bare (event.Send offset count) = false
+brings_bare event.Close = false
+brings_bare event.Abort = false
+
+-- whether a connection with this window answers an event that is a segment without items and RST
+abbrev pub is_answered : Event → Connection → ℕ → Bool
+is_answered event.Listen c window = false
+is_answered (event.Open iss) c window = false
+is_answered (event.Arrives segment iss) c window = answers_bare c window segment.now.number segment.now.ack
+is_answered (event.Send offset count) c window = false
+is_answered event.Close c window = false
+is_answered event.Abort c window = false

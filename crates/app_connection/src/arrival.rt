@@ -49,6 +49,7 @@ impl Connection {
         ensures replies { self.old.phase ≡ Open → (state_from self.old ≡ State.Closed → ⊥) → IfSome result (λ r. r ≡ acknowledgement_of self.new) }
         ensures bare { self.old.phase ≡ Open → (state_from self.old ≡ State.Closed → ⊥) → is_bare segment.now ≡ true → result ≡ (if answers_bare self.old (room_of self.old.receiving (length incoming.old)) segment.now.number segment.now.ack then Some (acknowledgement_of self.old) else None) }
         ensures answered { self.old.phase ≡ Open → (state_from self.old ≡ State.Closed → ⊥) → self.old.receiving.is_open ≡ true → segment.now.rst ≡ false → len_of segment.now ≢ 0 → IfSome segment.now.ack (λ ack. result ≡ Some (acknowledgement_of self.new)) }
+        ensures still { self.old.phase ≡ Open → is_bare segment.now ≡ true → self.new.receiving ≡ self.old.receiving }
         ensures edge { self.old.phase ≡ Open → self.old.receiving.has_fin ≡ false → self.new.receiving.has_fin ≡ false → edge_of self.new.receiving (length incoming.old) ≡ edge_of self.old.receiving (length incoming.old) }
         ensures closed { state_from self.old ≡ State.Closed → result ≡ refused segment.now }
     {
@@ -202,7 +203,8 @@ impl Connection {
         }
     }
 
-    // A SYN in SYN-RECEIVED.
+    // A SYN in SYN-RECEIVED. The answer to the first one was lost, or both crossed: it goes again, as no peer in SYN-SENT takes an
+    // acknowledgement without SYN.
     fn on_syn_again(
         &mut self,
         outgoing: &[u8],
@@ -230,6 +232,9 @@ impl Connection {
             self.phase = Phase::Listen;
             return None;
         }
+        if segment.number == self.irs {
+            return Some(self.syn_ack());
+        }
         Some(self.first_ack())
     }
 
@@ -252,6 +257,7 @@ impl Connection {
         ensures replies { IfSome result (λ r. r ≡ acknowledgement_of self.new) }
         ensures answered { self.old.receiving.is_open ≡ true → segment.now.rst ≡ false → len_of segment.now ≢ 0 → IfSome segment.now.ack (λ ack. result ≡ Some (acknowledgement_of self.new)) }
         ensures bare { is_bare segment.now ≡ true → result ≡ (if answers_bare self.old (room_of self.old.receiving (length incoming.old)) segment.now.number segment.now.ack then Some (acknowledgement_of self.old) else None) }
+        ensures still { is_bare segment.now ≡ true → self.new.receiving ≡ self.old.receiving }
         ensures edge { self.old.receiving.has_fin ≡ false → self.new.receiving.has_fin ≡ false → edge_of self.new.receiving (length incoming.old) ≡ edge_of self.old.receiving (length incoming.old) }
         ensures answers { IfSome result (λ r. (back : World) (consumed : List ℕ) → Stands back consumed self.new.receiving incoming.new → IsAnswered back r) }
     {
@@ -389,6 +395,7 @@ impl Connection {
         ensures reply { IfSome result (λ r. (r.syn ≡ false) × (r.rst ≡ false)) }
         ensures replies { IfSome result (λ r. r ≡ acknowledgement_of self.new) }
         ensures none { len_of segment.now ≡ 0 → result ≡ None }
+        ensures still { len_of segment.now ≡ 0 → self.new.receiving ≡ self.old.receiving }
         ensures some { segment.now.syn ≡ false → len_of segment.now ≢ 0 → result ≡ Some (acknowledgement_of self.new) }
         ensures edge { self.old.receiving.has_fin ≡ false → self.new.receiving.has_fin ≡ false → edge_of self.new.receiving (length incoming.old) ≡ edge_of self.old.receiving (length incoming.old) }
         ensures answers { IfSome result (λ r. (back : World) (consumed : List ℕ) → Stands back consumed self.new.receiving incoming.new → IsAnswered back r) }

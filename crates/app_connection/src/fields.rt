@@ -25,6 +25,7 @@ pub struct ConnectionFields {
 
 impl Connection {
     /// Its fields.
+    #[inline(always)]
     pub fn fields(&self) -> ConnectionFields
         ensures { connection_of result ≡ self.now }
     {
@@ -45,6 +46,7 @@ impl Connection {
 
 impl ConnectionFields {
     /// The value with these fields.
+    #[inline(always)]
     pub fn value(&self) -> Connection
         ensures { result ≡ connection_of self.now }
     {

@@ -1,14 +1,15 @@
 //! One call for everything that can happen to a connection.
 
-ghost use Rattle.std.specs.Prelude.{◌≡◌, ◌<◌, ◌⊎◌, ℕ, List, [], length, true, false, IfSome};
+ghost use Rattle.std.specs.Prelude.{◌≡◌, ◌<◌, ◌⊎◌, ℕ, List, [], length, true, false, if◌then◌else◌, IfSome, Some, None};
 ghost use Rattle.tcp_model.specs.Network.{World};
 ghost use Rattle.app_tcp.specs.Items.{items_of};
 ghost use Rattle.app_tcp.specs.Stands.{Stands, room_of, IsAnswer};
 ghost use Rattle.app_tcp.specs.Waits.{Waits, IsSend};
 ghost use Rattle.app_connection.specs.declared.state.Phase.TheVariants.{Listen, Open};
-ghost use Rattle.app_connection.specs.Endpoints.{endpoint_of, len_of, spoken, IsLegal, OutFits, InFits, edge_of};
+ghost use Rattle.app_connection.specs.declared.state.State.TheVariants as state;
+ghost use Rattle.app_connection.specs.Endpoints.{endpoint_of, len_of, spoken, acknowledgement_of, IsLegal, OutFits, InFits, edge_of};
 ghost use Rattle.app_connection.specs.Worlds.{Stand, Went};
-ghost use Rattle.app_connection.specs.Events.{IsShort, ComesBy, IsMove, IsSending, begins, called, cut_from};
+ghost use Rattle.app_connection.specs.Events.{IsShort, ComesBy, IsMove, IsSending, begins, brings_bare, brings_items, called, cut_from, is_answered};
 ghost use Rattle.app_connection.specs.States.{has_peer, may_close, state_from};
 
 use crate::connection::Connection;
@@ -52,6 +53,9 @@ impl Connection {
         ensures bare { self.old.phase ≡ Open → (IsSending event.entry → ⊥) → begins event.entry (has_peer (state_from self.old)) ≡ false → IfSome result (λ s. len_of s ≡ 0) }
         ensures sends { self.old.phase ≡ Open → begins event.entry (has_peer (state_from self.old)) ≡ false → IfSome result (λ s. 0 < len_of s → (there : World) → Waits there self.old.sending outgoing.now → IsSend there (cut_from event.entry self.old.sending) s.number (items_of s.syn s.payload.now s.fin)) }
         ensures answers { self.old.phase ≡ Open → IfSome result (λ s. (back : World) (consumed : List ℕ) → Stands back consumed self.new.receiving incoming.new → (s.rst ≡ true) ⊎ IfSome s.ack (λ number. IsAnswer back number)) }
+        ensures to_items { self.old.phase ≡ Open → (state_from self.old ≡ state.Closed → ⊥) → self.old.receiving.is_open ≡ true → brings_items event.entry ≡ true → spoken result ≡ Some (acknowledgement_of self.new) }
+        ensures to_bare { self.old.phase ≡ Open → (state_from self.old ≡ state.Closed → ⊥) → brings_bare event.entry ≡ true → spoken result ≡ (if is_answered event.entry self.old (room_of self.old.receiving (length incoming.old)) then Some (acknowledgement_of self.old) else None) }
+        ensures still { self.old.phase ≡ Open → brings_bare event.entry ≡ true → self.new.receiving ≡ self.old.receiving }
     {
         let reply = match event {
             Event::Send(offset, count) => {

@@ -1,6 +1,6 @@
 -- Timestamps, and protection against wrapped sequence numbers (PAWS; RFC 7323, sections 3 to 5), in milliseconds.
 -- Pinned by: `options/timestamps`
-use Rattle.std.specs.Prelude.{ℕ, ◌+◌, ◌-◌, ◌%◌, Bool, true, false, not, ◌&&◌, nat_lt, Option, Some, None}
+use Rattle.std.specs.Prelude.{ℕ, ◌+◌, ◌-◌, ◌%◌, Bool, true, false, not, ◌&&◌, nat_lt, if◌then◌else◌, Option, Some, None}
 use Rattle.app_options.specs.declared.timestamps.Recent.{Recent}
 
 -- the timestamp clock at a time (section 5.4)
@@ -45,3 +45,13 @@ updated (Some recent) (Some timestamp) now = heard (Some timestamp) now
 abbrev pub echoes : Option Recent → ℕ → ℕ → Option (ℕ × ℕ)
 echoes None offset now = None
 echoes (Some recent) offset now = Some (stamp offset now, recent.value)
+
+-- the time since the clock showed a timestamp, if it is not ahead of the clock
+abbrev pub since : ℕ → ℕ → ℕ → Option ℕ
+since offset stamped now = if nat_lt (ahead (stamp offset now) stamped) 2147483648 then Some (ahead (stamp offset now) stamped) else None
+
+-- the round trip that the TSecr of a segment tells, if timestamps are agreed on (section 4.1)
+abbrev pub round_trip : Option Recent → ℕ → Option (ℕ × ℕ) → ℕ → Option ℕ
+round_trip None offset timestamp now = None
+round_trip (Some recent) offset None now = None
+round_trip (Some recent) offset (Some timestamp) now = since offset timestamp.1 now

@@ -1,7 +1,7 @@
 //! What both ends agreed on.
 
 use crate::scale::{MAX_FIELD, MAX_SCALE, scale_of};
-use crate::timestamps::{Recent, stamp};
+use crate::timestamps::{Recent, since, stamp};
 use wire_tcp_options::{SACK_BLOCKS, TcpOptionSummary};
 
 const MIN_TEXT: u16 = 8;
@@ -26,7 +26,7 @@ pub struct Agreed {
 
 impl Agreed {
     ghost use Rattle.std.specs.Prelude.{◌≡◌, ◌≤◌, ◌*◌, min};
-    ghost use Rattle.app_options.specs.Timestamps.{echoes, takes, updated};
+    ghost use Rattle.app_options.specs.Timestamps.{echoes, round_trip, takes, updated};
     ghost use Rattle.app_options.specs.Options.{agreed_on, nothing, of_segment, of_syn, text_limit, window_in, window_out};
 
     /// Nothing yet. The timestamps of this end begin at `offset`, which should be random (RFC 7323, section 5.4).
@@ -168,6 +168,17 @@ impl Agreed {
                 value: tsval,
                 heard_at: now,
             });
+        }
+    }
+
+    /// The round trip in milliseconds that the TSecr of a segment tells, also of a segment that was sent twice (RFC 7323, section
+    /// 4.1). None if timestamps are not agreed on, or TSecr is ahead of the clock.
+    pub fn round_trip(&self, timestamp: Option<(u32, u32)>, now: u64) -> Option<u32>
+        ensures { result ≡ round_trip self.now.recent self.now.offset timestamp now }
+    {
+        match (self.recent, timestamp) {
+            (Some(_), Some((_, tsecr))) => since(self.offset, tsecr, now),
+            _ => None,
         }
     }
 }

@@ -22,6 +22,7 @@ pub struct AgreedFields {
 
 impl Agreed {
     /// Its fields.
+    #[inline(always)]
     pub fn fields(&self) -> AgreedFields
         ensures { agreed_of result ≡ self.now }
     {
@@ -41,6 +42,7 @@ impl Agreed {
 
 impl AgreedFields {
     /// The value with these fields.
+    #[inline(always)]
     pub fn value(&self) -> Agreed
         ensures { result ≡ agreed_of self.now }
     {

@@ -28,6 +28,25 @@ pub fn an_old_timestamp_is_dropped(
     agreed.takes(Some(next), now)
 }
 
+/// RTTM (RFC 7323, section 4.1). The peer takes the timestamp of a segment that goes out at the time `sent`, and echoes it. What
+/// comes back then tells how long both took together: of less than 2^31 milliseconds, and whatever its times are.
+pub fn an_echo_tells_the_round_trip(
+    own: &Agreed,
+    peer: &mut Agreed,
+    sent: u64,
+    times: (u64, u64),
+    now: u64,
+) -> Option<u32>
+    requires own { is_some own.now.recent ≡ true }
+    requires peer { is_some peer.old.recent ≡ true }
+    ensures { sent ≤ now → now < sent + 2 ^ 31 → option_map (λ elapsed. sent + elapsed) result ≡ Some now }
+{
+    let segment = own.of_segment(None, sent);
+    peer.on_timestamp(segment.timestamp, times.0);
+    let answer = peer.of_segment(None, times.1);
+    own.round_trip(answer.timestamp, now)
+}
+
 /// The window that a peer reads in a header is at most the own one, and less than 2^scale bytes below it (RFC 7323, section 2.4).
 /// If windows are scaled, the peer knows the scale.
 pub fn what_is_told_fits(own: &Agreed, peer: &Agreed, window: u32, size: usize) -> u32

@@ -1,7 +1,7 @@
 //! Timestamps, and protection against wrapped sequence numbers (PAWS; RFC 7323, sections 3 to 5).
 
 ghost use Rattle.std.specs.Prelude.{◌≡◌};
-ghost use Rattle.app_options.specs.Timestamps.{is_old, stamp};
+ghost use Rattle.app_options.specs.Timestamps.{is_old, since, stamp};
 
 // How many timestamps there are.
 const CLOCK: u64 = 1 << 32;
@@ -35,4 +35,12 @@ pub(crate) fn stamp(offset: u32, now: u64) -> u32
     ensures { result ≡ stamp offset now }
 {
     offset.wrapping_add((now % CLOCK) as u32)
+}
+
+// The time since the clock showed this timestamp, if it is not ahead of the clock.
+pub(crate) fn since(offset: u32, stamped: u32, now: u64) -> Option<u32>
+    ensures { result ≡ since offset stamped now }
+{
+    let elapsed = stamp(offset, now).wrapping_sub(stamped);
+    if elapsed < HALF { Some(elapsed) } else { None }
 }

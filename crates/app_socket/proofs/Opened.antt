@@ -1,6 +1,6 @@
 -- What holds of a connection that is set up.
-use Rattle.std.proofs.Common.{◌≡◌, ◌⊎◌, inr, refl, sym, ◌∙◌, ap, subst, ℕ, ◌<◌, List, true, arith}
-use Rattle.std.specs.Prelude.{Option, Some, None, IfSome}
+use Rattle.std.proofs.Common.{◌≡◌, ◌⊎◌, inr, refl, sym, ◌∙◌, ap, subst, ℕ, ◌<◌, List, Bool, true, false, arith}
+use Rattle.std.specs.Prelude.{Option, Some, None, IfSome, is_some, ◌&&◌, if◌then◌else◌}
 use Rattle.tcp_model.specs.Network.{World}
 use Rattle.app_tcp.specs.Stands.{Stands, IsAnswer}
 use Rattle.app_tcp.specs.declared.receiving.Receiving.{Receiving}
@@ -9,9 +9,11 @@ use Rattle.app_connection.specs.declared.segment.Segment.{Segment}
 use Rattle.app_connection.specs.declared.state.Phase.{Phase}
 use Rattle.app_connection.specs.declared.state.Phase.TheVariants as phase
 use Rattle.app_connection.specs.declared.state.State.{State}
-use Rattle.app_connection.specs.Endpoints.{len_of}
+use Rattle.app_connection.specs.declared.state.State.TheVariants as state
+use Rattle.app_connection.specs.Endpoints.{len_of, spoken}
 use Rattle.app_connection.specs.States.{state_from, state_in}
 use Rattle.app_connection.specs.Worlds.{Arrives, Stand, Went}
+use Rattle.app_connection.specs.declared.segment.Reply.{Reply}
 use Rattle.app_socket.specs.Times.{is_open}
 
 open_in : (p : Phase) (s : State) → is_open (state_in p s) ≡ true → p ≡ phase.Open
@@ -24,6 +26,10 @@ open_in phase.Open s is = refl
 -- the phase of a synchronized state
 pub open_phase : (c : Connection) → is_open (state_from c) ≡ true → c.phase ≡ phase.Open
 open_phase c is = open_in c.phase _ is
+
+-- it is not in CLOSED
+pub open_not_shut : (c : Connection) → is_open (state_from c) ≡ true → state_from c ≡ state.Closed → ⊥
+open_not_shut c is shut = let h : false ≡ true = subst (λ (x : State). is_open x ≡ true) shut is in absurd (cc)
 
 -- a segment that takes no sequence number has no items
 pub no_items : (P : Segment → Type 0) (o : Option Segment) → IfSome o (λ s. len_of s ≡ 0) → IfSome o (λ s. 0 < len_of s → P s)
@@ -49,3 +55,17 @@ pub answers_as : (o : Option Segment) (r t : Receiving) (incoming : List ℕ) �
     → IfSome o (λ s. (back : World) (consumed : List ℕ) → Stands back consumed t incoming → (s.rst ≡ true) ⊎ IfSome s.ack (λ number. IsAnswer back number))
 answers_as None r t incoming is answers = tt
 answers_as (Some s) r t incoming is answers = λ back consumed stands. inr (answers back consumed incoming (subst (λ (x : Receiving). Stands back consumed x incoming) is stands))
+
+-- a reply is a segment
+pub is_spoken : (o : Option Segment) → is_some o ≡ is_some (spoken o)
+is_spoken None = refl
+is_spoken (Some s) = refl
+
+pub is_said : (b : Bool) (r : Reply) → is_some (if b then Some r else None) ≡ b
+is_said true r = refl
+is_said false r = refl
+
+-- A receiving half without the peer's SYN answers no acknowledgement. The reply of another one goes out.
+pub answers_exactly : (synced rest : Bool) (o q : Option Segment) → is_some o ≡ (synced && rest) → (is_some o ≡ false → q ≡ None) → (synced ≡ true → is_some q ≡ is_some o) → is_some q ≡ (synced && rest)
+answers_exactly true rest o q said none some = some refl ∙ said
+answers_exactly false rest o q said none some = ap is_some (none said)

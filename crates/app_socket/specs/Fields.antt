@@ -28,6 +28,7 @@ flow_of f = record {
   scoreboard = f.scoreboard;
   rescued = f.rescued;
   max_window = f.max_window;
+  is_probed = f.is_probed;
 }
 
 -- the socket

@@ -1,6 +1,6 @@
 -- What comes and goes in a header: options, windows, and the items of a segment.
 -- Pinned by: `socket/scenarios`, `socket/options`
-use Rattle.std.specs.Prelude.{ℕ, ◌≡◌, ◌==◌, ◌+◌, ◌%◌, ◌&&◌, [], Bool, false, not, nat_lt, is_some, if◌then◌else◌, min, max, Option, None, Some}
+use Rattle.std.specs.Prelude.{ℕ, ◌≡◌, ◌⊎◌, ◌==◌, ◌+◌, ◌%◌, ◌&&◌, [], Bool, false, not, nat_lt, is_some, if◌then◌else◌, min, max, Option, None, Some}
 use Rattle.tcp_model.specs.Network.{World}
 use Rattle.tcp_model.specs.Endpoint.{distance}
 use Rattle.app_tcp.specs.Items.{items_of}
@@ -14,7 +14,8 @@ use Rattle.app_connection.specs.declared.connection.Connection.{Connection}
 use Rattle.app_connection.specs.declared.segment.Segment.{Segment}
 use Rattle.app_connection.specs.States.{state_from}
 use Rattle.app_options.specs.Options.{of_syn, of_segment, text_limit, window_out}
-use Rattle.app_options.specs.Timestamps.{takes}
+use Rattle.app_options.specs.Timestamps.{is_old, takes}
+use Rattle.app_options.specs.declared.timestamps.Recent.{Recent}
 use Rattle.app_socket.specs.declared.flow.Flow.{Flow}
 use Rattle.app_socket.specs.declared.socket.Socket.{Socket}
 use Rattle.app_socket.specs.declared.socket.Header.{Header}
@@ -44,6 +45,12 @@ has_timestamp (event.Arrives segment options fresh) = is_some options.now.timest
 has_timestamp event.Close = false
 has_timestamp event.Abort = false
 has_timestamp event.Tick = false
+
+-- TS.Recent stays, or becomes a timestamp that is not old (RFC 7323, section 5). Timestamps stay agreed on.
+abbrev pub GoesForward : Option Recent → Option Recent → ℕ → Type 0
+GoesForward None new now = new ≡ None
+GoesForward (Some old) None now = ⊥
+GoesForward (Some old) (Some new) now = (new ≡ old) ⊎ (is_old old new.value now ≡ false)
 
 -- The items of a segment are what the event Send puts on the network, from an item after SND.UNA on.
 pub record IsSent (w : World) (s : Segment) : Type 0 where

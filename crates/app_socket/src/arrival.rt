@@ -1,13 +1,13 @@
 //! A segment arrives.
 
-ghost use Rattle.std.specs.Prelude.{[], false, ◌≤◌, None, max, ◌≡◌, ◌<◌, ◌⊎◌, ℕ, List, is_some, length, true, IfSome};
+ghost use Rattle.std.specs.Prelude.{[], false, ◌≤◌, None, max, ◌≡◌, ◌<◌, ◌⊎◌, ℕ, List, is_some, length, true, IfSome, MatchOption};
 ghost use Rattle.tcp_model.specs.Network.{World};
 ghost use Rattle.app_connection.specs.declared.state.Phase.TheVariants.{Listen};
-ghost use Rattle.app_tcp.specs.Stands.{Stands, IsAnswer};
-ghost use Rattle.app_connection.specs.Endpoints.{OutFits, InFits, len_of};
+ghost use Rattle.app_tcp.specs.Stands.{Stands, IsAnswer, room_of};
+ghost use Rattle.app_connection.specs.Endpoints.{OutFits, InFits, answers_bare, has_items, is_bare, len_of};
 ghost use Rattle.app_connection.specs.States.{state_from};
 ghost use Rattle.app_connection.specs.Worlds.{Arrives, Stand, Went};
-ghost use Rattle.app_socket.specs.Segments.{rejects};
+ghost use Rattle.app_socket.specs.Segments.{GoesForward, rejects};
 ghost use Rattle.app_socket.specs.Times.{is_open, later, patience_of};
 ghost use Rattle.app_socket.specs.Window.{HasRoom, Tells};
 
@@ -87,6 +87,9 @@ impl Socket {
         ensures text { IfSome result (λ s. (s.payload.now ≡ []) × (s.fin ≡ false)) }
         ensures bare { is_open (state_from self.old.connection) ≡ true → IfSome result (λ s. len_of s ≡ 0) }
         ensures answers { is_open (state_from self.old.connection) ≡ true → is_open (state_from self.new.connection) ≡ true → IfSome result (λ s. (back : World) (consumed : List ℕ) → Stands back consumed self.new.connection.receiving incoming.new → (s.rst ≡ true) ⊎ IfSome s.ack (λ number. IsAnswer back number)) }
+        ensures owes { is_open (state_from self.old.connection) ≡ true → is_open (state_from self.new.connection) ≡ true → self.old.connection.receiving.is_open ≡ true → rejects self.old now segment.now options.now ≡ false → has_items segment.now ≡ true → result ≡ None → MatchOption self.new.timers.ack_at ⊥ (λ t. t ≤ later now 40) }
+        ensures to_bare { is_open (state_from self.old.connection) ≡ true → is_open (state_from self.new.connection) ≡ true → rejects self.old now segment.now options.now ≡ false → is_bare segment.now ≡ true → is_some result ≡ answers_bare self.old.connection (room_of self.old.connection.receiving (length incoming.old)) segment.now.number segment.now.ack }
+        ensures recent { is_open (state_from self.old.connection) ≡ true → GoesForward self.old.agreed.recent self.new.agreed.recent now }
         ensures stale { rejects self.old now segment.now options.now ≡ true → self.new ≡ record self.old { timers = record self.old.timers { ack_at = self.new.timers.ack_at }; edge = self.new.edge } }
         ensures answered { rejects self.old now segment.now options.now ≡ true → is_some result ≡ is_some options.now.timestamp }
         ensures goes { (there back : World) (consumed : List ℕ) → (self.old.connection.phase ≡ Listen → ⊥) → (rejects self.old now segment.now options.now ≡ false → Arrives there back segment.now) → Stand there back consumed self.old.connection outgoing.now incoming.old → Went there back consumed self.new.connection outgoing.now incoming.new }
@@ -160,6 +163,7 @@ impl Socket {
     // number that was acknowledged, and is not all old.
     fn is_timestamp_due(&self, segment: &Segment) -> bool
         requires { length segment.now.payload.now < 65536 }
+        ensures { result ≡ true → segment.now.rst ≡ false }
     {
         let next = self.next();
         let is_acknowledged = self.timers.ack_at.is_none();
@@ -213,6 +217,9 @@ impl Socket {
         ensures text { IfSome result (λ s. (s.payload.now ≡ []) × (s.fin ≡ false)) }
         ensures bare { is_open (state_from self.old.connection) ≡ true → IfSome result (λ s. len_of s ≡ 0) }
         ensures answers { is_open (state_from self.old.connection) ≡ true → is_open (state_from self.new.connection) ≡ true → IfSome result (λ s. (back : World) (consumed : List ℕ) → Stands back consumed self.new.connection.receiving incoming.new → (s.rst ≡ true) ⊎ IfSome s.ack (λ number. IsAnswer back number)) }
+        ensures owes { is_open (state_from self.old.connection) ≡ true → is_open (state_from self.new.connection) ≡ true → self.old.connection.receiving.is_open ≡ true → has_items segment.now ≡ true → result ≡ None → MatchOption self.new.timers.ack_at ⊥ (λ t. t ≤ later now 40) }
+        ensures to_bare { is_open (state_from self.old.connection) ≡ true → is_open (state_from self.new.connection) ≡ true → is_bare segment.now ≡ true → is_some result ≡ answers_bare self.old.connection (room_of self.old.connection.receiving (length incoming.old)) segment.now.number segment.now.ack }
+        ensures agreed { self.new.agreed ≡ self.old.agreed }
         ensures goes { (there back : World) (consumed : List ℕ) → (self.old.connection.phase ≡ Listen → ⊥) → Arrives there back segment.now → Stand there back consumed self.old.connection outgoing.now incoming.old → Went there back consumed self.new.connection outgoing.now incoming.new }
     {
         let before = self.before(incoming.len());
@@ -234,7 +241,8 @@ impl Socket {
 
     fn before(&self, incoming: usize) -> Before
         requires { InFits self.now.connection.receiving incoming }
-        ensures { result.state ≡ state_from self.now.connection }
+        ensures state { result.state ≡ state_from self.now.connection }
+        ensures next { self.now.connection.receiving.is_open ≡ true → result.next ≡ self.now.connection.receiving.next }
     {
         Before {
             state: self.connection.state(),
@@ -288,7 +296,7 @@ impl Socket {
         self.learn_ack(before, now, segment, options);
         self.flow.on_window(window);
         if before.window == 0 && window > 0 && self.waits() {
-            self.timers.restart(now, self.flow.timeout(), true);
+            self.timers.restart(now, self.flow.timer(), true);
         }
     }
 
@@ -334,9 +342,10 @@ impl Socket {
         let (una, flight) = (self.connection.una(), self.connection.flight());
         let newly = una.wrapping_sub(before.una);
         if newly > 0 {
-            self.flow.on_ack(before.una, newly, flight, now);
+            let round_trip = self.agreed.round_trip(options.timestamp, now);
+            self.flow.on_ack(before.una, newly, flight, round_trip, now);
             let waits = self.waits();
-            self.timers.restart(now, self.flow.timeout(), waits);
+            self.timers.restart(now, self.flow.timer(), waits);
         }
         let has_sack = self.agreed.has_sack() && before.has_sack(segment, options);
         let segments = if has_sack {
@@ -385,6 +394,9 @@ impl Socket {
         ensures keeps { is_open before.now.state ≡ true → HasRoom self.old.edge self.old.connection.receiving incoming → HasRoom self.new.edge self.old.connection.receiving incoming }
         ensures acks { is_open before.now.state ≡ true → IfSome result (λ s. self.new.timers.ack_at ≡ None) }
         ensures ends_at { self.new.timers.ends_at ≡ self.old.timers.ends_at }
+        ensures owes { is_open before.now.state ≡ true → is_some reply.entry ≡ true → result ≡ None → MatchOption self.new.timers.ack_at ⊥ (λ t. t ≤ later now 40) }
+        ensures none { is_open before.now.state ≡ true → is_some reply.entry ≡ false → result ≡ None }
+        ensures some { is_open before.now.state ≡ true → self.old.connection.receiving.is_open ≡ true → before.now.next ≡ self.old.connection.receiving.next → is_some result ≡ is_some reply.entry }
     {
         if before.state == State::SynSent {
             self.begin_edge(&reply);

@@ -32,6 +32,7 @@ pub struct SocketFields {
     edge: u32,
     limit: u16,
     resend: bool,
+    is_probed: bool,
     // Whether `timing`, `resend_at` and `ack_at` are used.
     is_timed: bool,
     has_resend: bool,
@@ -40,6 +41,7 @@ pub struct SocketFields {
 
 impl Socket {
     /// Its fields.
+    #[inline(always)]
     pub fn fields(&self) -> SocketFields
         ensures { socket_of result ≡ self.now }
     {
@@ -63,6 +65,7 @@ impl Socket {
             edge: self.edge,
             limit: self.limit,
             resend: flow.resend,
+            is_probed: flow.is_probed,
             is_timed: flow.timing.is_some(),
             has_resend: timers.resend_at.is_some(),
             has_ack: timers.ack_at.is_some(),
@@ -72,6 +75,7 @@ impl Socket {
 
 impl SocketFields {
     /// The value with these fields.
+    #[inline(always)]
     pub fn value(&self) -> Socket
         ensures { result ≡ socket_of self.now }
     {
@@ -86,6 +90,7 @@ impl SocketFields {
         }
     }
 
+    #[inline(always)]
     fn timers(&self) -> Timers
         ensures { result ≡ timers_of self.now }
     {
@@ -105,6 +110,7 @@ impl SocketFields {
         }
     }
 
+    #[inline(always)]
     fn flow(&self) -> Flow
         ensures { result ≡ flow_of self.now }
     {
@@ -121,6 +127,7 @@ impl SocketFields {
             scoreboard: self.scoreboard,
             rescued: self.rescued,
             max_window: self.max_window,
+            is_probed: self.is_probed,
         }
     }
 }

@@ -33,6 +33,8 @@ pub(crate) struct Flow {
     pub(crate) rescued: u32,
     // The largest SND.WND so far.
     pub(crate) max_window: u32,
+    // Whether the timer expired since the last sample of the round trip.
+    pub(crate) is_probed: bool,
 }
 
 // What the choice of the next segment sees of a connection.
@@ -97,6 +99,7 @@ impl Flow {
             scoreboard: Scoreboard::new(),
             rescued: 0,
             max_window: 0,
+            is_probed: false,
         }
     }
 
@@ -108,6 +111,24 @@ impl Flow {
         self.rto.timeout()
     }
 
+    // For how long the timer runs: until a loss probe, or if one went since the last sample, until the time-out (RFC 8985,
+    // sections 7.2 and 7.3).
+    pub(crate) fn timer(&self) -> u32
+        ensures low { 0 < result }
+        ensures high { result ≤ 60000 }
+    {
+        if self.is_probed {
+            self.rto.timeout()
+        } else {
+            self.rto.probe_timeout()
+        }
+    }
+
+    // Whether the timer is that of a loss probe.
+    pub(crate) fn is_probing(&self) -> bool {
+        self.timer() < self.rto.timeout()
+    }
+
     // A SYN goes out; `end` is the number after it.
     pub(crate) fn begin(&mut self, end: u32, now: u64) {
         self.rto = Rto::new();
@@ -117,6 +138,7 @@ impl Flow {
         self.scoreboard.clear();
         self.rescued = 0;
         self.max_window = 0;
+        self.is_probed = false;
     }
 
     // The SYN was acknowledged. One that was sent again is not timed (RFC 6298, section 5.7; RFC 5681, section 3.1).
@@ -134,14 +156,16 @@ impl Flow {
         self.cursor = 0;
     }
 
-    // So many items after `una` were newly acknowledged.
-    pub(crate) fn on_ack(&mut self, una: u32, newly: u32, flight: u32, now: u64) {
-        if let Some(timed) = self.timing
-            && timed.end.wrapping_sub(una) <= newly
-        {
-            self.rto.on_sample(elapsed(timed.sent_at, now));
-            self.timing = None;
-        }
+    // So many items after `una` were newly acknowledged. Timestamps told this round trip.
+    pub(crate) fn on_ack(
+        &mut self,
+        una: u32,
+        newly: u32,
+        flight: u32,
+        round_trip: Option<u32>,
+        now: u64,
+    ) {
+        self.time(una, newly, round_trip, now);
         self.cursor = self.cursor.saturating_sub(newly);
         self.rescued = self.rescued.saturating_sub(newly);
         self.scoreboard.advance(newly);
@@ -150,6 +174,23 @@ impl Flow {
             .on_ack(newly, flight, una.wrapping_add(newly));
         // With SACK the first segment goes only once in a fast recovery.
         self.resend = is_partial && (self.rescued == 0 || self.scoreboard.is_empty());
+    }
+
+    // Takes the round trip of the segment that is timed; where none is, since segments went again, the one that timestamps tell
+    // (RFC 6298, section 3).
+    fn time(&mut self, una: u32, newly: u32, round_trip: Option<u32>, now: u64)
+        ensures { self.new ≡ record self.old { rto = self.new.rto; timing = self.new.timing; is_probed = self.new.is_probed } }
+    {
+        let sample = match self.timing {
+            Some(timed) if timed.end.wrapping_sub(una) > newly => return,
+            Some(timed) => Some(elapsed(timed.sent_at, now)),
+            None => round_trip,
+        };
+        self.timing = None;
+        if let Some(rtt) = sample {
+            self.rto.on_sample(rtt);
+            self.is_probed = false;
+        }
     }
 
     // The peer has these numbers after a gap (RFC 2018), of the `flight` that were sent after `una`.
@@ -204,12 +245,25 @@ impl Flow {
         self.timing = None;
     }
 
+    // The timer of a loss probe expired: fast recovery begins, and the first segment goes again. Nothing happens if the window is
+    // closed, while everything goes again, and for one segment, whose acknowledgement the peer may delay.
+    pub(crate) fn on_probe(&mut self, queue: &Queue) {
+        self.is_probed = true;
+        if queue.window == 0 || queue.flight <= u32::from(queue.mss) || self.cursor < queue.flight {
+            return;
+        }
+        self.congestion.on_probe(queue.flight, queue.next());
+        self.resend = true;
+        self.rescued = 0;
+    }
+
     // The timer expired: the first segment goes again, or probes a closed window. With nothing in flight it is one that was too
     // small for its window before.
     pub(crate) fn on_timeout(&mut self, queue: &Queue) -> Piece
         ensures { IsWithin result queue.now.window self.new.congestion.cwnd }
     {
         self.timing = None;
+        self.is_probed = true;
         self.go_back();
         if queue.window == 0 {
             self.rto.back_off();

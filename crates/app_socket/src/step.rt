@@ -1,17 +1,17 @@
 //! One call for everything that can happen.
 
-ghost use Rattle.std.specs.Prelude.{[], max, false, ◌≡◌, ◌<◌, ◌≤◌, ◌⊎◌, ℕ, List, is_some, length, true, Some, None, IfSome};
+ghost use Rattle.std.specs.Prelude.{[], max, false, ◌≡◌, ◌<◌, ◌≤◌, ◌⊎◌, ℕ, List, is_some, length, true, Some, None, IfSome, MatchOption};
 ghost use Rattle.tcp_model.specs.Network.{World};
-ghost use Rattle.app_tcp.specs.Stands.{Stands, IsAnswer};
+ghost use Rattle.app_tcp.specs.Stands.{Stands, IsAnswer, room_of};
 ghost use Rattle.app_tcp.specs.Waits.{Waits};
 ghost use Rattle.app_connection.specs.declared.state.Phase.TheVariants.{Listen};
 ghost use Rattle.app_connection.specs.SetUp.{In_closed};
 ghost use Rattle.app_connection.specs.Endpoints.{endpoint_of, len_of, OutFits, InFits};
 ghost use Rattle.app_connection.specs.Worlds.{Stand, Went};
-ghost use Rattle.app_connection.specs.Events.{ComesBy, called};
+ghost use Rattle.app_connection.specs.Events.{ComesBy, brings_bare, brings_items, called, is_answered};
 ghost use Rattle.app_connection.specs.States.{has_peer, may_close, state_from};
 ghost use Rattle.app_socket.specs.Events.{IsShort, IsTick, IsQuiet, move_of};
-ghost use Rattle.app_socket.specs.Segments.{IsSent, has_timestamp, is_stale};
+ghost use Rattle.app_socket.specs.Segments.{GoesForward, IsSent, has_timestamp, is_stale};
 ghost use Rattle.app_socket.specs.Times.{due_in, is_open, later, patience_of};
 ghost use Rattle.app_socket.specs.Window.{HasRoom, Tells, end_after, limit_of};
 
@@ -65,6 +65,9 @@ impl Socket {
         ensures answered { is_stale self.old now event.entry ≡ true → is_some result ≡ has_timestamp event.entry }
         ensures within { is_open (state_from self.old.connection) ≡ true → is_open (state_from self.new.connection) ≡ true → IfSome result (λ s. 0 < len_of s → end_after self.old.connection.sending.una s ≤ limit_of self.old.connection.wnd self.new.flow.congestion.cwnd) }
         ensures acks { is_open (state_from self.old.connection) ≡ true → is_open (state_from self.new.connection) ≡ true → IfSome result (λ s. self.new.timers.ack_at ≡ None) }
+        ensures owes { is_open (state_from self.old.connection) ≡ true → is_open (state_from self.new.connection) ≡ true → self.old.connection.receiving.is_open ≡ true → is_stale self.old now event.entry ≡ false → brings_items (move_of event.entry) ≡ true → result ≡ None → MatchOption self.new.timers.ack_at ⊥ (λ t. t ≤ later now 40) }
+        ensures to_bare { is_open (state_from self.old.connection) ≡ true → is_open (state_from self.new.connection) ≡ true → is_stale self.old now event.entry ≡ false → brings_bare (move_of event.entry) ≡ true → is_some result ≡ is_answered (move_of event.entry) self.old.connection (room_of self.old.connection.receiving (length incoming.old)) }
+        ensures recent { is_open (state_from self.old.connection) ≡ true → GoesForward self.old.agreed.recent self.new.agreed.recent now }
         ensures patience { self.new.timers.ends_at ≤ max self.old.timers.ends_at (later now (patience_of self.old.options)) }
         ensures rests { IsTick event.entry → now < 9223372036854775808 → result ≡ None → IfSome (due_in (state_from self.new.connection) self.new.timers) (λ t. now < t) }
     {

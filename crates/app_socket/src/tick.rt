@@ -56,6 +56,7 @@ impl Socket {
         ensures acks { is_open (state_from self.old.connection) ≡ true → is_open (state_from self.new.connection) ≡ true → IfSome result (λ s. self.new.timers.ack_at ≡ None) }
         ensures sends { is_open (state_from self.old.connection) ≡ true → IfSome result (λ s. 0 < len_of s → (there : World) → Waits there self.old.connection.sending outgoing.now → IsSent there s) }
         ensures answers { is_open (state_from self.old.connection) ≡ true → is_open (state_from self.new.connection) ≡ true → IfSome result (λ s. (back : World) (consumed : List ℕ) → Stands back consumed self.new.connection.receiving incoming.new → (s.rst ≡ true) ⊎ IfSome s.ack (λ number. IsAnswer back number)) }
+        ensures agreed { self.new.agreed ≡ self.old.agreed }
         ensures rests { now < 9223372036854775808 → result ≡ None → IfSome (due_in (state_from self.new.connection) self.new.timers) (λ t. now < t) }
     {
         let state = self.connection.state();
@@ -84,6 +85,7 @@ impl Socket {
         ensures receiving { self.new.connection.receiving ≡ self.old.connection.receiving }
         ensures endpoint { endpoint_of self.new.connection ≡ endpoint_of self.old.connection }
         ensures waits { (there : World) → Waits there self.old.connection.sending outgoing.now → WaitsLater there self.new.connection.sending outgoing.now }
+        ensures agreed { self.new.agreed ≡ self.old.agreed }
         ensures ends_at { self.new.timers.ends_at ≡ self.old.timers.ends_at }
         ensures resend { now < 9223372036854775808 → IfSome self.new.timers.resend_at (λ t. now < t) }
     {
@@ -107,6 +109,7 @@ impl Socket {
         ensures out { OutFits self.new.connection.sending (length outgoing.now) }
         ensures receiving { self.new.connection.receiving ≡ self.old.connection.receiving }
         ensures waits { (there : World) → Waits there self.old.connection.sending outgoing.now → WaitsLater there self.new.connection.sending outgoing.now }
+        ensures agreed { self.new.agreed ≡ self.old.agreed }
         ensures ends_at { self.new.timers.ends_at ≤ self.old.timers.ends_at }
         ensures still { now < 9223372036854775808 → now < self.old.timers.ends_at → now < self.new.timers.ends_at }
         ensures resend { now < 9223372036854775808 → IfSome self.new.timers.resend_at (λ t. now < t) }
@@ -149,6 +152,7 @@ impl Socket {
         ensures still { now < 9223372036854775808 → now < self.old.timers.ends_at → now < self.new.timers.ends_at }
         ensures resend { now < 9223372036854775808 → IfSome self.new.timers.resend_at (λ t. now < t) }
         ensures edge { self.new.edge ≡ self.old.edge }
+        ensures agreed { self.new.agreed ≡ self.old.agreed }
         ensures sends { self.old.connection.phase ≡ Open → IfSome result (λ s. (there : World) → Waits there self.old.connection.sending outgoing.now → IsSent there s) }
         ensures within { self.old.connection.phase ≡ Open → IfSome result (λ s. end_after self.old.connection.sending.una s ≤ limit_of self.old.connection.wnd self.new.flow.congestion.cwnd) }
     {
@@ -175,8 +179,12 @@ impl Socket {
         {
             self.flow.on_idle();
         }
-        self.timers.run(now, rto, waits);
-        if is_reached(self.timers.resend_at, now) {
+        self.timers.run(now, self.flow.timer(), waits);
+        let is_due = is_reached(self.timers.resend_at, now);
+        if is_due && self.flow.is_probing() {
+            self.flow.on_probe(&queue);
+            self.timers.restart(now, rto, true);
+        } else if is_due {
             let piece = self.flow.on_timeout(&queue);
             self.timers.restart(now, self.flow.timeout(), true);
             return Some(piece);

@@ -1,20 +1,20 @@
 -- What the calls of a connection return and store.
 -- Pinned by: `judge`
-use Rattle.std.specs.Prelude.{ℕ, ℤ, pos, negsuc, ◌≡◌, ◌+◌, ◌≤◌, ◌<◌, ◌⊎◌, ◌++◌, Bool, true, false, Option, None, Some, IfSome, List, [], ◌∷◌, length, take, drop, min, max, is_some}
+use Rattle.std.specs.Prelude.{ℕ, ℤ, pos, negsuc, ◌≡◌, ◌+◌, ◌≤◌, ◌<◌, ◌⊎◌, ◌++◌, Bool, true, false, Option, None, Some, IfSome, List, [], ◌∷◌, length, take, drop, min, max, is_some, MatchOption}
 use Rattle.tcp_model.specs.Network.{World, Write, happens, run, start, IsPrefixOf}
 use Rattle.tcp_model.specs.Network.{Event as Move}
-use Rattle.app_tcp.specs.Stands.{Stands, IsAnswer}
+use Rattle.app_tcp.specs.Stands.{Stands, IsAnswer, room_of}
 use Rattle.app_tcp.specs.Waits.{Waits}
 use Rattle.app_connection.specs.declared.segment.Segment.{Segment}
 use Rattle.app_connection.specs.declared.state.Phase.TheVariants.{Listen}
 use Rattle.app_connection.specs.Endpoints.{InFits, OutFits, endpoint_of, len_of}
-use Rattle.app_connection.specs.Events.{ComesBy, called}
+use Rattle.app_connection.specs.Events.{ComesBy, brings_bare, brings_items, called, is_answered}
 use Rattle.app_connection.specs.SetUp.{In_closed}
 use Rattle.app_connection.specs.States.{has_peer, may_close, state_from}
 use Rattle.app_connection.specs.Worlds.{Stand, Went}
 use Rattle.app_socket.specs.Events.{IsQuiet, IsTick, move_of}
 use Rattle.app_socket.specs.Fields.{socket_of}
-use Rattle.app_socket.specs.Segments.{IsSent, has_timestamp, header_of, is_stale}
+use Rattle.app_socket.specs.Segments.{GoesForward, IsSent, has_timestamp, header_of, is_stale}
 use Rattle.app_socket.specs.Times.{due_in, is_open, later, patience_of}
 use Rattle.app_socket.specs.Window.{HasRoom, Tells, end_after, limit_of}
 use Rattle.app_socket.specs.declared.fields.SocketFields.{SocketFields}
@@ -72,6 +72,15 @@ pub record Steps (old new : Socket) (outgoing before after : List ℕ) (now : �
   pub acks :
       is_open (state_from old.connection) ≡ true → is_open (state_from new.connection) ≡ true → IfSome given (λ s.
       new.timers.ack_at ≡ None)
+  pub owes :
+      is_open (state_from old.connection) ≡ true → is_open (state_from new.connection) ≡ true →
+      old.connection.receiving.is_open ≡ true → is_stale old now e ≡ false → brings_items (move_of e) ≡ true → given ≡ None →
+      MatchOption new.timers.ack_at ⊥ (λ t. t ≤ later now 40)
+  pub to_bare :
+      is_open (state_from old.connection) ≡ true → is_open (state_from new.connection) ≡ true → is_stale old now e ≡ false →
+      brings_bare (move_of e) ≡ true → is_some given ≡ is_answered (move_of e) old.connection (room_of
+      old.connection.receiving (length before))
+  pub recent : is_open (state_from old.connection) ≡ true → GoesForward old.agreed.recent new.agreed.recent now
   pub patience : new.timers.ends_at ≤ max old.timers.ends_at (later now (patience_of old.options))
   pub rests :
       IsTick e → now < 9223372036854775808 → given ≡ None → IfSome (due_in (state_from new.connection) new.timers) (λ t. now <

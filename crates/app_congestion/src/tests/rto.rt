@@ -77,6 +77,21 @@ fn back_offs(rt: HostRuntime) {
     check(&rt, &rows);
 }
 
+// RFC 8985, section 7.2: 2 SRTT, with 4 RTTVAR or at least 10 ms, and at most the timeout.
+#[test]
+fn loss_probes(rt: HostRuntime) {
+    let mut rto = Rto::new();
+    assert_eq!(rt; rto.probe_timeout(), 1_000);
+    for (rtt, timeout) in [(20, 80), (20, 70), (100, 162), (1_000, 1_198)] {
+        rto.on_sample(rtt);
+        let difference = rto.probe_timeout().abs_diff(timeout);
+        assert!(rt; difference <= 1, "{rtt}: {}", rto.probe_timeout());
+    }
+    let mut rto = Rto::new();
+    rto.on_sample(0);
+    assert_eq!(rt; rto.probe_timeout(), 10);
+}
+
 // Section 5.7.
 #[test]
 fn lost_syn(rt: HostRuntime) {

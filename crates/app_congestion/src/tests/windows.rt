@@ -1,8 +1,8 @@
-//! Events of a sender with cwnd and ssthresh after each, by hand from RFC 3042, RFC 5681, RFC 6582 and
-//! RFC 6928.
+//! Events of a sender with cwnd and ssthresh after each, by hand from RFC 3042, RFC 5681, RFC 6582,
+//! RFC 6928 and RFC 8985.
 
 use crate::{Congestion, MAX_CWND};
-use Turn::{Ack, Duplicate, Timeout};
+use Turn::{Ack, Duplicate, Probe, Timeout};
 use std::process::Abort;
 
 #[derive(Debug, Clone, Copy)]
@@ -12,6 +12,7 @@ enum Turn {
     /// The bytes in flight, the first of them, and the next number.
     Duplicate(u32, u32, u32),
     /// The bytes in flight, and the next number.
+    Probe(u32, u32),
     Timeout(u32, u32),
 }
 
@@ -25,6 +26,10 @@ fn check(rt: &impl Abort, name: &str, rows: &[Row]) {
         let sends = match *turn {
             Ack(newly, flight, una) => c.on_ack(newly, flight, una),
             Duplicate(flight, una, next) => c.on_duplicate(flight, una, next),
+            Probe(flight, next) => {
+                c.on_probe(flight, next);
+                false
+            }
             Timeout(flight, next) => {
                 c.on_timeout(flight, next);
                 false
@@ -124,6 +129,26 @@ fn limited_flight(rt: HostRuntime) {
     let _ = c.on_duplicate(11_000, 1, 11_001);
     assert_eq!(rt; c.may_send(65_535, 11_000), 1_000);
     assert_eq!(rt; c.may_send(65_535, 12_000), 0);
+}
+
+// RFC 8985, section 7.4, and RFC 5681, section 4.3: the loss of a retransmission halves ssthresh again.
+#[test]
+fn loss_probes(rt: HostRuntime) {
+    let rows = [
+        (Probe(8_001, 8_002), 4_000, 4_000, false),
+        (Duplicate(8_001, 1, 8_002), 5_000, 4_000, false),
+        (Probe(8_001, 8_002), 2_000, 2_000, false),
+        (Ack(2_000, 6_001, 2_001), 1_000, 2_000, true),
+        (Ack(6_001, 0, 8_002), 2_000, 2_000, false),
+    ];
+    check(&rt, "loss probes", &rows);
+    // What limited transmit sent does not count.
+    let rows = [
+        (Duplicate(10_000, 1, 10_001), 11_000, MAX_CWND, false),
+        (Duplicate(11_000, 1, 11_001), 12_000, MAX_CWND, false),
+        (Probe(12_000, 12_001), 5_000, 5_000, false),
+    ];
+    check(&rt, "after limited transmit", &rows);
 }
 
 #[test]

@@ -67,6 +67,30 @@ fn missing(rt: HostRuntime) {
     assert_eq!(rt; agreed(0, None, 0).of_segment(None, 9).timestamp, None);
 }
 
+// The start of the clock, the time, TSecr, and the round trip (section 4.1).
+#[test]
+fn round_trips(rt: HostRuntime) {
+    let rows: [(u32, u64, u32, Option<u32>); 7] = [
+        (0, 1_000, 400, Some(600)),
+        (0, 1_000, 1_000, Some(0)),
+        (0, 1_000, 1_001, None),
+        (4_294_967_000, 1_000, 4_294_967_196, Some(804)),
+        (0, 4_294_967_301, 4_294_967_290, Some(11)),
+        (0, 2_147_483_647, 0, Some(2_147_483_647)),
+        (0, 2_147_483_648, 0, None),
+    ];
+    for (offset, now, tsecr, round_trip) in rows {
+        let one = agreed(offset, Some((5, 0)), 0);
+        assert_eq!(rt;
+            one.round_trip(Some((9, tsecr)), now),
+            round_trip,
+            "{tsecr} at {now}"
+        );
+    }
+    assert_eq!(rt; agreed(0, None, 0).round_trip(Some((9, 400)), 1_000), None);
+    assert_eq!(rt; agreed(0, Some((5, 0)), 0).round_trip(None, 1_000), None);
+}
+
 // TS.Recent after each segment of section 4.3, the second example. Of these, A, B and D count.
 #[test]
 fn recent(rt: HostRuntime) {

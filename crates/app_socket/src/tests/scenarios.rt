@@ -283,6 +283,31 @@ fn a_lost_segment(rt: HostRuntime) {
     check(&rt, "a lost segment", &rows, S::Established);
 }
 
+// The acknowledgements of four segments are lost. The first one probes after 2 SRTT and 4 RTTVAR, before the time-out.
+#[test]
+fn a_loss_probe(rt: HostRuntime) {
+    let rows = [
+        (0, Open(99), Some(syn(99)), Some(1000)),
+        (
+            10,
+            Gets(syn_ack(299, 100)),
+            Some(ack(100, 300)),
+            Some(100_010),
+        ),
+        (10, Write(4000), None, Some(100_010)),
+        (20, Tick, Some(text(100, 300, 1000)), Some(60)),
+        (20, Tick, Some(text(1100, 300, 1000)), Some(60)),
+        (20, Tick, Some(text(2100, 300, 1000)), Some(60)),
+        (20, Tick, Some(text(3100, 300, 1000)), Some(60)),
+        (20, Tick, None, Some(60)),
+        (60, Tick, Some(text(100, 300, 1000)), Some(270)),
+        (60, Tick, None, Some(270)),
+        (70, Gets(ack(300, 4100)), None, Some(100_070)),
+        (70, Tick, None, Some(100_070)),
+    ];
+    check(&rt, "a loss probe", &rows, S::Established);
+}
+
 // Nagle's algorithm keeps the last 500 bytes. Then the window is closed: probes of one byte, each after twice the time.
 #[test]
 fn a_closed_window(rt: HostRuntime) {

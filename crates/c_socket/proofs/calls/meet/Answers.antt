@@ -29,6 +29,9 @@ returns c =
       answered = e.answered;
       within = e.within;
       acks = e.acks;
+      owes = e.owes;
+      to_bare = e.to_bare;
+      recent = e.recent;
       patience = e.patience;
       rests = e.rests;
     }

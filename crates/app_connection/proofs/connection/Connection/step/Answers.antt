@@ -1,5 +1,5 @@
 use Rattle.std.proofs.Common.{◌≡◌, ◌⊎◌, inl, inr, refl, sym, ◌∙◌, subst, ap, ℕ, ◌<◌, List, [], Bool, true, false, length, arith}
-use Rattle.std.specs.Prelude.{Option, Some, None, IfSome, not, if◌then◌else◌}
+use Rattle.std.specs.Prelude.{Option, Some, None, is_some, ◌==◌, ◌&&◌, IfSome, not, if◌then◌else◌}
 use Rattle.tcp_model.specs.Network.{World, Close, happens}
 use Rattle.app_tcp.specs.Stands.{Stands, room_of}
 use Rattle.app_tcp.specs.Waits.{Waits}
@@ -14,8 +14,8 @@ use Rattle.app_connection.specs.declared.segment.Reply.{Reply}
 use Rattle.app_connection.specs.declared.segment.Segment.{Segment}
 use Rattle.app_connection.specs.declared.state.State.{State}
 use Rattle.app_connection.specs.declared.state.State.TheVariants as state
-use Rattle.app_connection.specs.Endpoints.{endpoint_in, endpoint_of, control_of, len_of, one, spoken, refused_by, acknowledgement_of}
-use Rattle.app_connection.specs.Events.{ComesBy, IsMove, IsSending, begins, called}
+use Rattle.app_connection.specs.Endpoints.{endpoint_in, endpoint_of, control_of, len_of, one, spoken, refused_by, acknowledgement_of, has_items, is_bare}
+use Rattle.app_connection.specs.Events.{ComesBy, IsMove, IsSending, begins, brings_bare, brings_items, called, is_answered}
 use Rattle.app_connection.specs.SetUp.{Endpoint, In_closed, In_syn_sent, Control, hears}
 use Rattle.app_connection.specs.States.{may_close, has_peer, state_from}
 use Rattle.app_connection.specs.Worlds.{Went, Arrives, IsAnswered}
@@ -266,3 +266,63 @@ returns-clause-answers c = λ opened.
           acknowledges_as new c.match-event.self incoming c.match-event.incoming w.abort-reply.result c.match-event.reply w.self-is w.incoming-is w.reply-is h
     ] in
     of_reply (Acknowledges c.match-event.self.receiving c.match-event.incoming) c.without_text.result c.match-event.reply c.without_text.ensures.spoken acks
+
+-- both parts of a conjunction
+both : (a b : Bool) → (a && b) ≡ true → (a ≡ true) × (b ≡ true)
+both true true is = (refl, refl)
+both true false is = absurd (cc)
+both false b is = absurd (cc)
+
+negated : (b : Bool) → not b ≡ true → b ≡ false
+negated false is = refl
+negated true is = absurd (cc)
+
+not_zero : (n : ℕ) → not (n == 0) ≡ true → n ≡ 0 → ⊥
+not_zero n some none = let h : false ≡ true = subst (λ (x : ℕ). not (x == 0) ≡ true) none some in absurd (cc)
+
+-- the reply to an acknowledgement
+replied : (ack : Option ℕ) (o : Option Reply) (r : Reply) → is_some ack ≡ true → IfSome ack (λ number. o ≡ Some r) → o ≡ Some r
+replied None o r is h = absurd (cc)
+replied (Some number) o r is h = h
+
+pub returns-clause-to_items : goal.returns-clause-to_items
+returns-clause-to_items c = λ opened other synced items.
+    elim c.match-event.branch [
+      | in-Open w ↦ let h : false ≡ true = subst (λ (x : Event). brings_items x ≡ true) w.in-Open.is items in absurd (cc)
+      | in-Arrives w ↦
+          let s = w.in-Arrives.segment.now in
+          let h : has_items s ≡ true = subst (λ (x : Event). brings_items x ≡ true) w.in-Arrives.is items in
+          let parts = both (not s.rst) (not (len_of s == 0) && is_some s.ack) h in
+          let rest = both (not (len_of s == 0)) (is_some s.ack) parts.1 in
+          let reply : w.on_segment-reply.result ≡ Some (acknowledgement_of w.on_segment-reply.new.self) =
+          replied s.ack w.on_segment-reply.result (acknowledgement_of w.on_segment-reply.new.self) rest.1
+          (w.on_segment-reply.ensures.answered opened other synced (negated s.rst parts.0) (not_zero (len_of s) rest.0))
+          in
+          c.without_text.ensures.spoken ∙ w.reply-is ∙ reply ∙ ap (λ (x : Connection). Some (acknowledgement_of x)) (sym w.self-is)
+      | in-Abort w ↦ let h : false ≡ true = subst (λ (x : Event). brings_items x ≡ true) w.in-Abort.is items in absurd (cc)
+    ]
+
+pub returns-clause-to_bare : goal.returns-clause-to_bare
+returns-clause-to_bare c = λ opened other bare.
+    let old = c.args.self.now in
+    let window = room_of old.receiving (length c.args.incoming.now) in
+    elim c.match-event.branch [
+      | in-Open w ↦ let h : false ≡ true = subst (λ (x : Event). brings_bare x ≡ true) w.in-Open.is bare in absurd (cc)
+      | in-Arrives w ↦
+          let s = w.in-Arrives.segment in
+          let h : is_bare s.now ≡ true = subst (λ (x : Event). brings_bare x ≡ true) w.in-Arrives.is bare in
+          let reply = w.on_segment-reply.ensures.bare opened other h in
+          let same = ap (λ (x : Event). if is_answered x old window then Some (acknowledgement_of old) else None) w.in-Arrives.is in
+          c.without_text.ensures.spoken ∙ w.reply-is ∙ reply ∙ sym same
+      | in-Abort w ↦ let h : false ≡ true = subst (λ (x : Event). brings_bare x ≡ true) w.in-Abort.is bare in absurd (cc)
+    ]
+
+pub returns-clause-still : goal.returns-clause-still
+returns-clause-still c = λ opened bare.
+    elim c.match-event.branch [
+      | in-Open w ↦ let h : false ≡ true = subst (λ (x : Event). brings_bare x ≡ true) w.in-Open.is bare in absurd (cc)
+      | in-Arrives w ↦
+          let h : is_bare w.in-Arrives.segment.now ≡ true = subst (λ (x : Event). brings_bare x ≡ true) w.in-Arrives.is bare in
+          ap (λ (x : Connection). x.receiving) w.self-is ∙ w.on_segment-reply.ensures.still opened h
+      | in-Abort w ↦ let h : false ≡ true = subst (λ (x : Event). brings_bare x ≡ true) w.in-Abort.is bare in absurd (cc)
+    ]
