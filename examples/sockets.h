@@ -9,7 +9,12 @@
 #include "tap.h"
 #include <sys/random.h>
 
-enum { SOCKETS = 64, BUFFER = 1 << 18 };
+#ifndef SOCKETS
+#define SOCKETS 64 /* connections at a time */
+#endif
+#ifndef BUFFER
+#define BUFFER (1 << 18) /* the bytes of each of the two rings of a connection */
+#endif
 enum { USER_TIMEOUT = 300000, LONGEST_WAIT = 60000 }; /* in milliseconds; RFC 9293, section 3.9.1.1 */
 enum { LEAST_MTU_IPV4 = 576, LEAST_MTU_IPV6 = 1280, LONGEST_IP_HEADER = 60, TCP_HEADER = 20 };
 

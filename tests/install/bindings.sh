@@ -100,7 +100,7 @@ go_in() {
 
 # The package has its form, no remark and no failing test, and the example uses it.
 builds_by_go() {
-    [ -z "$(gofmt -l bindings/go examples/go bench/bindings)" ] && go_in bindings/go vet && go_in bindings/go test &&
+    [ -z "$(gofmt -l bindings/go examples/go bench/bindings tests/tcp)" ] && go_in bindings/go vet && go_in bindings/go test &&
         go_in examples/go vet ./... && go_in examples/go run . | diff - examples/quick.txt &&
         reads_captures go_in examples/go run ./pcap
 }
