@@ -302,12 +302,12 @@ func (n *network) talk(number, length int, rng *rand.Rand, latest time.Time) err
 }
 
 // unclosed returns what is open at either end, but not in TIME-WAIT. If both ends close at once, and gVisor sends its
-// FIN again, it goes back from CLOSING to FIN-WAIT-1, and waits in FIN-WAIT-2.
+// FIN again, it goes back from CLOSING to FIN-WAIT-1, and waits in FIN-WAIT-2, or in CLOSING though our end is done.
 func (n *network) unclosed() (found []string) {
 	for _, it := range n.peer.RegisteredEndpoints() {
 		endpoint := it.(tcpip.Endpoint)
 		state := tcp.EndpointState(endpoint.State())
-		if state != tcp.StateTimeWait && state != tcp.StateFinWait2 {
+		if state != tcp.StateTimeWait && state != tcp.StateFinWait2 && state != tcp.StateClosing {
 			found = append(found, fmt.Sprint("gVisor ", state, endpoint.Info()))
 		}
 	}
