@@ -5,11 +5,12 @@
 # make crate          makes a Rust crate with the library in it: out/crate
 # make dist           packs them for use without the kit: out/ip_wire-VERSION-x86_64-linux.tar.gz
 # make deb            packs them as Debian packages in out/deb, with dpkg-dev
+# make lint           compares the pages, the C header and the definitions with the sources
 # make quick          runs the tests of the libraries and the programs, without proofs
 # make sketch         compiles the C library with rustc, without proofs, in out/sketch
 # make check          proves one crate, CRATE=name, over the libraries that make test proved
 # make affected       proves what the change since SINCE=HEAD reaches, with tests and wrong bodies
-# make test           runs the gate and all other tests; with ANEW=yes it proves again what it kept
+# make test           proves and tests everything, or repeats some checks: ONLY='judge kernel'
 # make mutants        tries the new wrong bodies, or all with ANEW=yes
 # make new            makes a crate of your own, CRATE=name, with one proved call
 # make reference      writes the reference as HTML pages to out/reference
@@ -21,10 +22,10 @@
 # make help           prints these lines
 #
 # The library is in out/lib, and its man pages are in out/man. A goal that needs a built file first builds it, if it is
-# older than its sources, and ends if a proof fails. make check also proves the libraries that have changed. make dist
-# needs a make test of these sources; its log is out/test.log. make compare gives both programs LINES generated lines,
-# from SEED on. make bench also times hand-written C (bench/floor.c) and a shared library with the same calls
-# (bench/reference.rs wraps smoltcp). It prints tables in Markdown.
+# older than its sources, and ends if a proof fails. make check also proves the libraries that have changed. make test
+# ANEW=yes proves again what the kit kept. make dist needs a make test of these sources; its log is out/test.log. make
+# compare gives both programs LINES generated lines, from SEED on. make bench also times hand-written C (bench/floor.c)
+# and a shared library with the same calls (bench/reference.rs wraps smoltcp). It prints tables in Markdown.
 
 FRAMES ?= examples/frames.hex
 CRATE ?=
@@ -37,9 +38,10 @@ DESTDIR ?=
 ANEW ?=
 SINCE ?= HEAD
 LIBDIR ?=
+ONLY ?=
 # Recipes read these as environment variables, so that a value may contain any character. On the command line of make a
 # dollar is written twice.
-export FRAMES CRATE REFERENCE_BENCH SEED LINES PREFIX DESTDIR LIBDIR ANEW SINCE
+export FRAMES CRATE REFERENCE_BENCH SEED LINES PREFIX DESTDIR LIBDIR ANEW SINCE ONLY
 
 PROGRAM := crates/ip_frames/out/ip_frames
 CALLS := crates/ip_calls/out/ip_calls
@@ -69,7 +71,7 @@ endif
 .PRECIOUS: $(PROGRAM) $(CALLS) $(ARCHIVE) $(LIBRARY) $(SHARED) $(PAGES)
 # rt uses all processors by itself.
 .NOTPARALLEL:
-.PHONY: run build install uninstall crate dist deb quick sketch check affected mutants new test reference statements size \
+.PHONY: run build install uninstall crate dist deb lint quick sketch check affected mutants new test reference statements size \
 	compare compare-calls bench help
 
 run:
@@ -126,8 +128,11 @@ has-dpkg-dev:
 verdicts: ready
 	@tests/gate/verdicts.py > /dev/null
 
+lint:
+	@tools/alone - tests/all lint
+
 quick:
-	@tests/gate/quick
+	@tools/alone - tests/all quick
 
 sketch:
 	@$(CAN_WRITE)
@@ -160,7 +165,7 @@ size:
 	@tools/size.py
 
 test:
-	@tools/alone - tests/all
+	@exec tools/alone - tests/all $$ONLY
 
 compare: $(PROGRAM)
 	@tests/frames/compare.py $(PROGRAM) "$$SEED" "$$LINES" $(REFERENCE)

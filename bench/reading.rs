@@ -5,6 +5,7 @@ use crate::input;
 use crate::structs::*;
 use smoltcp::phy::ChecksumCapabilities;
 use smoltcp::wire::*;
+use smoltcp::wire::TcpOption;
 
 const READ: u8 = 0;
 const REJECTED: u8 = 3;
@@ -100,6 +101,7 @@ impl Frame {
             dont_fragment: packet.dont_frag().into(),
             flow_label: 0,
         };
+        self.protocol = header.next_header.into();
         self.ipv4_checksum = if packet.verify_checksum() { RIGHT } else { WRONG };
         self.is_fragment = (packet.more_frags() || packet.frag_offset() != 0).into();
         self.follow(packet.header_len().into(), packet.payload().len());
@@ -114,6 +116,7 @@ impl Frame {
         let header = Ipv6Repr::parse(&packet)?;
         self.store_network(IPV6, header.src_addr.into(), header.dst_addr.into());
         self.ip.protocol = header.next_header.into();
+        self.protocol = header.next_header.into();
         self.ip.hop_limit = header.hop_limit;
         self.ip.dscp = packet.traffic_class() >> 2;
         self.ip.ecn = packet.traffic_class() & 3;

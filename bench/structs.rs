@@ -1,7 +1,7 @@
 //! The structs of `c/ip_wire.h`.
 
 macro_rules! structs {
-    ($($(#[$meta:meta])* struct $name:ident = $c_name:ident { $($field:ident: $type:ty,)* })*) => {
+    ($($(#[$meta:meta])* struct $name:ident { $($field:ident: $type:ty,)* })*) => {
         $(
             $(#[$meta])*
             #[repr(C)]

@@ -23,18 +23,8 @@
  * headers. A call that only tells something is named after it, as lk_tcp_header_len. All calls of a TCP connection begin with
  * lk_connection_.
  *
- * A program for version 0.3 must be compiled anew, and these are the changes that it may need:
+ * A program for version 0.4 must be compiled anew, and this is the change that it may need:
  *
- * - `struct lk_frame` has a new field, `protocol`, in the place of the first unused byte: the number of what follows the
- *   IPv6 extension headers. `ip.protocol` is that in the IP header, as before.
- * - A frame with IPv6 extension headers has the transport and the payload after them. Before, it had no transport, and its
- *   payload began at the first of them. LK_HOPS_LEFT and LK_BAD_ORDER are new reasons to reject one.
- * - A first fragment of UDP or TCP has its ports in `src` and `dst`. A program that takes a port for a header has to look
- *   at `transport`, which is LK_NO_TRANSPORT as before.
- * - Edits step through IPv6 extension headers. An address is not written if a checksum covers it that is not updated, as
- *   that of UDP-Lite (lk_set_addr).
- * - A host sends parameter problems, and answers nothing to an own address that no single host may have (lk_answer).
- * - The failures LK_DONT_FRAGMENT and LK_DROPPED are new, and so is the problem LK_FRAGMENT_MISSING.
  * - `unused` of `struct lk_mapping` is `reach`. A program that frees a mapping sets only `expires` to 0. */
 #ifndef IP_WIRE_H
 #define IP_WIRE_H
@@ -47,7 +37,7 @@ extern "C" {
 #endif
 
 #define LK_VERSION_MAJOR 0
-#define LK_VERSION_MINOR 4
+#define LK_VERSION_MINOR 5
 #define LK_VERSION_PATCH 0
 
 /* Returns the version of the library that is linked: major * 65536 + minor * 256 + patch. */
@@ -303,6 +293,9 @@ enum lk_reason {
     LK_HOPS_LEFT,    /* IPv6: a routing header with segments left (RFC 8200, section 4.4) */
     LK_BAD_ORDER     /* IPv6: hop-by-hop options that do not follow the IPv6 header directly (RFC 8200, section 4.1) */
 };
+
+/* The number of reasons: the length of an array with a place for each. */
+#define LK_REASON_COUNT 12
 
 /* Returns the name of a reason, as "LK_PORT_ZERO", or "no reason". The text is constant. */
 const char *lk_reason_name(int reason);
@@ -922,6 +915,9 @@ enum lk_rejection {
     LK_NO_ROUTE,       /* lk_check_source: there is no route back */
     LK_OTHER_INTERFACE /* lk_check_source: the route back leads to another interface */
 };
+
+/* The number of rejections: the length of an array with a place for each. */
+#define LK_REJECTION_COUNT 15
 
 /* Returns the name of a rejection, as "LK_EXPIRED", or "no rejection". The text is constant. */
 const char *lk_rejection_name(int rejection);

@@ -3,13 +3,12 @@
 
 const char *lk_reason_name(int reason)
 {
-    static const char *const names[] = {
+    static const char *const names[LK_REASON_COUNT] = {
         "LK_READ",      "LK_TOO_SHORT", "LK_BAD_VERSION", "LK_BAD_LENGTH", "LK_OTHER_ARP",
         "LK_PORT_ZERO", "LK_BAD_FLAGS", "LK_BAD_OPTIONS", "LK_HEADER_CUT", "LK_UNKNOWN_LINK",
         "LK_HOPS_LEFT", "LK_BAD_ORDER",
     };
-    const int count = sizeof names / sizeof names[0];
-    return reason >= 0 && reason < count ? names[reason] : "no reason";
+    return reason >= 0 && reason < LK_REASON_COUNT ? names[reason] : "no reason";
 }
 
 const char *lk_failure_name(ptrdiff_t failure)
@@ -28,13 +27,12 @@ const char *lk_failure_name(ptrdiff_t failure)
 
 const char *lk_rejection_name(int rejection)
 {
-    static const char *const names[] = {
+    static const char *const names[LK_REJECTION_COUNT] = {
         "LK_NOT_REJECTED",  "LK_NO_IPV4",   "LK_NOT_IP",       "LK_BAD_HEADER", "LK_WRONG_CHECKSUM",
         "LK_EXPIRED",       "LK_FRAGMENT",  "LK_OTHER_PROTOCOL", "LK_BAD_TRANSPORT", "LK_ZERO_PORT",
         "LK_NO_MAPPING",    "LK_NO_FREE_PORT", "LK_MARTIAN",   "LK_NO_ROUTE",   "LK_OTHER_INTERFACE",
     };
-    const int count = sizeof names / sizeof names[0];
-    return rejection >= 0 && rejection < count ? names[rejection] : "no rejection";
+    return rejection >= 0 && rejection < LK_REJECTION_COUNT ? names[rejection] : "no rejection";
 }
 
 /* The keywords of the IANA registry of protocol numbers. */

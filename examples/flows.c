@@ -17,7 +17,7 @@
 #include <stdlib.h>
 #include <sys/random.h>
 
-enum { MOST_BLOCKS = 256, MOST_OPTIONS = 40, REASONS = LK_UNKNOWN_LINK + 1 };
+enum { MOST_BLOCKS = 256, MOST_OPTIONS = 40 };
 enum echo { NO_TIMESTAMP, WAITS, ECHOED };
 
 /* What one endpoint sent. */
@@ -61,7 +61,7 @@ static const char help[] =
 static struct lk_block blocks[MOST_BLOCKS];
 static size_t block_count;
 static uint64_t seed[2];
-static size_t others, rejected[REASONS]; /* frames without a flow */
+static size_t others, rejected[LK_REASON_COUNT + 1]; /* frames without a flow; the last are those of a later library */
 
 static _Noreturn void give_up(const char *what, const char *why)
 {
@@ -191,7 +191,7 @@ static int count_capture(pcap_t *capture, uint32_t link_type, struct table *tabl
         int reason = lk_read_linktype(link_type, bytes, header->caplen, header->len, &frame);
         int has_ports = reason == LK_READ || (reason == LK_HEADER_CUT && frame.rejected != LK_NO_TRANSPORT);
         if (!has_ports)
-            rejected[reason]++;
+            rejected[reason < LK_REASON_COUNT ? reason : LK_REASON_COUNT]++;
         else if (frame.network == LK_IPV4 || frame.network == LK_IPV6)
             count(table, &frame, bytes, header->len, now);
         else
@@ -280,10 +280,10 @@ static size_t print_flows(struct table *table, size_t most)
 static void print_sums(const struct table *table)
 {
     size_t all = 0;
-    for (int i = 0; i < REASONS; i++)
+    for (int i = 0; i <= LK_REASON_COUNT; i++)
         all += rejected[i];
     printf("flows %zu, other frames %zu, rejected frames %zu", table->used, others, all);
-    for (int i = 0; i < REASONS; i++)
+    for (int i = 0; i <= LK_REASON_COUNT; i++)
         if (rejected[i] > 0)
             printf(", %s %zu", lk_reason_name(i), rejected[i]);
     putchar('\n');

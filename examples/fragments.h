@@ -10,6 +10,9 @@
 /* How many packets are put together at a time, and the longest frame with a packet, which is of IPv6. */
 enum { MOST_PARTIALS = 64, LONGEST_WHOLE = 14 + 40 + 65535 };
 enum { PARTIALS_MEMORY = MOST_PARTIALS * LK_PARTIAL_MEMORY };
+/* Of these one sender has at most so many. One more takes the place of its oldest one, so that a sender neither takes the place
+ * of others (RFC 4787, REQ-14; RFC 6888, REQ-4), nor is silent for a minute after it has lost some fragments. */
+enum { MOST_OF_SENDER = 8 };
 
 struct fragments {
     struct lk_partial *partials;
@@ -50,9 +53,41 @@ static inline int is_ndisc(const uint8_t *frame, size_t len)
     return f.network == LK_IPV6 && f.transport == LK_ICMP && f.icmp.type >= FIRST && f.icmp.type <= LAST;
 }
 
-/* Returns the length of the frame in `whole`, or what lk_reassemble returns instead. */
-static inline ptrdiff_t reassemble(struct fragments *fragments, int64_t now, const uint8_t *frame, size_t len)
+static inline int is_of_sender(const struct lk_partial *partial, const struct lk_frame *in)
 {
+    return partial->version == in->src.addr.version && memcmp(partial->src, in->src.addr.octets, 16) == 0;
+}
+
+static inline int is_of_packet(const struct lk_partial *partial, const struct lk_frame *in)
+{
+    return partial->ident == in->ip.ident && (partial->version == 6 || partial->protocol == in->ip.protocol)
+           && memcmp(partial->dst, in->dst.addr.octets, 16) == 0;
+}
+
+/* Frees the oldest packet of a sender, if the fragment begins one more than it may have. */
+static inline void make_room(struct fragments *fragments, int64_t now, const struct lk_frame *in)
+{
+    struct lk_partial *oldest = NULL;
+    int count = 0;
+    for (struct lk_partial *one = fragments->partials; one < fragments->partials + MOST_PARTIALS; one++) {
+        if (one->expires <= (uint64_t)now || !is_of_sender(one, in))
+            continue;
+        if (is_of_packet(one, in))
+            return;
+        if (oldest == NULL || one->expires < oldest->expires)
+            oldest = one;
+        count++;
+    }
+    if (count >= MOST_OF_SENDER)
+        *oldest = (struct lk_partial){.expires = 0};
+}
+
+/* Takes a fragment, which is read in `in`. Returns the length of the frame in `whole`, or what lk_reassemble returns
+ * instead. */
+static inline ptrdiff_t reassemble(struct fragments *fragments, int64_t now, const struct lk_frame *in, const uint8_t *frame,
+                                   size_t len)
+{
+    make_room(fragments, now, in);
     ptrdiff_t whole_len =
         lk_reassemble(fragments->partials, MOST_PARTIALS, fragments->memory, PARTIALS_MEMORY, (uint64_t)now, frame, len,
                       fragments->whole, sizeof fragments->whole);

@@ -3,12 +3,14 @@
  * solicitations, and what comes to other ports.
  *     host DEVICE HARDWARE_ADDRESS IPV4_ADDRESS IPV6_ADDRESS
  * Makes the device, unless it exists, and prints "ready". SIGINT and SIGTERM end it: then it prints counts. It
- * ends with status 1 if the device is deleted. While the device is down, it waits.
+ * ends with status 1 if the device is deleted. While the device is down, it waits. addresses.h asks for a second whether
+ * another host has its addresses, before they are used, and gives it a link-local one.
  *
  * Packets in fragments are put together. Long answers leave in fragments.
  *
  * Not supported: ICMP errors that come in, but for "packet too big". */
 #define _GNU_SOURCE
+#include "addresses.h"
 #include "error_limit.h"
 #include "process.h"
 #include "sockets.h"
@@ -25,10 +27,10 @@ static const char help[] =
 enum { ECHO_PORT = 7 };
 
 static struct lk_host own = {.echo_port = ECHO_PORT};
-static struct sockets sockets = {.own = &own, .port = ECHO_PORT};
+static struct sockets sockets; /* no initializer: it would put the buffers, 32 MiB of zeros, into the program's file */
 static struct error_limit limit;
 static struct fragments fragments;
-static struct listener listener;
+static struct addresses addresses;
 static int device;
 static uint8_t out[LONGEST_WHOLE];
 static unsigned long frames_in, frames_out, rejected, wrong_checksums;
@@ -42,7 +44,7 @@ static void send_out(ptrdiff_t len)
 
 static void answer(const uint8_t *frame, size_t len)
 {
-    ptrdiff_t answer_len = lk_answer(&own, frame, len, out, sizeof out);
+    ptrdiff_t answer_len = answer_frame(&addresses, &own, frame, len, out, sizeof out);
     if (answer_len > 0 && may_send(&limit, milliseconds(), out, (size_t)answer_len))
         send_out(answer_len);
 }
@@ -75,22 +77,23 @@ static void on_frame(const uint8_t *frame, size_t len, int is_whole)
 {
     struct lk_frame in;
     struct lk_tcp_options options;
+    struct lk_host room;
     int reason = lk_read_frame_options(frame, len, &in, &options);
-    if (!is_whole && is_fragment_for(&own, &in)) {
-        ptrdiff_t whole_len = reassemble(&fragments, milliseconds(), frame, len);
+    const struct lk_host *host = host_for(&addresses, &own, &in, &room);
+    if (!is_whole && is_fragment_for(host, &in)) {
+        ptrdiff_t whole_len = reassemble(&fragments, milliseconds(), &in, frame, len);
         if (whole_len > 0)
             on_frame(fragments.whole, (size_t)whole_len, 1);
         return;
     }
     if (reason != LK_READ)
         rejected++;
+    frames_out += hear_addresses(&addresses, milliseconds(), &in, frame, len);
     if (has_wrong_checksum(&in))
         wrong_checksums++;
-    else if (is_too_big(&in) && is_for_us(&own, &in))
+    else if (is_too_big(&in) && is_for_us(host, &in))
         on_too_big(&sockets, &in, frame);
-    else if (in.network == LK_IPV6 && in.transport == LK_ICMP && in.icmp.type == MLD_QUERY)
-        hear_query(&listener, milliseconds(), &own.ipv6, 0, frame, len);
-    else if (in.transport != LK_TCP || !is_for_us(&own, &in) || !on_tcp(&sockets, &in, &options, frame))
+    else if (in.transport != LK_TCP || !is_for_us(host, &in) || !on_tcp(&sockets, &in, &options, frame))
         answer(frame, len);
 }
 
@@ -109,19 +112,22 @@ static int read_frames(void)
 }
 
 /* Returns the status of the program. */
-static int serve(const char *name, int signals)
+static int serve(const char *name, int signals, struct output *output)
 {
-    struct output errors = open_output(STDERR_FILENO);
     struct pollfd fds[2] = {{.fd = signals, .events = POLLIN}, {.fd = device, .events = POLLIN}};
-    for (;;) {
-        int other = sooner(until_expire(&fragments), until_report(&listener, milliseconds()));
+    for (int is_ready = 0;;) {
+        frames_out += run_addresses(&addresses, milliseconds(), &own);
+        if (!is_ready && is_introduced(&addresses, milliseconds())) {
+            print(output, "ready\n");
+            is_ready = 1;
+        }
+        int other = sooner(until_expire(&fragments), until_addresses(&addresses, milliseconds()));
         poll(fds, 2, sooner(run_sockets(&sockets), other));
         expire_fragments();
-        frames_out += report_group(&listener, milliseconds(), &own, device);
         if (fds[0].revents != 0)
             return 0;
         if ((fds[1].revents & (POLLERR | POLLHUP | POLLNVAL)) || !read_frames()) {
-            print(&errors, "host: %s: the device was deleted\n", name);
+            print(&addresses.errors, "host: %s: the device was deleted\n", name);
             return 1;
         }
     }
@@ -142,6 +148,8 @@ int main(int argc, char **argv)
     device = open_tap("host", argv[1]);
     if (device < 0)
         return 1;
+    sockets.own = &own;
+    sockets.port = ECHO_PORT;
     sockets.device = device;
     sockets.serve = echo;
     make_sockets(&sockets);
@@ -156,9 +164,8 @@ int main(int argc, char **argv)
         perror("host: signalfd");
         return 1;
     }
-    listener.report_at = milliseconds();
-    print(&output, "ready\n");
-    int status = serve(argv[1], signals);
+    make_addresses(&addresses, "host", argv[1], device, &own);
+    int status = serve(argv[1], signals, &output);
     print(&output, "frames read %lu, written %lu, rejected %lu, wrong checksums %lu\n", frames_in,
           frames_out + sockets.frames_out, rejected, wrong_checksums);
     return status;

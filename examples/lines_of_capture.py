@@ -166,7 +166,9 @@ def read_interface(order, body):
     link_type, snap_len, rest = unpack(order + "H2xI", body)
     options = read_options(order, rest)
     resolution = (options.get(TIME_RESOLUTION) or b"\6")[0]
-    start = int.from_bytes(options.get(TIME_OFFSET, b""), "little" if order == "<" else "big", signed=True)
+    offset = options.get(TIME_OFFSET, b"")
+    # An offset of another length than 8 bytes is not valid, and is ignored, as Wireshark does.
+    start = int.from_bytes(offset, "little" if order == "<" else "big", signed=True) if len(offset) == 8 else 0
     # The highest bit says whether the others are a power of 2 or of 10.
     return Interface(link_type, snap_len, any(options.get(FCS_LENGTH, b"")), (2 if resolution & 128 else 10) ** (resolution & 127), start)
 

@@ -21,13 +21,12 @@ static inline struct lk_addr solicited_node(const struct lk_addr *addr)
     return group;
 }
 
-/* Writes the report for an IPv6 address, and returns its length. Its source is the address only if that is link-local. */
-static inline size_t write_report(const uint8_t *hardware, const struct lk_addr *addr, uint8_t out[REPORT_LEN])
+/* Writes the report for an IPv6 address, and returns its length. `src` is a link-local address of the interface, or `::` while
+ * it has none (RFC 3590). */
+static inline size_t write_report(const uint8_t *hardware, const struct lk_addr *addr, const struct lk_addr *src,
+                                  uint8_t out[REPORT_LEN])
 {
-    static const struct lk_block link_local = {.addr = {.version = 6, .octets = {0xfe, 0x80}}, .prefix_len = 10};
-    struct lk_frame headers = {.src = {.addr = {.version = 6}}, .dst = {.addr = solicited_node(addr)}};
-    if (lk_contains(&link_local, addr))
-        headers.src.addr = *addr;
+    struct lk_frame headers = {.src = {.addr = *src}, .dst = {.addr = solicited_node(addr)}};
     memcpy(headers.ethernet.src, hardware, 6);
     ptrdiff_t len = lk_emit_mld_report(&headers, out, REPORT_LEN);
     return len > 0 ? (size_t)len : 0;

@@ -14,8 +14,8 @@
 #include <sys/random.h>
 
 enum { OUTSIDE = 0, FIRST_PORT = 1024, PORTS = 65536 - FIRST_PORT, MAPPINGS = LK_MAPPINGS(PORTS), MOST_OF_ONE = PORTS / 4 };
-enum { UDP = 17, TCP = 6, ECHO_REQUEST = 8 };
-enum { MOST_FORWARDS = 64, BETWEEN_USES = 60000 }; /* in milliseconds */
+enum { UDP = 17, TCP = 6, ICMP = 1, ECHO_REQUEST = 8, PROTOCOLS = 3 };
+enum { MOST_FORWARDS = 64, BETWEEN_USES = 60000, BETWEEN_SEARCHES = 20 }; /* the times in milliseconds */
 
 static const char help[] =
     "usage: nat [-k] [-m COUNT] [-f PROTOCOL:ADDRESS:PORT].. FILE OUTSIDE INSIDE..\n"
@@ -33,6 +33,7 @@ static struct lk_nat nat = {
     .first_port = FIRST_PORT};
 static struct lk_mapping *mappings;
 static struct limit *limit;
+static uint64_t full_until[PROTOCOLS]; /* no port of UDP, TCP or ICMP gets free before this time, in milliseconds */
 
 static struct forward {
     int is_tcp;
@@ -44,9 +45,18 @@ static int64_t next_use; /* of the mappings of forwarded ports, in milliseconds 
 typedef int translate(const struct lk_nat *nat, struct lk_mapping *mappings, size_t count, uint64_t now, uint8_t *frame,
                       size_t len);
 
+/* Whether the outside address is used: no other host had it when the router asked. */
+static int has_outside(const struct router *router)
+{
+    const struct lk_addr *own = &router->interfaces[OUTSIDE].own.ipv4;
+    return memcmp(own->octets, nat.outside, 4) == 0;
+}
+
 /* A packet whose checksum is left to the device gets it first, because the translation verifies it. */
 static int translated(translate *call, const struct router *router, struct packet *packet)
 {
+    if (!has_outside(router))
+        return TAKEN;
     complete_checksum(packet);
     int rejection = call(&nat, mappings, MAPPINGS, (uint64_t)router->now, packet->frame, packet->len);
     if (rejection == LK_NOT_REJECTED)
@@ -65,11 +75,44 @@ static size_t place_of(const uint8_t *frame)
     return is_error || port < FIRST_PORT ? MAPPINGS : part * PORTS + port - FIRST_PORT;
 }
 
+/* Reads the inside endpoint of a packet that leaves. Returns its protocol as for `full_until`, or PROTOCOLS: it has none. */
+static size_t read_endpoint(const struct packet *packet, struct lk_mapping *endpoint)
+{
+    const uint8_t *header = packet->frame + ETHERNET_LEN, *transport = header + header[0] % 16 * 4;
+    if (transport + 8 > packet->frame + packet->len)
+        return PROTOCOLS;
+    int is_echo = header[9] == ICMP && transport[0] == ECHO_REQUEST;
+    const uint8_t *port = is_echo ? transport + 4 : transport;
+    memcpy(endpoint->inside, header + 12, 4);
+    endpoint->inside_port = (uint16_t)(port[0] << 8 | port[1]);
+    return header[9] == UDP ? 0 : header[9] == TCP ? 1 : is_echo ? 2 : PROTOCOLS;
+}
+
+/* The time before which no port of a protocol gets free: none has a mapping that ends earlier, or can get one that does. One
+ * that gets free may wait for the next search. */
+static uint64_t until_free(size_t protocol, uint64_t now)
+{
+    const uint64_t least[PROTOCOLS] = {nat.udp_timeout, nat.tcp_transitory_timeout, nat.icmp_timeout};
+    uint64_t first = now + least[protocol];
+    for (const struct lk_mapping *one = mappings + protocol * PORTS; one < mappings + (protocol + 1) * PORTS; one++)
+        first = one->expires < first ? one->expires : first;
+    return first > now + BETWEEN_SEARCHES ? first : now + BETWEEN_SEARCHES;
+}
+
+/* If no port is free, lk_translate_out reads all mappings. So after that new endpoints do not get there until a port may be
+ * free. */
 static int translated_out(const struct router *router, struct packet *packet)
 {
+    uint64_t now = (uint64_t)router->now;
+    struct lk_mapping endpoint;
+    size_t protocol = read_endpoint(packet, &endpoint);
+    if (protocol < PROTOCOLS && now < full_until[protocol] && !has_mapping(limit, mappings, protocol, &endpoint, now))
+        return LK_NO_FREE_PORT;
     int rejection = translated(lk_translate_out, router, packet);
+    if (rejection == LK_NO_FREE_PORT && protocol < PROTOCOLS)
+        full_until[protocol] = until_free(protocol, now);
     size_t place = rejection == LK_NOT_REJECTED ? place_of(packet->frame) : MAPPINGS;
-    int is_within = place == MAPPINGS || is_within_limit(limit, mappings, place, (uint64_t)router->now);
+    int is_within = place == MAPPINGS || is_within_limit(limit, mappings, place, now);
     return is_within ? rejection : ABOVE_LIMIT;
 }
 
@@ -77,7 +120,7 @@ static int translated_out(const struct router *router, struct packet *packet)
 static void use_forwards(struct router *router)
 {
     static struct packet packet;
-    if (router->now < next_use)
+    if (router->now < next_use || !has_outside(router))
         return;
     next_use = router->now + BETWEEN_USES;
     for (const struct forward *one = forwards; one < forwards + forward_count; one++) {
@@ -159,6 +202,7 @@ static const char *find_outside_address(const struct router *router, const struc
             continue;
         if (memcmp(nat.outside, one->block.addr.octets, 4) != 0) {
             memset(mappings, 0, MAPPINGS * sizeof *mappings);
+            memset(full_until, 0, sizeof full_until);
             next_use = 0;
         }
         memcpy(nat.outside, one->block.addr.octets, 4);

@@ -4,6 +4,7 @@ The Python package `ip_wire` parses and prints. It is beside ip_dump in an insta
 """
 import ipaddress
 import os
+import re
 import sys
 import time
 from collections import namedtuple
@@ -23,12 +24,19 @@ ETHERNET, FCS_LEN = lines_of_capture.ETHERNET, lines_of_capture.FCS_LEN
 ARP = -1
 PROTOCOLS = {"arp": [ARP], "icmp": [1, 58], "igmp": [2], "tcp": [6], "udp": [17], "gre": [47], "esp": [50], "ah": [51],
              "icmp6": [58], "ospf": [89], "pim": [103], "vrrp": [112], "sctp": [132]}
-KINDS = {"--host": "address or block", "--port": "number", "--proto": "name or number of a protocol"}
+UDP_AND_TCP = {1, 2}  # as the library numbers transports
+KINDS = {"--host": "address or block", "--port": "number from 0 to 65535", "--proto": "name or number of a protocol",
+         "-c": "number"}
 EPOCH = datetime(1970, 1, 1, tzinfo=timezone.utc)
 POLL = 0.2  # seconds
+# The last time of a packet that moves the clock of the reassembly, in milliseconds: half of what a uint64_t can have.
+LAST_TIME = (1 << 63) - 1
 # On a terminal a line with one of these notes is red.
 RED, RESET = "\033[31m", "\033[0m"
 BAD = ("incorrect)", "(too short)", "(bad ", "(port zero)", "(header cut)")
+# What the library prints of a packet without an ARP or IP header: of another link type it has neither addresses nor, in most
+# cases, an EtherType.
+NO_ETHERNET = re.compile(r"^Ethernet \S+ > \S+ (type=0x0000 )?")
 # The types of ICMP by name (IANA's registries of ICMP and ICMPv6).
 ICMP = {0: "echo reply", 3: "unreachable", 5: "redirect", 8: "echo request", 9: "router advertisement",
         10: "router solicitation", 11: "time exceeded", 12: "parameter problem", 13: "timestamp", 14: "timestamp reply"}
@@ -52,11 +60,28 @@ def package():
 
 
 def block_of(text):
+    if "%" in text:  # no packet has a scope identifier
+        raise ValueError(text)
     return ipaddress.ip_network(text, strict=False)
 
 
+def number_of(text, most):
+    """A decimal number up to this one."""
+    if not re.fullmatch("0*[0-9]{1,18}", text, re.ASCII) or int(text) > most:
+        raise ValueError(text)
+    return int(text)
+
+
+def count_of(text):
+    return number_of(text, sys.maxsize)
+
+
+def port_of(text):
+    return number_of(text, 65535)
+
+
 def protocols_of(text):
-    return PROTOCOLS.get(text.lower()) or [int(text)]
+    return PROTOCOLS.get(text.lower()) or [number_of(text, 255)]
 
 
 def value_of(option, parse, text):
@@ -66,6 +91,14 @@ def value_of(option, parse, text):
         raise Failure(f"{option} {text}: no {KINDS[option]}") from None
 
 
+def ports_of(frame):
+    """The ports of a packet. 0 is a port only of UDP and TCP."""
+    if frame.src is None:
+        return set()
+    ports = {frame.src.port, frame.dst.port}
+    return ports if any(ports) or UDP_AND_TCP & {frame.transport, frame.rejected} else set()
+
+
 class Filter(namedtuple("Filter", "blocks ports protocols")):
     """Which packets are printed: those of one of the blocks, one of the ports and one of the protocols. Without blocks,
     ports or protocols these do not count."""
@@ -73,7 +106,7 @@ class Filter(namedtuple("Filter", "blocks ports protocols")):
     @classmethod
     def of(cls, hosts, ports, protocols):
         return cls([value_of("--host", block_of, text) for text in hosts],
-                   {value_of("--port", int, text) for text in ports},
+                   {value_of("--port", port_of, text) for text in ports},
                    {number for text in protocols for number in value_of("--proto", protocols_of, text)})
 
     def accepts(self, frame):
@@ -82,7 +115,7 @@ class Filter(namedtuple("Filter", "blocks ports protocols")):
         ends = () if frame.src is None else (frame.src, frame.dst)
         protocol = frame.protocol if frame.arp is None else ARP
         return ((not self.protocols or protocol in self.protocols)
-                and (not self.ports or any(end.port in self.ports for end in ends))
+                and (not self.ports or self.ports & ports_of(frame))
                 and (not self.blocks or any(end.addr in block for end in ends for block in self.blocks)))
 
 
@@ -108,7 +141,7 @@ class Lines:
         # A reader of the lines gets them as soon as no packet is there.
         frame_lines.Input.before_wait = output.flush
         self.filter = Filter.of(*(options.get(name, []) for name in ("--host", "--port", "--proto")))
-        self.left = int(options["-c"][-1]) if "-c" in options else None
+        self.left = value_of("-c", count_of, options["-c"][-1]) if "-c" in options else None
         self.reassembler = self.library.Reassembler() if "--whole" in options else None
         self.has_colors = os.isatty(1) and not os.environ.get("NO_COLOR")
         self.is_followed = "--follow" in options
@@ -136,7 +169,7 @@ class Lines:
         length = max(packet.original_len, len(packet.data)) - (FCS_LEN if packet.has_fcs else 0)
         frame = self.library.parse_linktype(packet.link_type, packet.data, max(length, 0))
         if self.filter.accepts(frame):
-            self.print_line(prefix, frame, self.tags(packet))
+            self.print_line(prefix, frame, self.tags(packet), packet.link_type)
         if self.reassembler is not None and frame.is_fragment:
             self.print_whole(prefix, packet, frame)
         if packet.link_type not in self.are_known:
@@ -145,7 +178,9 @@ class Lines:
 
     def print_whole(self, prefix, packet, fragment):
         """Prints the packet whose last missing fragment this is."""
-        self.clock = max(self.clock, (packet.time or 0) // 10**6)
+        now = (packet.time or 0) // 10**6
+        if now <= LAST_TIME:
+            self.clock = max(self.clock, now)
         link = bytes(12) + (b"\x86\xdd" if fragment.src.addr.version == 6 else b"\x08\0")
         try:
             whole = self.reassembler.reassemble(link + packet.data[fragment.network_offset :], self.clock)
@@ -163,10 +198,12 @@ class Lines:
         except self.library.Rejected:
             return ""
 
-    def print_line(self, prefix, frame, words):
+    def print_line(self, prefix, frame, words, link_type=ETHERNET):
         if self.left == 0:
             return
         line = str(frame)
+        if link_type != ETHERNET and line.startswith("Ethernet "):
+            line = NO_ETHERNET.sub(f"link type {link_type} ", line)
         if " ICMP type=" in line:
             line = with_name(line, frame)
         if self.has_colors and any(bad in line for bad in BAD):

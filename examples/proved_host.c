@@ -5,20 +5,20 @@
  * Makes the device, unless it exists, and prints "ready". It answers ARP, neighbour solicitations and ping for its
  * addresses, echoes what comes to port 7 by UDP, answers a SYN to one of the TCP ports, and rejects all else that
  * comes by UDP and TCP. SIGINT and SIGTERM end it. It ends with status 1 if the device is deleted. While the device is
- * down, it waits.
+ * down, it waits. addresses.h asks for a second whether another host has its addresses, before they are used, and gives it
+ * a link-local one.
  *
  * Not supported: TCP connections (host.c has them). */
 #define _GNU_SOURCE
+#include "addresses.h"
 #include "error_limit.h"
-#include "process.h"
-#include "tap.h"
 #include <stdlib.h>
 #include <sys/random.h>
 
 enum { MOST_PORTS = 16 };
 
 static struct fragments fragments;
-static struct listener listener;
+static struct addresses addresses;
 
 static const char help[] =
     "usage: proved_host DEVICE HARDWARE_ADDRESS IPV4_ADDRESS IPV6_ADDRESS [TCP_PORT..]\n"
@@ -65,12 +65,12 @@ static void send_answer(int device, const uint8_t *answer, size_t len)
 static size_t whole_frame(const struct lk_host *host, const uint8_t **frame, size_t len)
 {
     struct lk_frame in;
+    struct lk_host room;
     lk_read_frame(*frame, len, &in);
-    if (in.network == LK_IPV6 && in.transport == LK_ICMP && in.icmp.type == MLD_QUERY)
-        hear_query(&listener, milliseconds(), &host->ipv6, 0, *frame, len);
-    if (!is_fragment_for(host, &in))
+    hear_addresses(&addresses, milliseconds(), &in, *frame, len);
+    if (!is_fragment_for(host_for(&addresses, host, &in, &room), &in))
         return len;
-    ptrdiff_t whole_len = reassemble(&fragments, milliseconds(), *frame, len);
+    ptrdiff_t whole_len = reassemble(&fragments, milliseconds(), &in, *frame, len);
     *frame = fragments.whole;
     return whole_len > 0 ? (size_t)whole_len : 0;
 }
@@ -87,7 +87,7 @@ static int answer_frames(int device, struct lk_host *host)
         size_t whole_len = whole_frame(host, &frame, (size_t)len);
         if (whole_len == 0 || !renew(host))
             continue;
-        ptrdiff_t answer = lk_answer(host, frame, whole_len, out, sizeof out);
+        ptrdiff_t answer = answer_frame(&addresses, host, frame, whole_len, out, sizeof out);
         if (answer > 0)
             send_answer(device, out, (size_t)answer);
     }
@@ -110,16 +110,20 @@ static void expire_fragments(int device, const struct lk_host *host)
 /* Returns the status of the program. */
 static int serve(const char *name, int device, int signals, struct lk_host *host)
 {
-    struct output errors = open_output(STDERR_FILENO);
+    struct output output = open_output(STDOUT_FILENO);
     struct pollfd files[2] = {{.fd = signals, .events = POLLIN}, {.fd = device, .events = POLLIN}};
-    for (;;) {
-        poll(files, 2, sooner(until_expire(&fragments), until_report(&listener, milliseconds())));
+    for (int is_ready = 0;;) {
+        run_addresses(&addresses, milliseconds(), host);
+        if (!is_ready && is_introduced(&addresses, milliseconds())) {
+            print(&output, "ready\n");
+            is_ready = 1;
+        }
+        poll(files, 2, sooner(until_expire(&fragments), until_addresses(&addresses, milliseconds())));
         expire_fragments(device, host);
-        report_group(&listener, milliseconds(), host, device);
         if (files[0].revents != 0)
             return 0;
         if ((files[1].revents & (POLLERR | POLLHUP | POLLNVAL)) || !answer_frames(device, host)) {
-            print(&errors, "proved_host: %s: the device was deleted\n", name);
+            print(&addresses.errors, "proved_host: %s: the device was deleted\n", name);
             return 1;
         }
     }
@@ -149,13 +153,11 @@ int main(int argc, char **argv)
         perror("proved_host");
         return 1;
     }
-    struct output output = open_output(STDOUT_FILENO);
     int signals = open_signals(no_others);
     if (signals < 0) {
         perror("proved_host: signalfd");
         return 1;
     }
-    listener.report_at = milliseconds();
-    print(&output, "ready\n");
+    make_addresses(&addresses, "proved_host", argv[1], device, &host);
     return serve(argv[1], device, signals, &host);
 }

@@ -22,6 +22,7 @@ struct socket {
     struct lk_connection tcp;
     struct lk_frame headers; /* of what is sent */
     uint32_t next;           /* the number after all that was sent */
+    uint64_t opened;         /* when its SYN came, in milliseconds */
     uint64_t heard;          /* when the peer's last segment came, in milliseconds */
     unsigned long order;     /* how many segments had come then */
     size_t taken, sent;      /* for the program; 0 when the connection opens */
@@ -36,6 +37,7 @@ struct sockets {
     void (*serve)(struct socket *); /* reads and writes; called after each segment */
     unsigned long segments;         /* that came */
     unsigned long frames_out;
+    uint16_t ident; /* of the last packet that may be fragmented */
     struct socket list[SOCKETS];
 };
 
@@ -59,7 +61,8 @@ static inline size_t room_of(const struct socket *s)
     return waiting < BUFFER ? BUFFER - waiting : 0;
 }
 
-/* Sends a segment. It is lost while the device is down. */
+/* Sends a segment. It is lost while the device is down. Packets that may be fragmented have different identifications, also
+ * those of two connections to one host (RFC 6864, section 4.3). */
 static inline void send_segment(struct sockets *all, struct socket *s, const struct lk_segment *out)
 {
     static uint8_t frame[LONGEST_WHOLE];
@@ -68,7 +71,7 @@ static inline void send_segment(struct sockets *all, struct socket *s, const str
     if (lk_compare_seq(end, s->next) > 0)
         s->next = end;
     if (s->headers.network == LK_IPV4 && !s->headers.ip.dont_fragment)
-        s->headers.ip.ident = (s->headers.ip.ident + 1) % 65536;
+        s->headers.ip.ident = ++all->ident;
     s->headers.tcp = out->tcp;
     ptrdiff_t n =
         lk_emit_tcp_frame(&s->headers, &out->options, out->payload, out->payload_len, frame, sizeof frame);
@@ -158,6 +161,7 @@ static inline struct socket *open_socket(struct sockets *all, const struct lk_fr
     s->headers.ip.dscp = 0;
     s->next = iss;
     s->taken = s->sent = 0;
+    s->opened = now;
     lk_connection_init(&s->tcp, mss_of(in, all->mtu), 0, 1);
     lk_connection_listen(&s->tcp);
     return s;

@@ -3,7 +3,6 @@
 #define TAP_H
 
 #include "fragments.h"
-#include "listener.h"
 #include <errno.h>
 #include <fcntl.h>
 #include <ip_wire.h>
@@ -63,26 +62,6 @@ static inline unsigned long write_packet(int device, struct fragments *fragments
     for (size_t i = 0; (n = lk_fragment(frame, len, mtu, ident, i, out, sizeof out)) > 0; i++)
         count += write(device, out, (size_t)n) == n;
     return count;
-}
-
-/* Reports the group of a host's IPv6 address, if that is due: again after a second, if the device is down. Returns the
- * number of frames that the device took. */
-static inline unsigned long report_group(struct listener *listener, int64_t now, const struct lk_host *host, int device)
-{
-    enum { BETWEEN_TRIES = 1000 };
-    uint8_t out[REPORT_LEN];
-    if (!is_due(listener, now))
-        return 0;
-    size_t len = lk_is_unicast(&host->ipv6) ? write_report(host->hardware, &host->ipv6, out) : 0;
-    int is_sent = len > 0 && write(device, out, len) == (ssize_t)len;
-    listener->report_at = len == 0 || is_sent ? 0 : now + BETWEEN_TRIES;
-    return (unsigned long)is_sent;
-}
-
-/* The time until the next call of `report_group`, in milliseconds, or -1 if no report is due before a query. */
-static inline int until_report(const struct listener *listener, int64_t now)
-{
-    return listener->report_at == 0 ? -1 : is_due(listener, now) ? 0 : (int)(listener->report_at - now);
 }
 
 /* The sooner one of two times for poll; -1: never. */

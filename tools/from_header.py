@@ -20,13 +20,13 @@ NOT_IN_RUST = {
     "lk_reason_name": "`Debug` of `Reason`", "lk_rejection_name": "`Debug` of `Rejection`", "lk_tcp_flag_name": "`TcpFlags`",
     "lk_print_addr": "`Display` of `IpAddr`", "lk_print_endpoint": "`Display` of `SocketAddr`",
     "lk_is_multicast": "`IpAddr::is_multicast`", "lk_choose_route": "lk_choose_route_by_table without cells",
-    "lk_check_source": "lk_check_source_by_table without cells", "lk_emit_mld_report": "", "lk_read_mld_query": "",
+    "lk_check_source": "lk_check_source_by_table without cells",
 }
 # The same of the Python package. A table saves less time than a call from Python takes.
 NOT_IN_PYTHON = {
     "lk_clamp_mss": "lk_clamp_mss_as", "lk_set_addr": "lk_set_addr_as", "lk_set_port": "lk_set_port_as",
     "lk_set_bytes": "lk_set_bytes_as", "lk_make_route_table": "", "lk_choose_route_by_table": "lk_choose_route",
-    "lk_check_source_by_table": "lk_check_source", "lk_emit_mld_report": "", "lk_read_mld_query": "",
+    "lk_check_source_by_table": "lk_check_source",
 }
 RUST = {"uint8_t": "u8", "uint16_t": "u16", "uint32_t": "u32", "uint64_t": "u64", "int32_t": "i32", "int64_t": "i64", "size_t": "usize",
         "ptrdiff_t": "isize", "int": "c_int", "char": "c_char"}
@@ -76,6 +76,11 @@ def calls_of(text):
     for result, name, parameters in re.findall(r"((?:const )?\w+ +\*?)(lk_\w+)\(([^()]*)\)\s*[;{]", text):
         given = [] if parameters.strip() == "void" else re.findall(r"\s*([^,]*?)\s*(\w+)\s*(?:,|$)", parameters)
         yield name, result.strip(), given
+
+
+def inline_calls_of(text):
+    """The names of the calls that the header itself defines."""
+    return re.findall(r"^static inline [^({]*?(lk_\w+)\(", without_comments(text), re.M)
 
 
 def version_of(text):

@@ -54,7 +54,7 @@ def main():
     print("|" + "---|" * len(COLUMNS))
     total = dict.fromkeys(("src", "functions", "laws", "specs", "proofs", "tests"), 0)
     for crate in Sources(TOP).crates.values():
-        figures = row(crate, only_tests=crate.is_for_tests and not crate.name.startswith("needs_"))
+        figures = row(crate, only_tests=crate.is_for_tests)
         total = {name: total[name] + figures[name] for name in total}
         print(f"| {crate.name} |", *(f"{figures[name]} |" for name in COLUMNS[1:]))
     print("| all |", *(f"{total.get(name, '')} |" for name in COLUMNS[1:]))

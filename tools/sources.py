@@ -35,8 +35,8 @@ class Crate:
 
     @property
     def is_for_tests(self):
-        """Whether it has only tests, needs and what these share."""
-        return self.name.startswith(("test_", "needs_"))
+        """Whether it has only tests and what these share."""
+        return self.name.startswith("test_")
 
 
 def words_of(text):

@@ -55,9 +55,11 @@ type Conn struct {
 	outgoing, incoming []byte
 	changed            *sync.Cond
 	timer              *time.Timer
-	deadlines          [2]time.Time // of Read and Write
-	isHalfClosed       bool         // the application writes no more,
-	isClosed           bool         // and reads no more
+	deadlines          [2]time.Time   // of Read and Write
+	alarms             [2]*time.Timer // wake them then; nil: no deadline was set
+	isWriting          bool           // a Write has begun, and others wait for its end
+	isHalfClosed       bool           // the application writes no more,
+	isClosed           bool           // and reads no more
 }
 
 // The methods with small letters are called with the lock of the stack.
@@ -101,8 +103,16 @@ func (c *Conn) run(event C.int, frame *C.uint8_t) C.ptrdiff_t {
 	outgoing, outgoingLen := memory(c.outgoing)
 	incoming, incomingLen := memory(c.incoming)
 	out, room := memory(s.out)
+	// Packets that may be fragmented have different identifications, also those of two connections (RFC 6864, section 4.3).
+	mayBeCut := c.headers.src.addr.version == 4 && c.headers.ip.dont_fragment == 0
+	if mayBeCut {
+		c.headers.ip.ident = C.uint32_t(s.ident)
+	}
 	length := C.run(event, &c.fields, outgoing, outgoingLen, incoming, incomingLen, s.now(), number, frame, &s.frame,
 		&s.options, &c.headers, out, room)
+	if mayBeCut && length > 0 {
+		s.ident++
+	}
 	s.send(length)
 	return length
 }
@@ -172,11 +182,18 @@ func (c *Conn) Read(out []byte) (int, error) {
 	return 0, net.ErrClosed
 }
 
-// Write writes for the peer, and waits until there is room for all of it.
+// Write writes for the peer, and waits until there is room for all of it. The bytes of two calls at once do not mix.
 func (c *Conn) Write(data []byte) (int, error) {
 	c.stack.mu.Lock()
 	defer c.stack.mu.Unlock()
 	outgoing, outgoingLen := memory(c.outgoing)
+	isOurs := false
+	defer func() {
+		if isOurs {
+			c.isWriting = false
+			c.changed.Broadcast()
+		}
+	}()
 	for n := 0; ; c.changed.Wait() {
 		if err := c.failure(c.deadlines[1]); err != nil {
 			return n, err
@@ -184,6 +201,10 @@ func (c *Conn) Write(data []byte) (int, error) {
 		if c.isHalfClosed {
 			return n, net.ErrClosed
 		}
+		if c.isWriting && !isOurs {
+			continue
+		}
+		c.isWriting, isOurs = true, true
 		ptr, length := memory(data[n:])
 		n += int(C.lk_connection_write(&c.fields, outgoing, outgoingLen, ptr, length))
 		c.flush()
@@ -206,8 +227,18 @@ func (c *Conn) CloseWrite() error {
 // Close closes the connection, and does not wait until what was written has arrived. If there is something that was not
 // read, or the peer writes more, the connection is reset.
 func (c *Conn) Close() error {
-	c.locked(func() { c.isClosed = true })()
+	c.locked(func() {
+		c.isClosed = true
+		c.stopAlarms()
+	})()
 	return c.CloseWrite()
+}
+
+// Waiting returns how many bytes the peer has not acknowledged. A FIN counts as one.
+func (c *Conn) Waiting() int {
+	c.stack.mu.Lock()
+	defer c.stack.mu.Unlock()
+	return int(C.lk_connection_waiting(&c.fields))
 }
 
 // LocalAddr returns the own endpoint, a *net.TCPAddr.
@@ -222,28 +253,45 @@ func (c *Conn) RemoteAddr() net.Addr {
 
 // SetDeadline sets when Read and Write fail with os.ErrDeadlineExceeded. The zero time: never.
 func (c *Conn) SetDeadline(t time.Time) error {
-	return c.setDeadlines(t, &c.deadlines[0], &c.deadlines[1])
+	return c.setDeadlines(t, 0, 1)
 }
 
 // SetReadDeadline sets that of Read.
 func (c *Conn) SetReadDeadline(t time.Time) error {
-	return c.setDeadlines(t, &c.deadlines[0])
+	return c.setDeadlines(t, 0)
 }
 
 // SetWriteDeadline sets that of Write.
 func (c *Conn) SetWriteDeadline(t time.Time) error {
-	return c.setDeadlines(t, &c.deadlines[1])
+	return c.setDeadlines(t, 1)
 }
 
-func (c *Conn) setDeadlines(t time.Time, deadlines ...*time.Time) error {
-	c.locked(func() {
-		for _, deadline := range deadlines {
-			*deadline = t
+func (c *Conn) setDeadlines(t time.Time, places ...int) error {
+	c.stack.mu.Lock()
+	defer c.stack.mu.Unlock()
+	for _, place := range places {
+		c.deadlines[place] = t
+		if c.alarms[place] != nil {
+			c.alarms[place].Stop()
 		}
-		c.changed.Broadcast()
-	})()
-	if !t.IsZero() {
-		time.AfterFunc(time.Until(t), c.locked(c.changed.Broadcast))
+		if t.IsZero() || c.isClosed || c.state() == C.LK_CLOSED {
+			continue // nothing waits for it
+		}
+		if c.alarms[place] == nil {
+			c.alarms[place] = time.AfterFunc(time.Until(t), c.locked(c.changed.Broadcast))
+		} else {
+			c.alarms[place].Reset(time.Until(t))
+		}
 	}
+	c.changed.Broadcast()
 	return nil
+}
+
+// stopAlarms ends the timers of the deadlines of a connection on which nothing waits any more.
+func (c *Conn) stopAlarms() {
+	for _, alarm := range c.alarms {
+		if alarm != nil {
+			alarm.Stop()
+		}
+	}
 }

@@ -41,6 +41,12 @@ func init() {
 	}
 }
 
+// Version returns the version of the C library that is linked: major, minor and patch.
+func Version() (major, minor, patch int) {
+	version := int(C.lk_version())
+	return version >> 16, version >> 8 & 255, version & 255
+}
+
 // Failure is why a call wrote nothing. Its zero value is no failure.
 type Failure int64
 

@@ -7,18 +7,25 @@ import "C"
 
 import "net/netip"
 
-// Rejection is why a frame is not forwarded or accepted. Its zero value is no rejection.
+// Rejection is why a frame is not forwarded, translated or accepted. Its zero value is no rejection.
 type Rejection uint8
 
-// The rejections of the calls of this package. If several apply, it is the first in this order.
+// The rejections. If several apply, it is the first in this order.
 const (
-	NotIP          Rejection = C.LK_NOT_IP          // no Ethernet header, or an EtherType other than IPv4 and IPv6
-	BadHeader      Rejection = C.LK_BAD_HEADER      // the version of the IP header or its lengths do not fit
-	WrongChecksum  Rejection = C.LK_WRONG_CHECKSUM  // of the IPv4 header
-	Expired        Rejection = C.LK_EXPIRED         // the hop limit is 0 or 1
-	Martian        Rejection = C.LK_MARTIAN         // no host may send from this address
-	NoRoute        Rejection = C.LK_NO_ROUTE        // there is no route back
-	OtherInterface Rejection = C.LK_OTHER_INTERFACE // the route back leads to another interface
+	NoIPv4           Rejection = C.LK_NO_IPV4         // the endpoint to be written has no IPv4 address
+	NotIP            Rejection = C.LK_NOT_IP          // no Ethernet header, or an EtherType other than IPv4 and IPv6
+	BadHeader        Rejection = C.LK_BAD_HEADER      // the version of the IP header or its lengths do not fit
+	WrongChecksum    Rejection = C.LK_WRONG_CHECKSUM  // of the IPv4 header
+	Expired          Rejection = C.LK_EXPIRED         // the hop limit is 0 or 1
+	RejectedFragment Rejection = C.LK_FRAGMENT        // NAT: the packet is a fragment
+	OtherProtocol    Rejection = C.LK_OTHER_PROTOCOL  // NAT: neither UDP, TCP nor an ICMP message that is translated
+	BadTransport     Rejection = C.LK_BAD_TRANSPORT   // NAT: the UDP, TCP or ICMP header or its checksum is wrong
+	ZeroPort         Rejection = C.LK_ZERO_PORT       // NAT: a port is 0
+	NoMapping        Rejection = C.LK_NO_MAPPING      // NAT: no live mapping has this outside address and port
+	NoFreePort       Rejection = C.LK_NO_FREE_PORT    // NAT: no outside port is free for this endpoint
+	Martian          Rejection = C.LK_MARTIAN         // no host may send from this address
+	NoRoute          Rejection = C.LK_NO_ROUTE        // there is no route back
+	OtherInterface   Rejection = C.LK_OTHER_INTERFACE // the route back leads to another interface
 )
 
 // Error returns the name of the rejection in ip_wire.h, as "ipwire: LK_EXPIRED".

@@ -9,6 +9,7 @@ import (
 	"crypto/rand"
 	"encoding/binary"
 	"io"
+	"math"
 	"net"
 	"net/netip"
 	"sync"
@@ -16,13 +17,18 @@ import (
 	"time"
 )
 
-// StackConfig is the host of a Stack. Zero values are the defaults.
+// StackConfig is the host of a Stack. Zero values are the defaults, and so are numbers out of range.
 type StackConfig struct {
 	Hardware   HardwareAddr
 	IPv4, IPv6 netip.Addr    // zero: it has none
-	MTU        int           // 1500
-	Buffer     int           // for each direction of a connection, in bytes, less than 2^30: 65536
+	MTU        int           // 68 to 65535: 1500
+	Buffer     int           // for each direction of a connection, in bytes, 1 to 2^30 - 1: 65536
 	KeepAlive  time.Duration // how long a peer may be silent until it is probed, in whole seconds: 2 hours
+
+	// PartialChecksums says to compute TCP and UDP checksums that the sender of a received frame left to its device, before
+	// they are checked. A packet socket (AF_PACKET) needs this for frames of programs on its own machine (checksum
+	// offload), with segmentation offload off.
+	PartialChecksums bool
 }
 
 // Stack is a host with TCP connections over a device. Its calls may run in many goroutines at once.
@@ -35,6 +41,7 @@ type Stack struct {
 	listeners map[uint16]*Listener
 	start     time.Time
 	out       []byte            // a frame that is sent
+	ident     uint16            // of the next packet that may be fragmented
 	frame     C.struct_lk_frame // the headers of one that was received
 	options   C.struct_lk_tcp_options
 	err       error // of the device
@@ -51,11 +58,14 @@ type ends struct {
 // A frame for no connection gets the answer of lk_answer, so that ARP, neighbour discovery and pings work, and a segment
 // for none gets a RST. ICMP errors about the path MTU are taken (RFC 1191, RFC 8201). Not supported: fragments.
 func NewStack(device io.ReadWriter, config StackConfig) *Stack {
-	if config.MTU == 0 {
+	if config.MTU < 68 || config.MTU > 65535 {
 		config.MTU = 1500
 	}
-	if config.Buffer == 0 || config.Buffer >= 1<<30 {
+	if config.Buffer <= 0 || config.Buffer >= 1<<30 {
 		config.Buffer = 65536
+	}
+	if config.KeepAlive < 0 || config.KeepAlive/time.Second > math.MaxUint32 {
+		config.KeepAlive = 0
 	}
 	if !config.IPv4.IsValid() {
 		config.IPv4 = netip.IPv4Unspecified()
@@ -151,6 +161,7 @@ func (l *Listener) Accept() (net.Conn, error) {
 	for ; !l.isClosed && l.stack.err == nil; l.changed.Wait() {
 		if len(l.queue) > 0 {
 			c := l.queue[0]
+			l.queue[0] = nil // else the array keeps it
 			l.queue = l.queue[1:]
 			l.count--
 			return c, nil
@@ -166,12 +177,16 @@ func (l *Listener) Accept() (net.Conn, error) {
 func (l *Listener) Close() error {
 	l.stack.mu.Lock()
 	defer l.stack.mu.Unlock()
+	if l.isClosed {
+		return net.ErrClosed
+	}
 	l.isClosed = true
 	delete(l.stack.listeners, l.port)
 	for _, c := range l.queue {
 		c.run(abort, nil)
 		c.flush()
 	}
+	l.queue = nil
 	l.changed.Broadcast()
 	return nil
 }
@@ -186,6 +201,10 @@ func (s *Stack) receive(frame []byte) {
 	ptr, length := memory(frame)
 	out, room := memory(s.out)
 	C.lk_read_frame_options(ptr, length, &s.frame, &s.options)
+	if s.config.PartialChecksums && s.frame.transport_checksum == C.LK_LEFT_TO_DEVICE {
+		C.lk_fill_checksum(ptr, length)
+		C.lk_read_frame_options(ptr, length, &s.frame, &s.options)
+	}
 	// A checksum that is left to a device is wrong, as for lk_answer.
 	if s.frame.reason == C.LK_READ && s.frame.ipv4_checksum != C.LK_WRONG && s.frame.transport_checksum == C.LK_RIGHT {
 		if c := s.find(); c != nil {
@@ -224,7 +243,9 @@ func (s *Stack) find() *Conn {
 	return c
 }
 
-// learnMTU takes the path MTU of an ICMP error about a segment of a connection.
+// learnMTU takes the path MTU of an ICMP error about a segment of a connection. Below 576 for IPv4, as the 0 of a router that
+// tells none, packets of 576 bytes may be fragmented (RFC 1191, section 5). Below 1280 for IPv6 it is not valid (RFC 8201,
+// section 4).
 func (s *Stack) learnMTU(data []byte) {
 	frame := ReadFrame(data)
 	sent, ok := frame.ReadQuoted()
@@ -232,22 +253,29 @@ func (s *Stack) learnMTU(data []byte) {
 	if header == nil {
 		header = sent.Payload
 	}
-	if !ok || sent.Protocol != 6 || len(header) < 8 {
+	if !ok || sent.Protocol != 6 || len(header) < 8 || sent.Network != frame.Network {
 		return
 	}
-	mss := 0
-	switch mtu := frame.ICMP.Word; {
-	case frame.Network == NetworkIPv6 && frame.ICMP.Type == 2 && mtu >= 1280 && mtu <= 65535:
-		mss = int(mtu) - 60
-	case frame.Network == NetworkIPv4 && frame.ICMP.Type == 3 && frame.ICMP.Code == 4 && mtu&0xffff >= 68:
-		mss = int(mtu&0xffff) - 40
-	default:
+	mtu, least, headersLen := frame.ICMP.Word, uint32(1280), uint32(60)
+	if frame.Network == NetworkIPv4 {
+		mtu, least, headersLen = mtu&0xffff, 576, 40
+	}
+	isIPv4 := frame.Network == NetworkIPv4 && frame.ICMP.Type == 3 && frame.ICMP.Code == 4
+	isIPv6 := frame.Network == NetworkIPv6 && frame.ICMP.Type == 2 && mtu >= least && mtu <= 65535
+	if !isIPv4 && !isIPv6 {
 		return
+	}
+	mss := least - headersLen
+	if mtu >= least {
+		mss = mtu - headersLen
 	}
 	own := netip.AddrPortFrom(sent.Src.Addr(), binary.BigEndian.Uint16(header))
 	peer := netip.AddrPortFrom(sent.Dst.Addr(), binary.BigEndian.Uint16(header[2:]))
 	if c := s.conns[ends{own, peer}]; c != nil {
-		C.lk_connection_too_big(&c.fields, C.uint32_t(binary.BigEndian.Uint32(header[4:])), C.uint16_t(mss))
+		number := C.uint32_t(binary.BigEndian.Uint32(header[4:]))
+		if C.lk_connection_too_big(&c.fields, number, C.uint16_t(mss)) != 0 && mtu < least {
+			c.headers.ip.dont_fragment = 0
+		}
 		c.flush()
 	}
 }
@@ -266,7 +294,10 @@ func (s *Stack) settle(c *Conn) {
 		}
 	}
 	if c.state() == C.LK_CLOSED {
-		delete(s.conns, c.ends())
+		if s.conns[c.ends()] == c { // and not a later one
+			delete(s.conns, c.ends())
+		}
+		c.stopAlarms()
 	}
 }
 

@@ -35,6 +35,54 @@ func ReadTCPOptions(header []byte) (TCPOptions, error) {
 	return optionsOf(&set), nil
 }
 
+// RawOption is where an option of a TCP header is.
+type RawOption struct {
+	Offset int   // of its first byte in the header
+	Kind   uint8 // 0: the end mark, 1: padding; the data of the others begins after 2 bytes
+	Len    int   // of the whole option, in bytes
+}
+
+// RawTCPOptions returns the options of every kind of a TCP header, in their order, with padding, up to the end mark. The
+// error is BadOptions if one is malformed, or the header is shorter than 20 bytes or than it says; then those before it are
+// returned.
+func RawTCPOptions(header []byte) ([]RawOption, error) {
+	var (
+		options []RawOption
+		option  C.struct_lk_tcp_option
+	)
+	ptr, length := memory(header)
+	for {
+		switch C.lk_next_tcp_option(ptr, length, &option) {
+		case 1:
+			options = append(options, RawOption{int(option.offset), uint8(option.kind), int(option.len)})
+		case 0:
+			return options, nil
+		default:
+			return options, BadOptions
+		}
+	}
+}
+
+// TCPFlagName returns the name of one flag of a TCP header, as "SYN" for 2, or "unknown".
+func TCPFlagName(flag uint8) string {
+	return C.GoString(C.lk_tcp_flag_name(C.int(flag)))
+}
+
+// AddSeq returns a sequence number so many numbers later. Sequence numbers are modulo 2^32 (RFC 9293, section 3.4).
+func AddSeq(number, count uint32) uint32 {
+	return uint32(C.lk_add_seq(C.uint32_t(number), C.uint32_t(count)))
+}
+
+// SubtractSeq returns how many numbers the first one is after the second, from -2^31 to 2^31 - 1.
+func SubtractSeq(a, b uint32) int32 {
+	return int32(C.lk_subtract_seq(C.uint32_t(a), C.uint32_t(b)))
+}
+
+// CompareSeq returns -1, 0 or 1 if the first number is before, equal to or after the second.
+func CompareSeq(a, b uint32) int {
+	return int(C.lk_compare_seq(C.uint32_t(a), C.uint32_t(b)))
+}
+
 func optionsOf(set *C.struct_lk_tcp_options) TCPOptions {
 	options := TCPOptions{SackPermitted: set.sack_permitted != 0}
 	if set.has_max_seg_size != 0 {

@@ -30,7 +30,7 @@ fn pkg_config(arguments: &[&str]) -> String {
     if !output.status.success() {
         let message = String::from_utf8_lossy(&output.stderr);
         fail(&format!(
-            "{program} does not find the C library ip_wire 0.4 (make install installs it). If it is not in a \
+            "{program} does not find the C library ip_wire 0.5 (make install installs it). If it is not in a \
              folder of the system, name the folder of ip_wire.pc, as PKG_CONFIG_PATH=/usr/local/lib/pkgconfig.\n{message}"
         ));
     }
@@ -40,7 +40,7 @@ fn pkg_config(arguments: &[&str]) -> String {
 
 /// The folders of the installed library and of its header.
 fn installed() -> (String, String) {
-    pkg_config(&["--print-errors", "--exists", "ip_wire >= 0.4.0 ip_wire < 0.5.0"]);
+    pkg_config(&["--print-errors", "--exists", "ip_wire >= 0.5.0 ip_wire < 0.6.0"]);
     (pkg_config(&["--variable=libdir", "ip_wire"]), pkg_config(&["--variable=includedir", "ip_wire"]))
 }
 

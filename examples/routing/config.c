@@ -317,7 +317,7 @@ static void free_config(struct config *config)
     free(config->settings);
 }
 
-/* The first address of this version on the interface, else the first one of the router; or 0.0.0.0 or `::`. */
+/* The first address of this version that is used on the interface, else the first one of the router; or 0.0.0.0 or `::`. */
 static struct lk_addr first_address(const struct config *config, size_t interface, uint16_t version)
 {
     struct lk_addr found = {.version = version};
@@ -325,12 +325,20 @@ static struct lk_addr first_address(const struct config *config, size_t interfac
     for (size_t i = config->address_count; i-- > 0;) {
         const struct address *one = &config->addresses[i];
         int is_here = one->interface == interface;
-        if (one->block.addr.version == version && (is_here || !is_found)) {
+        if (one->block.addr.version == version && !one->is_taken && (is_here || !is_found)) {
             found = one->block.addr;
             is_found |= is_here;
         }
     }
     return found;
+}
+
+void choose_sources(struct router *router)
+{
+    for (size_t i = 0; i < router->interface_count; i++) {
+        router->interfaces[i].own.ipv4 = first_address(&router->config, i, 4);
+        router->interfaces[i].own.ipv6 = first_address(&router->config, i, 6);
+    }
 }
 
 static void take_config(struct router *router, const struct config *config)
@@ -341,11 +349,10 @@ static void take_config(struct router *router, const struct config *config)
         struct interface *interface = &router->interfaces[i];
         interface->introduced = 0;
         interface->clamps = config->settings[i].clamps;
-        interface->own.ipv4 = first_address(config, i, 4);
-        interface->own.ipv6 = first_address(config, i, 6);
         if (config->settings[i].has_hardware)
             memcpy(interface->own.hardware, config->settings[i].hardware, 6);
     }
+    choose_sources(router);
 }
 
 /* ---- the file ---- */

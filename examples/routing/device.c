@@ -44,6 +44,9 @@ static int open_socket(struct interface *interface)
     /* As much as the limit of the kernel allows, and all of it if the program may pass that limit. */
     setsockopt(device, SOL_SOCKET, SO_RCVBUF, &room, sizeof room);
     setsockopt(device, SOL_SOCKET, SO_RCVBUFFORCE, &room, sizeof room);
+    /* What waits in the queue of a slow link counts too: else frames are lost before that queue is full. */
+    setsockopt(device, SOL_SOCKET, SO_SNDBUF, &room, sizeof room);
+    setsockopt(device, SOL_SOCKET, SO_SNDBUFFORCE, &room, sizeof room);
     return setsockopt(device, SOL_PACKET, PACKET_VNET_HDR, &on, sizeof on) == 0
            && setsockopt(device, SOL_PACKET, PACKET_AUXDATA, &on, sizeof on) == 0
            && setsockopt(device, SOL_PACKET, PACKET_IGNORE_OUTGOING, &on, sizeof on) == 0

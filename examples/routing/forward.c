@@ -102,12 +102,16 @@ static size_t longest_len(const struct packet *packet)
     return start - ETHERNET_LEN + header_len + offload->gso_size;
 }
 
-/* Whether the router may fragment the packet: DF is not set (RFC 791). Over IPv6 none may. A frame that becomes many is
- * not cut here. */
+/* Whether routers may fragment a packet: DF is not set (RFC 791). Over IPv6 none may. */
+static int is_divisible(const struct packet *packet)
+{
+    return is_over_ipv4(packet) && (packet->frame[ETHERNET_LEN + 6] & 0x40) == 0;
+}
+
+/* Whether this router may. A frame that becomes many is not cut here. */
 static int may_fragment(const struct packet *packet)
 {
-    int has_df = (packet->frame[ETHERNET_LEN + 6] & 0x40) != 0;
-    return is_over_ipv4(packet) && !has_df && packet->offload.gso_type == VIRTIO_NET_HDR_GSO_NONE;
+    return is_divisible(packet) && packet->offload.gso_type == VIRTIO_NET_HDR_GSO_NONE;
 }
 
 /* Sends a packet in fragments, after the packets that wait in the queues. */
@@ -154,6 +158,8 @@ static void send_by(struct router *router, uint16_t from, const struct lk_route 
     if (!interface->is_tap)
         packet->len = pad(packet->frame, packet->len);
     router->forwarded++;
+    if (!is_too_long && interface->renumbers && is_divisible(packet))
+        renumber(packet); /* one that is cut gets its identification there */
     if (is_too_long)
         send_cut(router, interface, packet);
     else
@@ -172,7 +178,7 @@ void send_on(struct router *router, uint16_t from, struct packet *packet, const 
         send_by(router, from, route, packet, dst);
     } else if (is_of_kernel(router, dst)) {
         router->for_kernel++;
-    } else if (answer(router, from, dst, packet)) {
+    } else if (is_used(router, dst) && answer(router, from, dst, packet)) {
         router->answered++;
     } else {
         drop(router, FOR_ROUTER);
@@ -208,7 +214,7 @@ static void on_packet(struct router *router, uint16_t from, struct lk_frame *in,
     enum table table = table_of(router, from, in);
     int rejection = LK_NOT_REJECTED;
     packet->len = ETHERNET_LEN + packet_len(packet->frame + ETHERNET_LEN);
-    if (table != NO_TABLE && !make_whole(router, table, in, packet))
+    if (table != NO_TABLE && !make_whole(router, from, table, in, packet))
         return;
     if (table != NO_TABLE)
         read_headers(packet, in);
@@ -245,9 +251,10 @@ void on_frame(struct router *router, uint16_t from, struct packet *packet)
 
 static const char *name_of(int why)
 {
-    static const char *const names[] = {
+    static const char *const names[DROPS - OTHER_LINK] = {
         "other link address", "VLAN tag", "group or broadcast", "link-local",   "reserved address", "for the router",
-        "no route",           "too long", "no neighbour",      "above the limit of mappings", "bad fragment",
+        "no route",           "too long", "no neighbour",      "address of another host", "above the limit of mappings",
+        "bad fragment",
     };
     return why < OTHER_LINK ? lk_rejection_name(why) : names[why - OTHER_LINK];
 }

@@ -5,10 +5,6 @@
 
 #include "../fragments.h"
 
-/* A sender inside has at most so many incomplete packets, so that it does not take the place of others (RFC 4787,
- * REQ-14; RFC 6888, REQ-4). */
-enum { MOST_OF_ONE = 8 };
-
 static const struct virtio_net_hdr no_offload;
 static struct fragments tables[TABLES];
 
@@ -20,33 +16,30 @@ int make_tables(void)
     return 1;
 }
 
-static int is_of_packet(const struct lk_partial *partial, const struct lk_frame *in)
+/* While fragments wait, two bytes of their Ethernet destination have the number of the interface by which they came: several
+ * interfaces may have one Ethernet address. */
+enum { INTERFACE_AT = 4 };
+
+static void hide_interface(uint8_t *frame, uint16_t from)
 {
-    return partial->ident == in->ip.ident && partial->protocol == in->ip.protocol
-           && memcmp(partial->dst, in->dst.addr.octets, 16) == 0;
+    memcpy(frame + INTERFACE_AT, &from, sizeof from);
 }
 
-/* Whether the fragment begins one packet more than its sender may have. */
-static int is_above_limit(const struct fragments *table, const struct lk_frame *in, uint64_t now)
+/* Returns the interface, and writes its Ethernet address again. */
+static uint16_t find_interface(const struct router *router, uint8_t *frame)
 {
-    int count = 0;
-    for (const struct lk_partial *one = table->partials; one < table->partials + MOST_PARTIALS; one++) {
-        if (one->expires <= now || one->version != 4 || memcmp(one->src, in->src.addr.octets, 16) != 0)
-            continue;
-        if (is_of_packet(one, in))
-            return 0;
-        count++;
-    }
-    return count >= MOST_OF_ONE;
+    uint16_t from;
+    memcpy(&from, frame + INTERFACE_AT, sizeof from);
+    memcpy(frame, router->interfaces[from].own.hardware, 6);
+    return from;
 }
 
-int make_whole(struct router *router, enum table place, const struct lk_frame *in, struct packet *packet)
+int make_whole(struct router *router, uint16_t from, enum table place, const struct lk_frame *in, struct packet *packet)
 {
     struct fragments *table = &tables[place];
-    ptrdiff_t len = LK_DROPPED;
     complete_checksum(packet);
-    if (place != FROM_INSIDE || !is_above_limit(table, in, (uint64_t)router->now))
-        len = reassemble(table, router->now, packet->frame, packet->len);
+    hide_interface(packet->frame, from);
+    ptrdiff_t len = reassemble(table, router->now, in, packet->frame, packet->len);
     router->fragments++;
     if (len < 0)
         drop(router, BAD_FRAGMENT);
@@ -54,24 +47,21 @@ int make_whole(struct router *router, enum table place, const struct lk_frame *i
         return 0;
     router->wholes++;
     memcpy(packet->frame, table->whole, (size_t)len);
+    find_interface(router, packet->frame);
     packet->len = (size_t)len;
     packet->offload = no_offload;
     return 1;
 }
 
 /* Tells the sender of a fragment that the others did not come. The frame is as it came in. */
-static void send_time_exceeded(struct router *router, const uint8_t *frame, size_t len)
+static void send_time_exceeded(struct router *router, uint8_t *frame, size_t len)
 {
     static uint8_t out[LONGEST_FRAME];
-    for (size_t i = 0; i < router->interface_count; i++) {
-        const struct lk_interface *own = &router->interfaces[i].own;
-        if (memcmp(own->hardware, frame, 6) != 0)
-            continue;
-        ptrdiff_t error = lk_emit_icmp_error(own, LK_FRAGMENT_MISSING, 0, frame, len, out, sizeof out);
-        if (error > 0)
-            send_own(router, (uint16_t)i, out, (size_t)error);
-        return;
-    }
+    uint16_t from = find_interface(router, frame);
+    ptrdiff_t error =
+        lk_emit_icmp_error(&router->interfaces[from].own, LK_FRAGMENT_MISSING, 0, frame, len, out, sizeof out);
+    if (error > 0)
+        send_own(router, from, out, (size_t)error);
 }
 
 void expire_fragments(struct router *router)
@@ -79,6 +69,22 @@ void expire_fragments(struct router *router)
     for (struct fragments *one = tables; one < tables + TABLES; one++)
         for (size_t len; (len = expire(one, router->now)) > 0;)
             send_time_exceeded(router, one->whole, len);
+}
+
+static void store_word(uint8_t *place, uint16_t word)
+{
+    place[0] = (uint8_t)(word >> 8);
+    place[1] = (uint8_t)word;
+}
+
+void renumber(struct packet *packet)
+{
+    uint8_t *header = packet->frame + ETHERNET_LEN;
+    store_word(header + 4, (uint16_t)next_ident(&tables[FOR_OWN], packet->frame));
+    if (packet->offload.gso_type != VIRTIO_NET_HDR_GSO_NONE && packet->offload.gso_size > 0)
+        tables[FOR_OWN].ident += (uint32_t)(packet->len / packet->offload.gso_size); /* the device counts on */
+    store_word(header + 10, 0);
+    store_word(header + 10, (uint16_t)~lk_checksum(header, header[0] % 16 * 4u));
 }
 
 size_t send_fragments(struct interface *interface, const uint8_t *frame, size_t len, int is_own)

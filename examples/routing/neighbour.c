@@ -6,10 +6,8 @@
 #include <stdlib.h>
 #include <sys/random.h>
 
-enum { ARP_REQUEST = 1 };
 /* Times are in milliseconds. */
 enum { FRESH_TIME = 60000, BETWEEN_REQUESTS = 1000, MOST_REQUESTS = 3 };
-enum { LONGEST_REQUEST = ETHERNET_LEN + 72 };
 enum { SETS = 4096, WAYS = 8, MOST_HELD = 64, MOST_HELD_BYTES = 1 << 22 };
 
 /* A packet that waits for a reply, as it came in. */
@@ -168,7 +166,7 @@ static const struct lk_addr *own_address(const struct router *router, uint16_t i
     const struct lk_addr *any = NULL;
     for (size_t i = 0; i < router->config.address_count; i++) {
         const struct address *own = &router->config.addresses[i];
-        if (own->interface != interface || own->block.addr.version != addr->version)
+        if (own->interface != interface || own->block.addr.version != addr->version || own->is_taken)
             continue;
         any = &own->block.addr;
         if (lk_contains(&own->block, addr))
@@ -177,37 +175,13 @@ static const struct lk_addr *own_address(const struct router *router, uint16_t i
     return any;
 }
 
-/* Addresses a question to all hosts that may have the address: over IPv6 to its solicited-node group (RFC 4291, section
- * 2.7.1; RFC 2464, section 7). */
-static void ask_all(struct lk_frame *request)
-{
-    memset(request->ethernet.dst, 0xff, 6);
-    if (request->dst.addr.version == 4)
-        return;
-    request->dst.addr = solicited_node(&request->dst.addr);
-    memset(request->ethernet.dst, 0x33, 2);
-    memcpy(request->ethernet.dst + 2, request->dst.addr.octets + 12, 4);
-}
-
-/* One from `::` has no Ethernet address: it asks whether `target` is unused (RFC 4861, section 4.3). */
 void send_request(struct router *router, uint16_t to, const struct lk_addr *src, const struct lk_addr *target,
                   const uint8_t *hardware)
 {
-    const uint8_t *own = router->interfaces[to].own.hardware;
     uint8_t out[LONGEST_REQUEST];
-    struct lk_ndisc solicitation = {.target = *target, .has_hardware = (uint8_t)lk_is_unicast(src)};
-    struct lk_frame request = {.src = {.addr = *src}, .dst = {.addr = *target}, .arp = {.operation = ARP_REQUEST}};
-    memcpy(request.ethernet.src, own, 6);
-    memcpy(request.arp.src_hardware, own, 6);
-    memcpy(solicitation.hardware, own, 6);
-    if (hardware != NULL)
-        memcpy(request.ethernet.dst, hardware, 6);
-    else
-        ask_all(&request);
-    ptrdiff_t len = src->version == 4 ? lk_emit_arp_frame(&request, out, sizeof out)
-                                      : lk_emit_ndisc_frame(&request, &solicitation, out, sizeof out);
+    size_t len = write_request(router->interfaces[to].own.hardware, src, target, hardware, out);
     if (len > 0)
-        send_own(router, to, out, (size_t)len);
+        send_own(router, to, out, len);
 }
 
 /* Asks for an address: all hosts, or only the neighbour of which it is. At most once a second (RFC 1122, section
@@ -352,12 +326,11 @@ static void hear(struct router *router, uint16_t from, const struct lk_addr *add
 
 void on_arp(struct router *router, uint16_t from, const struct lk_frame *in, struct packet *packet)
 {
-    int is_for_us = address_with(router, from, &in->dst.addr, 1) != NULL;
-    const struct address *claimed = address_with(router, from, &in->src.addr, 1);
     router->arp++;
+    find_conflict(router, from, in, packet);
+    const struct address *own = address_with(router, from, &in->dst.addr, 1);
+    int is_for_us = own != NULL && !own->is_taken;
     hear(router, from, &in->src.addr, in->arp.src_hardware, is_for_us, 1);
-    if (claimed != NULL)
-        defend(router, claimed, in->arp.src_hardware);
     if (is_for_us && !router->interfaces[from].kernel_ipv4)
         answer(router, from, &in->dst.addr, packet);
 }
@@ -370,6 +343,10 @@ static void on_advert(struct router *router, uint16_t from, const struct lk_ndis
         return;
     const uint8_t *hardware = advert->has_hardware ? advert->hardware : neighbour->hardware;
     int is_other = memcmp(hardware, neighbour->hardware, 6) != 0;
+    if (neighbour->state == KNOWN && is_other && !advert->overrides && router->now - neighbour->confirmed_at < FRESH_TIME) {
+        neighbour->confirmed_at = router->now - FRESH_TIME; /* STALE: its Ethernet address is used, and asked for */
+        neighbour->requests = 0;
+    }
     if (neighbour->state == ASKED ? advert->has_hardware : advert->overrides || !is_other)
         learn(router, neighbour, hardware, advert->is_solicited);
 }
@@ -381,12 +358,11 @@ int on_ndisc(struct router *router, uint16_t from, const struct lk_frame *in, st
     if ((!is_group && memcmp(in->ethernet.dst, router->interfaces[from].own.hardware, 6) != 0)
         || !lk_read_ndisc(packet->frame, packet->len, &ndisc))
         return 0;
+    find_conflict(router, from, in, packet);
     const struct address *own = address_with(router, from, &ndisc.target, 1);
     if (ndisc.is_advert) {
         on_advert(router, from, &ndisc);
-        if (own != NULL && ndisc.has_hardware)
-            defend(router, own, ndisc.hardware);
-    } else if (own != NULL) {
+    } else if (own != NULL && !own->is_taken) {
         if (ndisc.has_hardware)
             hear(router, from, &in->src.addr, ndisc.hardware, 1, 0);
         if (!router->interfaces[from].kernel_ipv6)

@@ -8,8 +8,7 @@
 #include <stddef.h>
 
 enum { PROBE, ANNOUNCE, INTRODUCED };
-enum { BETWEEN_CONFLICTS = 10000, BETWEEN_CALLS = 1000 }; /* in milliseconds */
-enum { ADVERT_LEN = ETHERNET_LEN + 72 };
+enum { BETWEEN_CALLS = PROBE_TIME };
 
 /* Whether the kernel has this address of the router, and answers for it. */
 static int kernel_has(const struct router *router, const struct address *own)
@@ -18,30 +17,14 @@ static int kernel_has(const struct router *router, const struct address *own)
     return own->block.addr.version == 4 ? interface->kernel_ipv4 : interface->kernel_ipv6;
 }
 
-/* Tells all hosts the Ethernet address: an ARP announcement (RFC 5227, section 3), or an unsolicited advertisement (RFC
- * 4861, section 7.2.6). */
 static void announce(struct router *router, const struct address *own)
 {
-    static const struct lk_addr all_nodes = {.version = 6, .octets = {0xff, 2, [15] = 1}};
-    static const uint8_t group[6] = {0x33, 0x33, 0, 0, 0, 1};
-    const uint8_t *hardware = router->interfaces[own->interface].own.hardware;
-    const struct lk_addr *addr = &own->block.addr;
-    uint8_t out[ADVERT_LEN];
-    struct lk_frame headers = {.src = {.addr = *addr}, .dst = {.addr = all_nodes}};
-    struct lk_ndisc advert = {.target = *addr, .has_hardware = 1, .is_advert = 1, .is_router = 1, .overrides = 1};
-    if (addr->version == 4) {
-        send_request(router, own->interface, addr, addr, NULL);
-        return;
-    }
-    memcpy(headers.ethernet.src, hardware, 6);
-    memcpy(headers.ethernet.dst, group, 6);
-    memcpy(advert.hardware, hardware, 6);
-    ptrdiff_t len = lk_emit_ndisc_frame(&headers, &advert, out, sizeof out);
+    uint8_t out[LONGEST_REQUEST];
+    size_t len = write_announcement(router->interfaces[own->interface].own.hardware, &own->block.addr, 1, out);
     if (len > 0)
-        send_own(router, own->interface, out, (size_t)len);
+        send_own(router, own->interface, out, len);
 }
 
-/* A host that has the address replies (RFC 5227, section 2.1.1; RFC 4862, section 5.4.2). */
 static void probe(struct router *router, const struct address *own)
 {
     const struct lk_addr none = {.version = own->block.addr.version};
@@ -52,14 +35,16 @@ static void probe(struct router *router, const struct address *own)
 static void report_groups(struct router *router, uint16_t at)
 {
     struct interface *interface = &router->interfaces[at];
+    const struct lk_addr none = {.version = 6};
     uint8_t out[REPORT_LEN];
     if (!is_due(&interface->listener, router->now))
         return;
     interface->listener.report_at = 0;
     for (size_t i = 0; i < router->config.address_count; i++) {
         const struct address *own = &router->config.addresses[i];
-        if (own->interface == at && own->block.addr.version == 6)
-            send_own(router, at, out, write_report(interface->own.hardware, &own->block.addr, out));
+        const struct lk_addr *addr = &own->block.addr;
+        if (own->interface == at && addr->version == 6 && !own->is_taken)
+            send_own(router, at, out, write_report(interface->own.hardware, addr, is_link_local(addr) ? addr : &none, out));
     }
 }
 
@@ -86,28 +71,62 @@ void introduce(struct router *router)
         report_groups(router, i);
     }
     for (size_t i = 0; i < router->config.address_count; i++) {
-        const struct address *own = &router->config.addresses[i];
+        struct address *own = &router->config.addresses[i];
         const struct interface *interface = &router->interfaces[own->interface];
-        if (interface->is_up && interface->introduced < INTRODUCED && !kernel_has(router, own))
+        if (!interface->is_up || interface->introduced >= INTRODUCED || kernel_has(router, own))
+            continue;
+        if (interface->introduced == PROBE)
+            own->is_taken = 0;
+        if (!own->is_taken)
             (interface->introduced == PROBE ? probe : announce)(router, own);
     }
+    choose_sources(router);
     for (struct interface *one = router->interfaces; one < router->interfaces + router->interface_count; one++)
         one->introduced = !one->is_up ? PROBE : one->introduced < INTRODUCED ? one->introduced + 1 : INTRODUCED;
 }
 
-void defend(struct router *router, const struct address *own, const uint8_t *hardware)
+/* Another host has this address. */
+static void on_conflict(struct router *router, struct address *own, const uint8_t *hardware)
 {
     struct interface *interface = &router->interfaces[own->interface];
     char other[LK_ETHERNET_TEXT], addr[LK_ADDR_TEXT];
+    int is_probed = interface->introduced == ANNOUNCE && !kernel_has(router, own);
     int is_early = interface->defended_at != 0 && router->now - interface->defended_at < BETWEEN_CONFLICTS;
-    if (is_early || memcmp(hardware, interface->own.hardware, 6) == 0)
+    if (is_early && !is_probed)
         return;
-    interface->defended_at = router->now;
+    own->is_taken = (uint8_t)is_probed;
+    if (!is_probed)
+        interface->defended_at = router->now;
     lk_print_ethernet(hardware, other, sizeof other);
     lk_print_addr(&own->block.addr, addr, sizeof addr);
-    print(&router->errors, "%s: %s: %s uses the router's address %s\n", router->name, interface->name, other, addr);
-    if (!kernel_has(router, own))
+    print(&router->errors, "%s: %s: %s uses the router's address %s%s\n", router->name, interface->name, other, addr,
+          is_probed ? ", which is not used here" : "");
+    if (is_probed)
+        choose_sources(router);
+    else if (!kernel_has(router, own))
         announce(router, own);
+}
+
+void find_conflict(struct router *router, uint16_t from, const struct lk_frame *in, const struct packet *packet)
+{
+    const struct interface *interface = &router->interfaces[from];
+    uint8_t other[6];
+    for (size_t i = 0; i < router->config.address_count; i++) {
+        struct address *own = &router->config.addresses[i];
+        int is_probed = interface->introduced == ANNOUNCE && !kernel_has(router, own);
+        if (own->interface == from && !own->is_taken
+            && is_claimed(&own->block.addr, interface->own.hardware, is_probed, in, packet->frame, packet->len, other))
+            on_conflict(router, own, other);
+    }
+}
+
+int is_used(const struct router *router, const struct lk_addr *addr)
+{
+    const struct config *config = &router->config;
+    for (const struct address *own = config->addresses; own < config->addresses + config->address_count; own++)
+        if (memcmp(&own->block.addr, addr, sizeof *addr) == 0 && !own->is_taken)
+            return 1;
+    return 0;
 }
 
 /* ---- addresses of the kernel ---- */

@@ -2,8 +2,8 @@
 #ifndef ROUTER_H
 #define ROUTER_H
 
+#include "../claims.h"
 #include "../error_limit.h"
-#include "../listener.h"
 #include "../process.h"
 
 #include <ip_wire.h>
@@ -33,7 +33,7 @@ struct interface {
     struct listener listener;
     int64_t defended_at; /* when a conflict of addresses was reported last, in milliseconds; 0: never */
     int clamps;          /* the MTU limits the segments of TCP connections over it */
-    int renumbers;       /* packets that leave in fragments get an identification of the router (RFC 6864, section 5.3) */
+    int renumbers;       /* packets that may be fragmented get an identification of the router (RFC 6864, section 5.3.1) */
     struct lk_interface own;  /* its Ethernet address, and the addresses from which ICMP errors come */
     struct error_limit limit; /* for the errors that it sends */
     struct packet *queue[FRAMES_AT_ONCE]; /* in a buffer of the caller of `send_later` */
@@ -47,6 +47,7 @@ struct interface {
 struct address {
     struct lk_block block;
     uint16_t interface;
+    uint8_t is_taken; /* another host had it when the router asked: it is not used */
 };
 
 /* A neighbour that is never asked for its Ethernet address. */
@@ -84,7 +85,7 @@ enum { TO_ROUTER = 65535, TO_BROADCAST = 65534, MOST_INTERFACES = 65534 };
 
 /* Why a packet is dropped, after the reasons of `lk_rejection`. */
 enum drop {
-    OTHER_LINK = LK_OTHER_INTERFACE + 1, /* another Ethernet address */
+    OTHER_LINK = LK_REJECTION_COUNT,     /* another Ethernet address */
     TAGGED,                              /* a VLAN tag */
     GROUP,                               /* for a group or a broadcast, or its Ethernet address is one */
     LINK_LOCAL,                          /* from or for a link-local address */
@@ -93,9 +94,9 @@ enum drop {
     NO_WAY,                              /* no route */
     TOO_LONG,                            /* longer than the MTU of the next link, and must not be fragmented */
     NO_NEIGHBOUR,                        /* the next hop does not reply to ARP or neighbour solicitations */
+    TAKEN,                               /* the address outside is another host's */
     ABOVE_LIMIT,                         /* it needs a mapping, and its sender has as many as it may have */
-    BAD_FRAGMENT,                        /* a fragment that lk_reassemble rejects, or of one packet more than its sender
-                                          * may have */
+    BAD_FRAGMENT,                        /* a fragment that lk_reassemble rejects */
     DROPS
 };
 
@@ -183,6 +184,8 @@ void ask_again(struct router *router);
 /* Reads the file with addresses, routes and neighbours, at the start or again. Returns 0 if that fails, with a message.
  * Then the router keeps what it has. */
 int read_config(struct router *router, int is_again);
+/* Chooses the addresses from which ICMP errors come, among those that are used. */
+void choose_sources(struct router *router);
 
 /* ---- forward.c ---- */
 
@@ -204,9 +207,11 @@ void print_counts(struct router *router);
 /* Returns 0 if there is no memory. */
 int make_tables(void);
 /* Takes a fragment. Returns 1 if its packet is complete: then it is in `packet`. `in` is the fragment as it was read. */
-int make_whole(struct router *router, enum table place, const struct lk_frame *in, struct packet *packet);
+int make_whole(struct router *router, uint16_t from, enum table place, const struct lk_frame *in, struct packet *packet);
 /* Drops fragments whose time is over, and tells their senders. To be called once a second. */
 void expire_fragments(struct router *router);
+/* Gives a packet over IPv4 an identification of the router. */
+void renumber(struct packet *packet);
 /* Sends a packet over IPv4 in fragments, and returns their number. `is_own`: they get an identification of the router. */
 size_t send_fragments(struct interface *interface, const uint8_t *frame, size_t len, int is_own);
 
@@ -229,9 +234,13 @@ void send_error(struct router *router, uint16_t from, enum lk_problem problem, s
 void introduce(struct router *router);
 /* Takes a query of multicast listener discovery. Returns 0 if the packet is none for a group of the router. */
 int on_query(struct router *router, uint16_t from, const struct packet *packet);
-/* Another Ethernet address claims an address of the router. Reports it and announces the address, once in 10 seconds
- * (RFC 5227, section 2.4 c). Does nothing if it is the router's own Ethernet address. */
-void defend(struct router *router, const struct address *own, const uint8_t *hardware);
+/* A packet of ARP or neighbour discovery may say that another host has an address of the router. If the router has just asked
+ * for it, the address is not used until the link comes up again or the file is read again (RFC 5227, section 2.1.1; RFC
+ * 4862, section 5.4.5). Else the conflict is reported and the address announced, once in 10 seconds (RFC 5227, section
+ * 2.4 c). */
+void find_conflict(struct router *router, uint16_t from, const struct lk_frame *in, const struct packet *packet);
+/* Whether the router has this address, and uses it. */
+int is_used(const struct router *router, const struct lk_addr *own);
 /* Whether this address of the router is one that the kernel answers for. */
 int is_of_kernel(const struct router *router, const struct lk_addr *own);
 /* Reports the addresses that the kernel should have and has not. */
@@ -251,5 +260,9 @@ struct limit *make_limit(size_t most, size_t count);
 /* Counts the mapping at `place` if lk_translate_out has opened it. Returns 0, and frees it, if its inside address has
  * too many. One that has ended may count until the packets of its address have looked at all of them. */
 int is_within_limit(struct limit *limit, struct lk_mapping *mappings, size_t place, uint64_t now);
+/* Whether an inside endpoint, that of `endpoint`, has a live mapping that was counted. `protocol` is 0 for UDP, 1 for TCP and
+ * 2 for ICMP. */
+int has_mapping(struct limit *limit, const struct lk_mapping *mappings, size_t protocol, const struct lk_mapping *endpoint,
+                uint64_t now);
 
 #endif

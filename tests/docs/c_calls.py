@@ -1,13 +1,17 @@
 #!/usr/bin/env python3
 """Compares the calls, structs and enums of c/ip_wire.h with the sources of the C library.
 
-    tests/docs/c_calls.py [TOP]
+    tests/docs/c_calls.py
+    tests/docs/c_calls.py --write    writes docs/audit/CALLS.md
 
 Each call of the header must be a function of c_exports, c/cpu.c or c/names.c with the same types, and the other way round.
 Each struct with `repr(C)` must have the same fields in the same order, and each enum and each failure the same names and
-numbers. `lk_append` and its struct are in the header only. Each name `lk_..` in README.md and docs/ must be in the header.
+numbers. A constant such as LK_REASON_COUNT must be the number of names of its enum, and no example and no source of c/ has
+a name of an enum plus one instead. `lk_append` and its struct are in the header only. Each name `lk_..` in README.md and
+docs/ must be in the header.
+Each call must also be judged, counted and wrapped, or the list docs/audit/CALLS.md says why not (tests/docs/call_list.py).
 Differences are printed, and the status is 1 then; also if tools/from_header.py would write
-anything else. TOP is the top of the repository. tests/install/run compares the header with the man pages.
+anything else. tests/install/run compares the header with the man pages.
 """
 import glob
 import os
@@ -16,6 +20,7 @@ import sys
 
 TOP = os.path.dirname(os.path.dirname(os.path.dirname(os.path.abspath(__file__))))
 sys.path.append(os.path.join(TOP, "tools"))
+import call_list  # noqa: E402
 import from_header  # noqa: E402
 from from_header import ONLY_C, calls_of, read, structs_of, without_comments  # noqa: E402
 from sources import Sources  # noqa: E402
@@ -64,6 +69,23 @@ def c_enums(text):
         for word, number in re.findall(r"(\w+)(?: = (\d+))?", body):
             numbers[word] = int(number) if number else max(numbers.values(), default=-1) + 1
         yield name, numbers
+
+
+def wrong_counts(text):
+    """The constants LK_.._COUNT that are not the number of names of their enum, which are from 0 on."""
+    enums = dict(c_enums(text))
+    for name, count in re.findall(r"#define LK_(\w+)_COUNT (.+)", text):
+        numbers = enums.get("lk_" + name.lower(), {})
+        if sorted(numbers.values()) != list(range(len(numbers))) or count != str(len(numbers)):
+            yield f"LK_{name}_COUNT is {count}, and enum lk_{name.lower()} has {len(numbers)} names"
+
+
+def guessed_counts(top, text):
+    """Where a program takes a name of an enum for the last one. Then it has too few places after the next one came."""
+    names = "|".join(name for _, numbers in c_enums(text) for name in numbers)
+    for path in sorted(glob.glob(top + "/examples/**/*.[ch]", recursive=True) + glob.glob(top + "/c/*.c")):
+        for found in re.findall(rf"\b(?:{names}) *\+ *1\b", read(path)):
+            yield f"{os.path.relpath(path, top)}: {found}: the header has a constant for the number of names"
 
 
 class Library:
@@ -169,20 +191,25 @@ def unknown_names(top, header):
                 yield f"{os.path.relpath(path, top)}: {name} is not in the header"
 
 
-def main(top):
-    header = read(top + "/c/ip_wire.h")
-    sources = Library(top)
+def main(words):
+    if words not in ([], ["--write"]):
+        sys.exit(__doc__)
+    header = read(TOP + "/c/ip_wire.h")
+    sources = Library(TOP)
     calls = dict(c_calls(header))
     found = [
-        *differences(calls, [*sources.calls(), *(call for name in OF_C for call in c_calls(read(top + name)))]),
+        *differences(calls, [*sources.calls(), *(call for name in OF_C for call in c_calls(read(TOP + name)))]),
         *differences((it for it in structs_of(header) if it[0] not in {*ONLY_C, OPAQUE}), sources.structs()),
         *differences(c_failures(header), sources.failures()),
         *differences(c_enums(header), sources.enums()),
-        *unknown_names(top, header),
+        *wrong_counts(header),
+        *guessed_counts(TOP, header),
+        *unknown_names(TOP, header),
+        *call_list.check(bool(words)),
     ]
     print("".join(line + "\n" for line in found), end="")
     return 1 if found or not calls else from_header.main(["--check"])
 
 
 if __name__ == "__main__":
-    sys.exit(main(sys.argv[1] if len(sys.argv) > 1 else TOP))
+    sys.exit(main(sys.argv[1:]))

@@ -1,12 +1,12 @@
 #!/usr/bin/env python3
-"""Checks the diagrams of docs/audit/DIAGRAMS.md against the definitions and laws of the sources, and the recorded calls.
+"""Checks the diagrams of docs/audit/DIAGRAMS.md against the definitions and laws of the sources, and the calls of setters.
 
     tests/docs/diagrams.py [TOP]
 
 The widths of the fields in each diagram must be those of the definition `diagram` of its module. Each field must have a row
 in `write_of`, unless its name says that it is reserved. Each setter of the view must be a row too, and both laws of the view
-must call what their rows name. tests/data/calls/set.call must have a line for each setter. What differs is printed, and the status is
-1 then. TOP is the top of the repository.
+must call what their rows name. The lines `set` of tests/frames/field_lines.py must have one for each setter. What differs is
+printed, and the status is 1 then. TOP is the top of the repository.
 """
 import os
 import re
@@ -14,9 +14,13 @@ import sys
 
 import drawings
 
+sys.path.append(os.path.join(os.path.dirname(os.path.abspath(__file__)), "../frames"))
+import field_lines  # noqa: E402
+
+SET_LINES = "\n".join(field_lines.calls()["set"])
 RESERVED = {"0", "Res", "Rsrvd", "Reserved"}
 # The heading of a diagram, its module, the files of its setters, how many of the drawn fields the view leaves out in front, and
-# the view's word in the calls, if they are recorded.
+# the view's word in these lines, if it has one.
 VIEWS = [
     ("Ethernet II", "wire_ethernet", "Ethernet", ["ethernet.rt"], 0, "eth"),
     ("ARP", "wire_arp", "Arp", ["arp/packet_mut.rt"], 0, "arp"),
@@ -55,8 +59,7 @@ def differences(heading, crate, name, files, front, word, drawn):
     yield from (f"{heading}: no row of write_of has the field {field!r}" for field in unnamed if field not in RESERVED)
     source = "".join(read(f"crates/{crate}/src/{file}") for file in files)
     calls = set(re.findall(r"pub fn ((?:set|clear|fill|update)_\w+)\(&mut self", source))
-    lines = read("tests/data/calls/set.call")
-    yield from (f"{heading}: no call of {call} is recorded" for call in sorted(calls) if word and f"set {word} {call} " not in lines)
+    yield from (f"{heading}: no line calls {call}" for call in sorted(calls) if word and f"set {word} {call} " not in SET_LINES)
     setters = {call[len("set_") :] for call in calls if call.startswith("set_")}
     written = {snake(row) for row, _ in rows}
     yield from (f"{heading}: the law has no row for set_{setter}" for setter in sorted(setters - written))

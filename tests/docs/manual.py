@@ -6,6 +6,9 @@
 The text of a section ends with a full stop or a colon, or in literal lines. No paragraph begins with "it", because what
 it means may be on another page or in another section, and none is about "the next" calls or structs. What is wrong is
 printed. Each fault that is planted in the header must be noticed. If one is not, the status is 1 too.
+
+The date of a page in man/ is not before the last commit that changed it. c/pages gives that of ip_wire.3 to all pages of
+calls, so it is not before that of the header. Without history the dates are not compared.
 """
 import glob
 import os
@@ -14,9 +17,12 @@ import shutil
 import subprocess
 import sys
 import tempfile
+from datetime import date, datetime
 
 TOP = os.path.dirname(os.path.dirname(os.path.dirname(os.path.abspath(__file__))))
 SOURCES = ("c/pages", "c/ip_wire.h", "man/ip_wire.3")
+# The pages that are written by hand, with the files whose changes they show.
+DATED = {"man/ip_wire.3": ["man/ip_wire.3", "c/ip_wire.h"], "man/ip_frames.1": ["man/ip_frames.1"], "man/ip_dump.1": ["man/ip_dump.1"]}
 # Sections of names, declarations and references.
 OF_CODE = ("NAME", "SYNOPSIS", "TYPES", "SEE ALSO")
 BEGINS_WITH_IT = re.compile(r"(?:\w+ )?its?\b", re.I)
@@ -77,6 +83,18 @@ def faults(top):
                 yield from ((os.path.basename(path), fault) for fault in faults_of(text))
 
 
+def old_dates():
+    """The pages with a date before their last change."""
+    for page, sources in DATED.items():
+        log = subprocess.run(["git", "-C", TOP, "log", "-1", "--format=%ad", "--date=short", "--", *sources],
+                             capture_output=True, text=True, check=False).stdout
+        with open(os.path.join(TOP, page), encoding="utf-8") as file:
+            said = re.search(r"^\.Dd (.*)$", file.read(), re.M)[1]
+        changed = date.fromisoformat(log.strip()) if log.strip() else date.min
+        if datetime.strptime(said, "%B %d, %Y").date() < changed:
+            yield f"{page}: .Dd {said} is before its last change, {changed:%B} {changed.day}, {changed.year}"
+
+
 def unnoticed(top):
     """The planted faults that are not noticed. `top` has the sources, which are changed."""
     path = os.path.join(top, "c/ip_wire.h")
@@ -93,7 +111,7 @@ def unnoticed(top):
 
 
 def main():
-    found = [f"{page}: {fault}" for page, fault in faults(TOP)]
+    found = [*(f"{page}: {fault}" for page, fault in faults(TOP)), *old_dates()]
     with tempfile.TemporaryDirectory() as top:
         for source in SOURCES:
             os.makedirs(os.path.dirname(os.path.join(top, source)), exist_ok=True)

@@ -9,7 +9,8 @@
 - The files and goals of make that its commands name exist.
 - The lines of a fenced excerpt stand in one file of the sources. A line `..` skips lines. Rattle code that is a
   whole file is left to tests/docs/examples.
-- No page is longer than it may be, and all pages together are not.
+- No line of a text is longer than 120 columns, and all code is fenced.
+- No page has a mail address at a domain that is reserved for examples.
 
 What is wrong is printed, and the status is 1 then. TOP is the top of the repository.
 """
@@ -22,25 +23,6 @@ TOP = os.path.dirname(os.path.dirname(os.path.dirname(os.path.abspath(__file__))
 sys.path.append(os.path.join(TOP, "tools"))
 from sources import WORD, Sources  # noqa: E402
 
-# The pages that are written by hand, with the most lines that each may have, and that all may have.
-LONGEST = {
-    "README.md": 120,
-    "docs/GUIDE.md": 250,
-    "docs/CONTRACTS.md": 260,
-    "docs/C.md": 150,
-    "docs/USES.md": 305,
-    "docs/TCP.md": 153,
-    "docs/ROUTER.md": 200,
-    "docs/DIFFERENCES.md": 150,
-    "docs/TRUST.md": 181,
-    "docs/CONTRIBUTING.md": 300,
-    "docs/DECISIONS.md": 307,
-    "docs/PERF.md": 200,
-    "bindings/rust/README.md": 50,
-    "bindings/python/README.md": 100,
-    "bindings/go/README.md": 60,
-}
-MOST = 2727
 # Names of old commits, of smoltcp, of the standard library and of Linux.
 FOREIGN = {"ip_nat", "pretty_print", "AsMut", "is_private", "to_ipv6_mapped", "CAP_NET_ADMIN",
            "CAP_NET_RAW", "frame_raw"}
@@ -56,6 +38,7 @@ LANGUAGES = {*EXCERPTS, "console", "sh", "text"}
 BUILT = {".git", "out", "target", "__pycache__"}
 ENDINGS = "rt|antt|c|h|py|md|txt|hex|pcap|svg|map|sh"
 FENCE = re.compile(r"^( *)```(\w*)\s*$")
+RESERVED_MAIL = re.compile(r"[\w.+-]+@(?:[\w-]+\.)*(?:example|invalid|test|localhost)\b(?:\.(?:com|net|org)\b)?")
 PLACEHOLDER = re.compile(r"[A-Z]{3,}(?!\.md)")
 
 
@@ -236,6 +219,12 @@ def command_faults(page, tree):
                 yield from ((number, "there is no file " + path) for path in paths if not tree.has_file(path, ""))
 
 
+def mail_faults(page):
+    """Addresses to which nobody can write (RFC 2606)."""
+    for number, line in enumerate(page.lines, 1):
+        yield from ((number, f"{it} is at a reserved domain") for it in RESERVED_MAIL.findall(line))
+
+
 def form_faults(page):
     if page.is_open:
         yield len(page.lines), "a fence is not closed"
@@ -246,9 +235,6 @@ def form_faults(page):
         if line.startswith("    ") and not before.strip() and not re.match(r"\s+([-*]|\d+\.) ", line):
             yield number, "code is not fenced"
         before = line
-    most = LONGEST.get(page.path)
-    if most and len(page.lines) - 1 > most:
-        yield len(page.lines), f"the page has more than {most} lines"
 
 
 def report(faults):
@@ -270,15 +256,11 @@ def main(top):
     faults = []
     for page in pages.values():
         folder = os.path.dirname(page.path)
-        found = [*form_faults(page), *link_faults(page, pages), *excerpt_faults(page), *command_faults(page, tree)]
+        found = [*form_faults(page), *mail_faults(page), *link_faults(page, pages), *excerpt_faults(page), *command_faults(page, tree)]
         starts = [number for number, _ in page.text]
         spans = page.spans() if page.path not in UNNAMED else []
         found += [(starts[line], fault) for line, span in spans for fault in [span_fault(span, tree, folder)] if fault]
         faults += [f"{page.path}:{number}: {fault}" for number, fault in found]
-    faults += [f"{path}: this page is not there" for path in LONGEST if path not in pages]
-    total = sum(len(pages[path].lines) - 1 for path in LONGEST if path in pages)
-    if total > MOST:
-        faults.append(f"the pages that are written by hand have {total} lines, more than {MOST}")
     return report(faults)
 
 

@@ -3,7 +3,8 @@
 
 It is made twice, with the same bytes. Its HTML must be well-formed, no name may be twice in a page, and each link must
 lead to a page or name of the reference. Each public call of the libraries and each law must be on a page. LEAST of the
-clauses must be said in words. What is wrong is printed, and the status is 1 then. TOP is the top of the repository.
+clauses must be shown in words, and at most UNSAID have none; others have too many. What is wrong is printed, and the status
+is 1 then. TOP is the top of the repository.
 """
 import os
 import re
@@ -18,7 +19,7 @@ MAKER = os.path.join(TOP, "tools/reference")
 sys.path.append(MAKER)
 from model import LIBRARIES, VIEW, Sources  # noqa: E402
 
-LEAST = 0.99
+LEAST, UNSAID = 0.82, 0.01
 EMPTY = "meta", "link", "input", "br", "hr", "img"
 
 
@@ -100,8 +101,10 @@ def main(top):
         faults += [f"no page has {call} of {place}"] if place not in places else []
         if has_condition and f"<code>{call}</code></a>" not in texts["conditions.html"]:
             faults.append(f"conditions.html lacks {call} of {place}")
-    said, unsaid = (int(re.search(rf"(\d+) clauses {what}", shown)[1]) for what in ("in words", "only as text"))
-    faults += [f"only {said} of {said + unsaid} clauses are in words"] if said < LEAST * (said + unsaid) else []
+    counts = [int(re.search(rf"(\d+) clauses {what}", shown)[1]) for what in ("in words", "without words", "too long for words")]
+    said, unsaid, _ = counts
+    faults += [f"only {said} of {sum(counts)} clauses are in words"] if said < LEAST * sum(counts) else []
+    faults += [f"{unsaid} of {sum(counts)} clauses have no words"] if unsaid > UNSAID * sum(counts) else []
     print("".join(fault + "\n" for fault in faults), end="")
     return 1 if faults else 0
 

@@ -18,17 +18,16 @@ from sources import Sources  # noqa: E402
 DOCUMENT = "docs/audit/REQUIREMENTS.md"
 # The crates with test functions, by the first word of their names in the tables.
 TESTS = {
-    "wire": "test_wire", "apps": "test_apps", "fragments": "test_fragments", "tcp": "app_tcp",
-    "connection": "app_connection", "congestion": "app_congestion", "options": "app_options",
-    "socket": "app_socket", "frames": "ip_frames",
+    **{kind: f"test_{kind}/src/tests" for kind in ("wire", "apps", "fragments")}, "frames": "ip_frames/src/tests",
+    **{kind: f"test_tcp/src/tests/{kind}" for kind in ("tcp", "connection", "congestion", "options", "socket")},
 }
 LIBRARY = re.compile(r"net_base|ip_wire|wire_\w+")
 # The libraries whose types a Rattle program uses, also those of `wire_*` that `ip_wire` does not export. The types of the
 # crates for C are its structs and numbers.
 SHOWN = re.compile(r"net_base|(?:ip|app|wire)_\w+")
-# The crates that use the layer through `ip_wire` only. They may name the formats beside `ip_wire` too. Crates with tests or
-# needs of the layer name what they test, and those of TCP name its options, so that they are proved early.
-ABOVE = re.compile(r"ip_(?!wire\b)\w+|app_\w+|promises|needs_(?!layer\b)\w+|test_(?!wire\b|support\b)\w+")
+# The crates that use the layer through `ip_wire` only. They may name the formats beside `ip_wire` too. Crates with tests of
+# the layer name what they test, and those of TCP name its options, so that they are proved early.
+ABOVE = re.compile(r"ip_(?!wire\b)\w+|app_\w+|promises\w*|test_(?!wire\b|support\b)\w+")
 BESIDE = ("wire_icmp", "wire_link", "wire_extensions", "wire_tcp_options")
 TEST_FUNCTION = re.compile(r"#\[test\]\n(?: *#.*\n)* *fn (\w+)\(")
 # A function that allocates is given an allocator, and returns one of these types.
@@ -103,8 +102,8 @@ class Statements:
 def test_functions(path):
     """The test functions of a file below src/tests, with or without the first word of its crates."""
     kind, _, file = path.partition("/")
-    crates = [TESTS[kind]] if file and kind in TESTS else sorted(TESTS.values())
-    paths = [p for crate in crates for p in glob.glob(f"crates/{crate}/src/tests/{file or kind}.rt")]
+    folders = [TESTS[kind]] if file and kind in TESTS else sorted(TESTS.values())
+    paths = [p for folder in folders for p in glob.glob(f"crates/{folder}/{file or kind}.rt")]
     found = [TEST_FUNCTION.findall(read(p)) for p in paths]
     return found[0] if len(found) == 1 else []
 
@@ -125,10 +124,6 @@ def is_test(name):
         *crate, edit = name[len("wrong ") :].split("/")
         paths = glob.glob(f"crates/{crate[0] if crate else '*'}/edits.txt")
         return any(re.search(f"^name: +{edit}$", read(path), re.M) for path in paths)
-    if name.startswith("tests/all/"):
-        function = name.split("/")[2]
-        is_used = re.search(rf"^ *check .* {function}\b", read("tests/all"), re.M)
-        return bool(is_used) and any(f"\n{function}() {{" in read(path) for path in glob.glob("tests/*/checks.sh"))
     if os.path.exists(name):
         return True
     module, _, function = name.rpartition("::")

@@ -6,13 +6,14 @@
 The statements are all names that a library exports, the public functions with their conditions and promises, the public
 types and constants, the members of each `impl` and trait, and all definitions of specs/, wherever they stand: no layout,
 comments, bodies or proofs, and no private item that nothing of this names. A law that returns or changes a value is stated
-with its body, because it promises something of what the body does. So is each function of promises, private ones too.
-An imported name is the same as long as what it means is the same.
+with its body, because it promises something of what the body does. So is each function of promises and promises_c, private
+ones too. An imported name is the same as long as what it means is the same.
 
-With a commit it prints all that differs. Without one it compares with the commit that a paragraph in the part "Unreleased" of
+With a commit it prints all that differs. Without one it compares with the commit that a paragraph in the first part of
 CHANGELOG.md names by `make statements SINCE=COMMIT`. What is gone since, or asks for more, must be named in this paragraph as
-`NAME` or `TYPE::NAME`. The rest is printed, and the status is 1 then. It is 77 if there is no such commit here, as in a copy
-without its history.
+`NAME` or `TYPE::NAME`. The rest is printed, and the status is 1 then. So it is if the commit lacks a crate: what this crate
+states would be compared with nothing. What only moved into a new crate is compared with what it was. The commit must be one
+before this one. Without a history, as in an archive or a shallow copy, the status is 77.
 """
 import collections
 import io
@@ -28,11 +29,11 @@ sys.path.append(os.path.join(TOP, "tools"))
 from contracts import ReadError  # noqa: E402
 from sources import Sources, words_of  # noqa: E402
 
-UNRELEASED = re.compile(r"^## Unreleased\n(.*?)(?=^## |\Z)", re.M | re.S)
+UNRELEASED = re.compile(r"^## [\d.]+ \(not released\)\n(.*?)(?=^## |\Z)", re.M | re.S)
 # The paragraph of the comparison, and the commit that it names.
 SINCE = re.compile(r"^(?:.+\n)*?.*`make statements SINCE=(\S+)`.*\n(?:.+\n)*", re.M)
 # The crates whose functions promise something of what their bodies do, beside the laws.
-PROMISES = {"promises"}
+PROMISES = {"promises", "promises_c"}
 # Attributes that change no statement.
 PLAIN = re.compile(r"(?:inline|allow|tactic|must_use|cold)\b")
 
@@ -187,9 +188,17 @@ def differences(old, new):
     return gone, [fact for facts in left.values() for fact in facts]
 
 
-def narrowed(old, new):
+def uncompared(old, new, added):
+    """The crates that only the new sources have, with the number of their statements that are compared with nothing."""
+    for name, crate in new.crates.items():
+        if name not in old.crates and not crate.is_for_tests:
+            fresh = [fact for fact in Statements(new, crate).facts() if fact.kind not in ("export", "passed on by") and fact in added]
+            if fresh:
+                yield f"{name} ({len(fresh)})"
+
+
+def narrowed(old, new, gone, added):
     """What is gone, and what asks for more."""
-    gone, added = differences(old, new)
     known = {(fact.owner, fact.name) for fact in statements_of(old)}
     yield from (("gone", fact) for fact in gone if fact.kind != "condition of")
     yield from (("new", fact) for fact in added if fact.kind == "condition of" and (fact.owner, fact.name) in known)
@@ -200,9 +209,23 @@ def is_told(fact, told):
     return (f"{fact.owner}::{fact.name}" if fact.owner else fact.name) in told
 
 
+def git(*words):
+    return subprocess.run(["git", "-C", TOP, *words], capture_output=True, check=False)
+
+
+def has_history():
+    """Whether this is a repository with all commits before the one that is checked out."""
+    if not os.path.exists(os.path.join(TOP, ".git")):
+        return False
+    found = git("rev-parse", "--git-path", "shallow")
+    if found.returncode:
+        raise ReadError(found.stderr.decode().strip())
+    return not os.path.exists(os.path.join(TOP, found.stdout.decode().rstrip("\n")))
+
+
 def sources_of(commit):
     """The sources of a commit. None if the repository does not have it."""
-    packed = subprocess.run(["git", "-C", TOP, "archive", commit, "crates", "crates.txt"], capture_output=True, check=False)
+    packed = git("archive", commit, "crates", "crates.txt")
     if packed.returncode:
         return None
     with tempfile.TemporaryDirectory() as room:
@@ -216,31 +239,43 @@ def told_since():
         part = UNRELEASED.search(file.read())
     since = part and SINCE.search(part[1])
     if not since:
-        sys.exit('CHANGELOG.md: its part "Unreleased" does not say with which commit the statements are compared')
+        sys.exit('CHANGELOG.md: its part on what is not released does not say with which commit the statements are compared')
     return since[1], set(re.findall(r"`([\w:]+)`", since[0]))
+
+
+def check(since, told):
+    """Prints what is gone or narrower since a commit and not told, and what is compared with nothing. Returns the status."""
+    old, new = sources_of(since), Sources(TOP)
+    if not old and not has_history():
+        print(f"tests/docs/statements.py: skipped: there is no history here, so no commit {since}")
+        return 77
+    if not old or git("merge-base", "--is-ancestor", since, "HEAD").returncode:
+        print(f"CHANGELOG.md: SINCE={since} is no commit before this one")
+        return 1
+    gone, added = differences(old, new)
+    found = [f"{how}: {shown(fact)}" for how, fact in narrowed(old, new, gone, added) if not is_told(fact, told)]
+    print("".join(line + "\n" for line in found), end="")
+    if found:
+        print(f"CHANGELOG.md does not name these beside SINCE={since}: they were stated otherwise then")
+    fresh = list(uncompared(old, new, added))
+    if fresh:
+        print(f"CHANGELOG.md: SINCE={since} lacks these crates. Name a commit that has them, so that their statements")
+        print(f"are compared too: {', '.join(fresh)}")
+    return 1 if found or fresh else 0
 
 
 def main(words):
     if len(words) > 1:
         sys.exit(__doc__)
-    since, told = (words[0], None) if words else told_since()
-    old = sources_of(since)
-    if not old and words:
-        sys.exit(f"tests/docs/statements.py: {since} is no commit of this repository")
+    if not words:
+        return check(*told_since())
+    old = sources_of(words[0])
     if not old:
-        print(f"tests/docs/statements.py: skipped: there is no commit {since} here")
-        return 77
-    new = Sources(TOP)
-    if words:
-        gone, added = differences(old, new)
-        found = sorted((shown(fact), sign) for sign, facts in (("-", gone), ("+", added)) for fact in facts)
-        print("".join(f"{sign} {text}\n" for text, sign in found), end="")
-        return 0
-    found = [f"{how}: {shown(fact)}" for how, fact in narrowed(old, new) if not is_told(fact, told)]
-    print("".join(line + "\n" for line in found), end="")
-    if found:
-        print(f'CHANGELOG.md does not name these beside SINCE={since}: they were stated otherwise then')
-    return 1 if found else 0
+        sys.exit(f"tests/docs/statements.py: {words[0]} is no commit of this repository")
+    gone, added = differences(old, Sources(TOP))
+    found = sorted((shown(fact), sign) for sign, facts in (("-", gone), ("+", added)) for fact in facts)
+    print("".join(f"{sign} {text}\n" for text, sign in found), end="")
+    return 0
 
 
 if __name__ == "__main__":

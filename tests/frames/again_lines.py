@@ -1,17 +1,13 @@
-#!/usr/bin/env python3
-"""Writes tests/data/calls/again.call, packets that are parsed and emitted again under each choice of checksums, and again.txt, what is emitted.
-
-    tests/frames/again_lines.py [FOLDER]
+"""The lines `again`, packets that are parsed and emitted again under each choice of checksums, with the bytes that are expected.
 
 A choice verifies checksums, computes them, does both or neither. tests/frames/packets.py builds each packet and its expected copy. So no
-answer comes from the library. The lines are the same in each run.
+answer comes from the library. The lines are the same in each run. written.py writes them.
 """
 import ipaddress
 import itertools
 from collections import namedtuple
 
 import packets
-from record import write_calls
 
 # The letters of the choices: neither, verify (Rx), compute (Tx), both.
 CHOICES = "nrtb"
@@ -91,9 +87,6 @@ def lines():
         yield f"again {operands}".rstrip(), "malformed"
 
 
-def main():
-    write_calls("again", dict(lines()))
-
-
-if __name__ == "__main__":
-    main()
+def calls():
+    """The answer to each line, by kind."""
+    return {"again": dict(lines())}

@@ -1,7 +1,4 @@
-#!/usr/bin/env python3
-"""Writes tests/data/calls/class.call, lines that ask for the classes of an address, and class.txt, the expected answers.
-
-    tests/frames/class_lines.py [FOLDER]
+"""The lines `class`, which ask for the classes of an address, with the expected answers. written.py writes them.
 
 The answers come from the blocks that RFCs define, not from a reference program. The lines are the same in each run.
 """
@@ -9,7 +6,6 @@ import ipaddress
 import itertools
 
 from dice import Random
-from record import write_calls
 
 # The classes in the order of an answer, with the blocks that they are.
 CLASSES = {
@@ -96,10 +92,8 @@ HAND_WRITTEN = [
 ]
 
 
-def main():
+def calls():
+    """The answer to each line, by kind."""
     found = dict.fromkeys([*HAND_WRITTEN, *map(str, addresses())])
-    write_calls("class", {f"class {text}": answer(ipaddress.ip_address(text)) for text in found})
+    return {"class": {f"class {text}": answer(ipaddress.ip_address(text)) for text in found}}
 
-
-if __name__ == "__main__":
-    main()

@@ -1,7 +1,4 @@
-#!/usr/bin/env python3
-"""Writes the calls of setters and getters, tests/data/calls/set.call and get.call, and the answers, set.txt and get.txt.
-
-    tests/frames/field_lines.py [FOLDER]
+"""The lines `set` and `get`, calls of setters and getters, with the expected answers. written.py writes them.
 
 The fields are those of the drawings in docs/audit/DIAGRAMS.md. This program reads and writes their bits itself, and computes
 the checksums by RFC 1071 and RFC 1624. So no answer comes from the library. The lines are the same in each run.
@@ -15,7 +12,6 @@ sys.path.append(f"{sys.path[0]}/../docs")
 import drawings
 from dice import Random
 from packets import pseudo_header, word_sum
-from record import write_calls
 
 MALFORMED = "malformed"
 
@@ -366,10 +362,6 @@ def get_rows():
     yield from [("get", MALFORMED), ("get icmp 00000000", MALFORMED), ("get udp 00000000 00000000", MALFORMED)]
 
 
-def main():
-    write_calls("set", dict(set_rows()))
-    write_calls("get", dict(get_rows()))
-
-
-if __name__ == "__main__":
-    main()
+def calls():
+    """The answer to each line, by kind."""
+    return {"set": dict(set_rows()), "get": dict(get_rows())}

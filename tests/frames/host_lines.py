@@ -1,7 +1,4 @@
-#!/usr/bin/env python3
-"""Writes tests/data/calls/host.call, frames that a host gets, and host.txt, the reply to each or `-`.
-
-    tests/frames/host_lines.py [FOLDER]
+"""The lines `host`, frames that a host gets, with the reply to each or `-`. written.py writes them.
 
 Each row is a frame that gets a reply, with one thing varied, which its name tells. The table of the row says by the RFCs whether
 there is a reply, and tests/frames/host_packets.py builds it. So nothing here comes from the library.
@@ -11,10 +8,9 @@ import dataclasses
 import itertools
 
 from host_packets import (ACK, ALL_NODES, ARP, BROADCAST, CLOSED, CWR, ECE, ECHO, FIN, IPV4, IPV6, NODE_GROUP, OPEN, OTHER_LINK, OUR_LINK,
-                          PSH, RST, SACK_PERMITTED, SYN, THEIR_LINK, URG, Ipv4, Ipv6, accepted, addr, advertised, asked, echo_reply,
+                          PSH, RST, SACK_PERMITTED, SYN, THEIR_LINK, URG, WRONG, Ipv4, Ipv6, accepted, addr, advertised, asked, echo_reply,
                           echo_request, group_link, lladdr, mss, option, ping, pong, reset, scale, segment, solicited, timestamps, told,
-                          udp, unknown, unreachable)
-from record import write_calls
+                          turned, udp, unknown, unreachable)
 
 
 @dataclasses.dataclass
@@ -80,16 +76,6 @@ SOURCES = {
           ("fc00::1", True), ("fe80::1", True), ("feff:ffff:ffff:ffff:ffff:ffff:ffff:ffff", True), ("ff00::", False), ("ff02::1", False),
           ("ff0e::101", False), ("ffff:ffff:ffff:ffff:ffff:ffff:ffff:ffff", False), ("2001:db8::2", False)],
 }
-
-
-# Bits to turn in a checksum that is right.
-WRONG = [0x0001, 0x8000, 0x0101, 0xFFFE]
-
-
-def turned(frame, at, mask):
-    """The frame with these bits of the 16-bit word at this byte turned."""
-    word = int.from_bytes(frame[at:at + 2], "big") ^ mask
-    return frame[:at] + word.to_bytes(2, "big") + frame[at + 2:]
 
 
 def link_rows(v, name, ask, reply):
@@ -499,13 +485,11 @@ def rows():
     yield from asker_rows()
 
 
-def main():
+def calls():
+    """The answer to each line, by kind."""
     found = list(rows())
     names = [one.name for one in found]
     assert len(set(names)) == len(names), [name for name, times in collections.Counter(names).items() if times > 1]
-    write_calls("host", {f"host {one.name} {one.host.words()} {one.frame.hex() or '-'}":
-                         f"{one.name} {one.reply.hex() if one.reply else '-'}" for one in found})
+    return {"host": {f"host {one.name} {one.host.words()} {one.frame.hex() or '-'}":
+                     f"{one.name} {one.reply.hex() if one.reply else '-'}" for one in found}}
 
-
-if __name__ == "__main__":
-    main()

@@ -173,3 +173,13 @@ def asked(link_dst=BROADCAST, link_src=THEIR_LINK, ethertype=ARP, padding=b"", *
 def told(link=THEIR_LINK, spa=addr("192.0.2.1")):
     """The reply to an ARP request (RFC 826): the fields exchanged, with our hardware address."""
     return ethernet(ARP, arp(2, sha=OUR_LINK, spa=addr("192.0.2.2"), tha=link, tpa=spa), link, OUR_LINK)
+
+
+# Bits to turn in a checksum that is right.
+WRONG = [0x0001, 0x8000, 0x0101, 0xFFFE]
+
+
+def turned(frame, at, mask):
+    """The frame with these bits of the 16-bit word at this byte turned."""
+    word = int.from_bytes(frame[at:at + 2], "big") ^ mask
+    return frame[:at] + word.to_bytes(2, "big") + frame[at + 2:]

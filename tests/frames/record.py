@@ -35,15 +35,6 @@ def worked():
         yield bytes.fromhex("010203040506 111213141516" + frame)
 
 
-def write_calls(name, answers):
-    """Writes calls and their answers as the files NAME.call and NAME.txt of tests/data/calls, or of the folder that the first word names."""
-    folder = sys.argv[1] if len(sys.argv) > 1 else f"{DATA}/calls"
-    for end, lines in [("call", answers), ("txt", answers.values())]:
-        with open(f"{folder}/{name}.{end}", "w", encoding="ascii") as file:
-            file.writelines(f"{line}\n" for line in lines)
-    print(f"{name}: {len(answers)} lines")
-
-
 def bytes_lines():
     """Lines that are no hex, or hex of another look. The line feeds are part of the case."""
     frame = packet().hex().encode()

@@ -2,7 +2,7 @@
 """Runs a command of rt and says what it is at, a line a crate: tests/gate/progress.py LOG rt COMMAND..
 
 LOG gets all that the command says. Of a failure its own lines are printed too. The status is the command's.
-Each library that the gate proves is kept at once in the folder `proved` beside LOG. The file `proved/all` says
+Each library and program that the gate proves is kept at once in the folder `proved` beside LOG. The file `proved/all` says
 that the gate has ended, and which sources it proved.
 
 A build in the current folder makes out/NAME, and its LOG is NAME.log. out/NAME gets the time when the build began,
@@ -70,7 +70,7 @@ class Gate:
     def __init__(self, folder):
         self.names, self.ended, self.lines, self.inside = listed(), 0, [], False
         self.kept = folder / "proved"
-        self.kept.mkdir()
+        self.kept.mkdir(exist_ok=True)
 
     def take(self, line):
         done, loads = self.DONE.match(line), self.LOADS.match(line)

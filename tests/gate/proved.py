@@ -5,6 +5,7 @@
                                            runs `rattle COMMAND` on crates/CRATE over the kept libraries
     tests/gate/proved.py check CRATE            proves crates/CRATE, and keeps what it proved for the next check
     tests/gate/proved.py wait CRATE             beside the gate: waits until it has proved the libraries below crates/CRATE
+    tests/gate/proved.py built CRATE            beside the gate: waits until it has built crates/CRATE/out/CRATE
     tests/gate/proved.py archive CRATE          builds crates/CRATE/out/libCRATE.a over the libraries that `rt lib` built
     tests/gate/proved.py apart COPY             takes out of a copy of the repository what the gate does not prove
 
@@ -25,8 +26,6 @@ import time
 TOP = pathlib.Path(__file__).resolve().parents[2]
 KEPT = pathlib.Path(os.environ.get("PROVED", TOP / "out" / "proved"))
 STALE = 3
-# What the gate leaves out: bench/run has it proved and built, and so does `make mutants`.
-APART = {"ip_bench"}
 
 
 @functools.lru_cache(maxsize=None)
@@ -48,6 +47,10 @@ def crates():
     """The kinds and the libraries of the crates in crates.txt, by their names."""
     lines = (line.partition("#")[0].partition(":") for line in (TOP / "crates.txt").read_text().splitlines())
     return {head.split()[0]: (head.split()[1:], below.split()) for head, _, below in lines if head.strip()}
+
+
+# What the gate leaves out: tests run without proofs, and bench/run has ip_bench proved and built, as `make mutants` has.
+APART = {name for name in crates() if name == "ip_bench" or name.startswith("test_")}
 
 
 def below(name):
@@ -82,11 +85,16 @@ def by_commit(number):
 
 
 def keep(name, folder):
-    """Keeps the library that the gate proved here, in a folder for those of another copy of the repository."""
-    built = TOP / "crates" / name / "out" / "rlib" / f"{name}.rlib"
-    if built.is_dir():
-        shutil.copytree(built, folder / f"{name}.rlib")
+    """Keeps the library or the program that the gate proved here, in a folder for those of another copy of the repository."""
+    out = TOP / "crates" / name / "out"
+    library, program = out / "rlib" / f"{name}.rlib", out / name
+    if library.is_dir():
+        shutil.copytree(library, folder / library.name)
         (folder / f"{name}.sum").write_text(sum_of(name))
+    elif program.exists():
+        # The name is there once the file is whole.
+        shutil.copy(program, folder / f"{name}.part")
+        (folder / f"{name}.part").rename(folder / name)
 
 
 def note_all(folder):
@@ -131,6 +139,21 @@ def wait(crate):
     return STALE if stale(crate) else 0
 
 
+def built(crate):
+    """Waits until the gate has built a program, or has ended, and puts the program into its folder, as old as the sources."""
+    program = TOP / "crates" / crate / "out" / crate
+    while not (KEPT / crate).exists():
+        if is_over():
+            print(f"the gate did not build {crate}", file=sys.stderr)
+            return STALE
+        time.sleep(1)
+    program.parent.mkdir(exist_ok=True)
+    shutil.copy(KEPT / crate, program)
+    begun = (KEPT / "begun").stat().st_mtime
+    os.utime(program, (begun, begun))
+    return 0
+
+
 def command_line(command, crate, folder=lambda name: KEPT):
     """The command line of rattle for a crate, in its folder or a copy of that, over the kept libraries or those in other folders."""
     named = {name: folder(name) if name in crates() else kit() / "rlibs" for name in ["std", *crates()[crate][1]]}
@@ -168,7 +191,7 @@ if __name__ == "__main__":
     mode, *words = sys.argv[1:] or [""]
     if mode == "rattle" and len(words) >= 2:
         sys.exit(rattle(*words))
-    modes = {"check": check, "wait": wait, "archive": archive, "apart": lambda copy: leave_out(pathlib.Path(copy), APART)}
+    modes = {"check": check, "wait": wait, "built": built, "archive": archive, "apart": lambda copy: leave_out(pathlib.Path(copy), APART)}
     if mode in modes and len(words) == 1:
         sys.exit(modes[mode](*words))
     sys.exit(__doc__)

@@ -22,15 +22,25 @@ finds() {
     grep "$@" > /dev/null
 }
 
-# check_with TOOL NAME COMMAND..: a check that needs a tool
+# check_with TEST NAME COMMAND..: a check that needs tools. TEST is one command, or several with && between them. If one of
+# them fails, the check is skipped, because a tool is missing, or what it looks for. But a tool that is there and cannot
+# print its version is a failed check.
 check_with() {
-    if eval "$1" > /dev/null 2>&1; then
-        shift
-        check "$@"
-    else
-        skipped=$((skipped + 1))
-        echo "$script: skipped: $2 ($1 fails)"
-    fi
+    local part name=$2
+    while read -r part; do
+        eval "$part" > "$room/log" 2>&1 < /dev/null && continue
+        if [[ $part =~ ^[^\ ]+\ (--)?version$ ]] && command -v "${part%% *}" > /dev/null; then
+            failed=$((failed + 1))
+            echo "$script: FAILED: $name: $part"
+            head -n 5 "$room/log"
+        else
+            skipped=$((skipped + 1))
+            echo "$script: skipped: $name ($part fails)"
+        fi
+        return
+    done <<< "${1// && /$'\n'}"
+    shift
+    check "$@"
 }
 
 # need_built FILE..: ends the script if make build did not make these files of the sources

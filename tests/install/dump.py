@@ -10,10 +10,12 @@ import shlex
 import struct
 import sys
 
-from captures import block, interface, option, pcap, section
+from captures import block, interface, option, pcap, pcap_header, pcap_record, section
 from tools import RECORDED, Case, run_cases
 
 ECHO = "examples/echo.pcap"
+# Where it would wait for ever if it did not write in time
+LIMITED = "timeout 200 examples/ip_dump"
 ENDS = ["02-00-00-00-00-01", "02-00-00-00-00-02"]
 
 
@@ -198,6 +200,19 @@ def linktype(number, *packets, **header):
     return pcap([bytes.fromhex(packet) for packet in packets], link=number, **header)
 
 
+def at_last_second(offset):
+    """A pcapng file of fragments at second 2^64 - 1 after an offset, in bytes."""
+    options = option(9, b"\0") + option(14, offset)
+    packets = [struct.pack("<IIIII", 0, 0xFFFFFFFF, 0xFFFFFFFF, 28, 28) + bytes.fromhex(it) for it in FRAGMENTS]
+    return section() + interface(link=101, options=options) + b"".join(block(6, it) for it in packets)
+
+
+def whole_at(time):
+    return (f"1 {time}IPv4 192.0.2.1 > 192.0.2.2 proto=17 fragment=0+ len=8\n"
+            f"2 {time}IPv4 192.0.2.1 > 192.0.2.2 proto=17 fragment=8 len=8\n"
+            f"2 {time}whole IPv4 192.0.2.1:4321 > 192.0.2.2:7 UDP len=8 (no checksum)\n")
+
+
 LINES = [
     case(f"--lines {ECHO}", "".join(ECHO_LINES)),
     case(f"--lines -n < <(gzip -c {ECHO})", "".join(ECHO_LINES)),
@@ -211,30 +226,52 @@ LINES = [
          data=linktype(113, "0000 0001 0006 020000000001 0000 0800" + PACKET), name="--lines cooked"),
     case("--lines", f"1 {START}vlan 7 IPv4 192.0.2.1:4321 > 192.0.2.2:7 UDP len=8 (no checksum)\n",
          data=linktype(1, OTHER + "8100 6007 0800" + PACKET), name="--lines of a VLAN"),
-    case("--lines --whole", f"1 {START}IPv4 192.0.2.1 > 192.0.2.2 proto=17 fragment=0+ len=8\n"
-         f"2 {START}IPv4 192.0.2.1 > 192.0.2.2 proto=17 fragment=8 len=8\n"
-         f"2 {START}whole IPv4 192.0.2.1:4321 > 192.0.2.2:7 UDP len=8 (no checksum)\n",
-         data=linktype(101, *FRAGMENTS), name="--lines --whole"),
+    case("--lines --whole", whole_at(START), data=linktype(101, *FRAGMENTS), name="--lines --whole"),
+    # The file after one with these times is printed too.
+    case(f"--lines --whole - {ECHO} | sed 's/^[^:]*://'", whole_at("27670116110564327422.000000 ") + "".join(ECHO_LINES),
+         data=at_last_second(b"\xff" * 7 + b"\x7f"), name="--lines --whole after 2^64 ms"),
+    case("--lines --whole", whole_at("18446744073709551615.000000 "), data=at_last_second(b"\xff" * 2000),
+         name="--lines --whole, an offset of 2,000 bytes"),
     case("--lines --whole -c 2", f"1 {START}IPv4 192.0.2.1 > 192.0.2.2 proto=17 fragment=0+ len=8\n"
          f"2 {START}IPv4 192.0.2.1 > 192.0.2.2 proto=17 fragment=8 len=8\n",
          data=linktype(101, *FRAGMENTS, PACKET), name="--lines --whole -c"),
     case(f"--lines -c 9 {ECHO} {ECHO} {ECHO} | cut -d ' ' -f 1", "".join(
         f"{ECHO}:{number}\n" for number in (1, 2, 3, 4, 5, 6, 7, 8, 1)), name="--lines -c over files"),
     # The input goes on when eight lines were read: they must not wait for it.
-    Case("ip_dump: --lines of a live capture", f"d=$(mktemp -d) && mkfifo $d/end && (cat {ECHO}; cat $d/end) | "
-         "timeout 20 examples/ip_dump --lines | (head -n 8; : > $d/end); rm -r $d", b"", "".join(ECHO_LINES), "", 0),
-    Case("ip_dump: --lines --follow -c", f"timeout 20 examples/ip_dump --lines --follow -c 8 {ECHO}", b"", "".join(ECHO_LINES), "", 0),
-    case("--lines", f"1 {START}Ethernet 00-00-00-00-00-00 > 00-00-00-00-00-00 type=0x0000 len=1 (unknown link)\n",
+    Case("ip_dump: --lines of a live capture", f'd=$(mktemp -d) && mkfifo "$d/end" && (cat {ECHO}; cat "$d/end") | '
+         f'{LIMITED} --lines | (head -n 8; : > "$d/end"); rm -r "$d"', b"", "".join(ECHO_LINES), "", 0),
+    Case("ip_dump: --lines --follow -c", f"{LIMITED} --lines --follow -c 8 {ECHO}", b"", "".join(ECHO_LINES), "", 0),
+    case("--lines", f"1 {START}link type 147 len=1 (unknown link)\n",
          "of an unknown link type: 1 packet", data=linktype(147, "02"), name="--lines of an unknown link"),
+    case("--lines", f"1 {START}link type 9 len=1500 (unknown link)\n", "of an unknown link type: 1 packet",
+         data=pcap_header(link=9) + pcap_record(b"\xff\x03\x00\x21", original_len=1500), name="--lines of PPP, in part"),
+    # Link types that are known, with a packet that is not.
+    *[case("--lines", f"1 {START}link type {line}\n", data=linktype(number, data), name=f"--lines: link type {line}")
+      for number, data, line in [
+          (113, "0000 0001 0006 020000000001 0000 88cc 0207", "113 type=0x88cc len=2"),
+          (113, "0000 0001 0006 0200", "113 len=8 (too short)"), (101, "50", "101 len=1 (bad version)"),
+          (0, "0700 0000 0102", "0 len=2")]],
+    case("--lines", f"1 {START}Ethernet {ENDS[1]} > {ENDS[0]} type=0x0000 len=2\n", data=linktype(1, OTHER + "0000 0102"),
+         name="--lines of a length field"),
     case("--lines", f"1 {LATER}IPv4 192.0.2.1:4321 > 192.0.2.2:7 UDP len=8 (no checksum)\n",
          data=section() + interface(link=101, options=option(9, b"\t")) + block(6, struct.pack("<IIIII", 0, *divmod(
              1_000_000_000_123_456_789, 1 << 32), 36, 36) + bytes.fromhex(PACKET)), name="--lines of nanoseconds"),
     *[case(words, "", error, 2) for words, error in [
-        ("-c 1", "-c needs --lines"), ("--lines -c", "-c needs a value"), ("--lines -c x", "-c x: not a number"),
+        ("-c 1", "-c needs --lines"), ("--lines -c", "-c needs a value"),
         ("--lines --changed", "--changed and --lines exclude each other"),
-        ("--lines --host 1.2.3", "--host 1.2.3: no address or block"), ("--lines --port http", "--port http: no number"),
-        ("--lines --proto x", "--proto x: no name or number of a protocol"),
+        *[(f"--lines -c {text}", f"-c {text}: no number") for text in ("x", "-1", "9" * 5000, "\u0663")],
+        *[(f"--lines --host {text}", f"--host {text}: no address or block") for text in ("1.2.3", "fe80::1%eth0")],
+        *[(f"--lines --port {text}", f"--port {text}: no number from 0 to 65535")
+          for text in ("http", "65536", "99999", "-5", "6_5", "+7", "9" * 20)],
+        *[(f"--lines --proto {text}", f"--proto {text}: no name or number of a protocol") for text in ("x", "256", "999", "-1")],
     ]],
+    *[case(f"--lines {words} -", "", error, data=linktype(number, data), name=f"--lines {words} of link type {number}, no packet")
+      for words in ("--port 7", "--port 0", "--host ::/0", "--proto udp") for number, data, error in [
+          (1, OTHER + "88cc 0207", ""), (147, "02", "of an unknown link type: 1 packet")]],
+    # Port 0 is one only of UDP and TCP.
+    case("--lines --port 0 --port 65535", f"2 {START}IPv4 192.0.2.1:0 > 192.0.2.2:7 UDP len=8 (no checksum)\n",
+         data=linktype(101, HEADER.format("001c", "0000", "f6d6").replace("11", "01") + UDP_8, PACKET.replace("10e1", "0000")),
+         name="--lines --port 0"),
 ]
 
 # Three packets of tcpdump with lines that are no dump, and that become one as 0x0000.
@@ -261,29 +298,35 @@ FILES = [
     case(f"{ECHO} > /dev/full", "", "cannot write: No space left on device", 1),
     case("--help > /dev/full", "", "cannot write: No space left on device", 1),
     Case("ip_dump: a reader that ends", f"{MANY} | examples/ip_dump | head -n 1", b"", f"1: {LINE_TEXT}", "", 141),
-    Case("ip_dump: output before the input ends",
-         f"d=$(mktemp -d) && ({MANY}; sleep 9; touch $d/end) | "
-         "examples/ip_dump | (head -n 1; ls $d; cat > /dev/null); rm -r $d", b"", f"1: {LINE_TEXT}", "", 0),
+    # The input goes on until there is output.
+    Case("ip_dump: output before the input ends", f'd=$(mktemp -d) && mkfifo "$d/end" && ({MANY}; cat "$d/end") | '
+         f'{LIMITED} | (head -n 1; : > "$d/end"; cat > /dev/null); rm -r "$d"', b"", f"1: {LINE_TEXT}", "", 0),
     Case("ip_dump: output of a slow input",
-         f"d=$(mktemp -d) && (echo {LINE}; sleep 3; echo {LINE}; sleep 9; touch $d/end) | "
-         "examples/ip_dump | (head -n 2; ls $d; cat > /dev/null); rm -r $d", b"",
+         f'd=$(mktemp -d) && (until [ -e "$d/end" ]; do echo {LINE}; sleep 0.5; done) | '
+         f'{LIMITED} | (head -n 2; : > "$d/end"; cat > /dev/null); rm -r "$d"', b"",
          f"1: {LINE_TEXT}2: {LINE_TEXT}", "", 0),
     Case("ip_dump: an interrupt", f"(echo {LINE}; sleep 12) | timeout --preserve-status -s INT 8 examples/ip_dump", b"",
          "", "", 130),
-    Case("ip_dump: a name that is no text", "d=$(mktemp -d) && f=$d/$'\\xff' && echo 02 > $f && "
-         "echo 03 > $d/2 && examples/ip_dump $f $d/2 | sed s,$d/,, && "
-         "examples/ip_dump --json $f | cut -d '\"' -f 4 | sed s,$d/,, && rm -r $d", b"",
+    Case("ip_dump: a name that is no text", r"""d=$(mktemp -d) && f=$d/$'\xff' && echo 02 > "$f" &&
+         echo 03 > "$d/2" && examples/ip_dump "$f" "$d/2" | sed "s,$d/,," &&
+         examples/ip_dump --json "$f" | cut -d '"' -f 4 | sed "s,$d/,," && rm -r "$d" """, b"",
          b"\xff:1: EthernetII (wire::Error)\n2:1: EthernetII (wire::Error)\n\\udcff\n", "", 0),
 ]
 
 # Prints what ip_dump --stats writes on a terminal while its input is slow.
 ON_A_TERMINAL = """
-import os, subprocess
+import os, select, subprocess, time
 ours, theirs = os.openpty()
-lines = subprocess.Popen("MANY; sleep 3; MANY; sleep 1; MANY", shell=True, stdout=subprocess.PIPE)
-subprocess.run(["examples/ip_dump", "--stats"], stdin=lines.stdout, stdout=subprocess.DEVNULL, stderr=theirs)
-print(os.read(ours, 1000))
-""".replace("MANY", MANY)
+dump = subprocess.Popen(["examples/ip_dump", "--stats"], stdin=subprocess.PIPE, stdout=subprocess.DEVNULL, stderr=theirs)
+end = time.monotonic() + 200
+while not select.select([ours], [], [], 0.2)[0] and time.monotonic() < end:
+    dump.stdin.write(b"LINE\\n" * 5000)
+dump.communicate()
+shown = b""
+while not shown.endswith(b"K") and select.select([ours], [], [], 200)[0]:
+    shown += os.read(ours, 1000)
+print(shown)
+""".replace("LINE", LINE)
 PROGRESS = Case("ip_dump: progress on a terminal", f"python3 -c {shlex.quote(ON_A_TERMINAL)}", b"",
                 re.compile(rb"b'(\d+ frames\\r)+\\x1b\[K'\n"), "", 0)
 
@@ -291,14 +334,14 @@ PROGRESS = Case("ip_dump: progress on a terminal", f"python3 -c {shlex.quote(ON_
 def beside(name, program, error="", words=ECHO, output="", status=1):
     """A copy of ip_dump in a folder $d, with a stand-in for ip_frames, and with no other one on PATH."""
     python = shlex.quote(sys.executable)
-    command = ("d=$(mktemp -d) && trap 'rm -r $d' EXIT && cp examples/{ip_dump,*.py} $d && mkdir $d/bin && "
-               f"ln -s $(command -v sh) $d/bin/sh && ln -s {python} $d/bin/python3 && "
-               f"{program} && PATH=$d/bin $d/ip_dump {words}")
+    command = ("""d=$(mktemp -d) && trap 'rm -r "$d"' EXIT && cp examples/{ip_dump,*.py} "$d" && mkdir "$d/bin" && """
+               f'ln -s "$(command -v sh)" "$d/bin/sh" && ln -s {python} "$d/bin/python3" && '
+               f'{program} && PATH=$d/bin "$d/ip_dump" {words}')
     return Case(f"ip_dump: {name}", command, b"", output, re.compile(f"ip_dump: {error}\n" if error else ""), status)
 
 
 def stand_in(text):
-    return f"printf '#!/bin/sh\\n{text}\\n' > $d/ip_frames && chmod +x $d/ip_frames"
+    return f"""printf '#!/bin/sh\\n{text}\\n' > "$d/ip_frames" && chmod +x "$d/ip_frames\""""
 
 
 PROGRAMS = [
@@ -312,7 +355,7 @@ PROGRAMS = [
     beside("ten ranges", stand_in(f"printf \"EthernetII x\\\\nagain {'0100' * 10}\\\\n\\\\n\""),
            words=f"<(echo {'00' * 20}) --changed",
            output="1: EthernetII x\n    rebuilt: bytes 0 2 4 6 8 10 12 14 .. differ\n", status=0),
-    beside("no program at all", "printf x > $d/ip_frames && chmod +x $d/ip_frames",
+    beside("no program at all", 'printf x > "$d/ip_frames" && chmod +x "$d/ip_frames"',
            "cannot run /.*/ip_frames: Exec format error"),
 ]
 

@@ -3,7 +3,7 @@
 
     tests/install/flow_captures.py FOLDER
 
-Each but crafted.pcap and those of odd times has a TCP connection in five packets, as frames of one link: opened, a request of 100 bytes, and a
+Each but crafted.pcap, rejected.pcap and those of odd times has a TCP connection in five packets, as frames of one link: opened, a request of 100 bytes, and a
 reply of 300. The checksum of the request is left to the device, and that of the reply is wrong. Each part of the round trip
 has one time: 20 ms to the server and back, 0.5 ms to the client and back.
 """
@@ -151,7 +151,28 @@ def negative_times():
     return capture(ETHERNET, [struct.pack("<IIII", *time, len(frame), len(frame)) + frame for time, frame in zip(times, first_frames())])
 
 
+def rejected():
+    """A frame for each reason to reject one, in their order, and none of those that are read."""
+    routing = bytes([17, 2, 0, 1, 0, 0, 0, 0]) + packets.HOST_C  # one segment is left
+    hops = bytes([0, 0, 1, 4, 0, 0, 0, 0])  # hop-by-hop options, or options for the destination: padding
+    datagram = packets.udp()
+    frames = [
+        bytes(13),
+        packets.ethernet(0x0800, packets.header_ipv6()),
+        packets.packet(total=19),
+        packets.ethernet(0x0806, packets.arp(hardware=6)),
+        packets.in_ipv4(packets.udp(dst_port=0)),
+        packets.packet(packets.tcp(flags=SYN | 1), protocol=6),
+        packets.packet(packets.tcp(options=b"\2\1"), protocol=6),
+        packets.packet(),
+        packets.packet_ipv6(routing + datagram, next_header=43),
+        packets.packet_ipv6(hops + bytes([17]) + hops[1:] + datagram, next_header=60),
+    ]
+    return [record(0, frame, 20 if at == 7 else 65535) for at, frame in enumerate(frames)]
+
+
 CAPTURES = {
+    "rejected": (ETHERNET, rejected),
     "cut": (ETHERNET, cut),
     "tags": (ETHERNET, tags),
     "cooked": (SLL, lambda: connection(cooked)),

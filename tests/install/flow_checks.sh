@@ -45,9 +45,9 @@ prints_flows_of_each_link() {
         fails_with 'flows: radio.pcap: neither Ethernet nor raw nor cooked' runs './flows radio.pcap'
 }
 
-# They would meet in a hash table that anyone can compute, and take 16 s there or more.
+# They would meet in a hash table that anyone can compute, and take 16 s of processor time there or more.
 counts_crafted_flows() {
-    runs 'timeout 8 ./flows -n 0 crafted.pcap' | diff - <(echo 'flows 80000, other frames 0, rejected frames 0')
+    runs 'ulimit -t 8; ./flows -n 0 crafted.pcap' | diff - <(echo 'flows 80000, other frames 0, rejected frames 0')
 }
 
 # Many flows, so that the table grows: as many packets in all as the capture has.
@@ -76,4 +76,13 @@ takes_odd_times() {
     # A time counts as 2^32 seconds from 1970 at most, so the flow takes 2^33 seconds.
     runs './odd far_times.pcapng' | grep -F "$flow 8589934592.000000 s" && runs './odd negative_times.pcap' | grep -F "$flow" &&
         runs './odd far_times.pcapng' | grep -x 'flows 1, other frames 0, rejected frames 0'
+}
+
+# A frame for each reason that a capture of Ethernet can have, and each reason counts. The sanitizers end the program at an
+# access outside of the array of counts.
+counts_each_reason() {
+    runs "cc -g -fsanitize=address,undefined -fno-sanitize-recover=all -o bounded flows.c \$(pkg-config --cflags --libs ip_wire libpcap)" ||
+        return 1
+    local reasons=(TOO_SHORT BAD_VERSION BAD_LENGTH OTHER_ARP PORT_ZERO BAD_FLAGS BAD_OPTIONS HEADER_CUT HOPS_LEFT BAD_ORDER)
+    runs './bounded rejected.pcap' | diff - <(printf 'flows 0, other frames 0, rejected frames 10'; printf ', LK_%s 1' "${reasons[@]}"; echo)
 }

@@ -341,14 +341,14 @@ COMPARED = [
 ]
 
 
-def generated(tool, *kinds):
-    """A generator that writes the calls and answers that are recorded."""
-    same = " && ".join(f"cmp $d/{kind}.{end} tests/data/calls/{kind}.{end}" for kind in kinds for end in ("call", "txt"))
-    return Case(tool, f"d=$(mktemp -d) && trap 'rm -r $d' EXIT && tests/frames/{tool} $d > $d/said && {same}", b"", "", "", 0)
+def written(program):
+    """A program that answers each kind of calls otherwise than the scripts."""
+    return Case(f"written.py: {program}", f"tests/frames/written.py check {program} | sed -n '$s/.*, //p'", b"",
+                "5 kinds with a wrong answer\n", "", 1)
 
 
-GENERATED = [generated("class_lines.py", "class"), generated("host_lines.py", "host"), generated("field_lines.py", "set", "get"),
-             generated("again_lines.py", "again")]
+WRITTEN = [written("cat"), written("true"), written("false")]
+
 
 def counts(name, record, counted, output, status):
     """Two records of tests/counts/run, a row in a word: its call, bytes, instructions, and calls and bytes of libc."""
@@ -378,17 +378,17 @@ COUNTS = [
 ]
 
 # Two checkouts in $d, with scripts as the programs of the workloads.
-CHECKOUTS = r"""d=$(mktemp -d) && trap 'rm -r $d' EXIT && mkdir -p $d/old/bench $d/old/crates/{low,ip_bench,ip_frames}/{src,out} &&
-    printf 'low:\nip_bench: low\nip_frames: low\n' > $d/old/crates.txt && touch $d/old/crates/low/src/lib.rt &&
-    printf 'one ip_bench 1 SEED\ntwo ip_bench 2 SEED | ip_frames 3\n' > $d/old/bench/workloads.txt &&
-    printf '#!/bin/sh\necho "$@"\n' > $d/old/crates/ip_bench/out/ip_bench &&
-    printf '#!/bin/sh\n[ "$(cat) $@" = "2 7 3" ]\n' > $d/old/crates/ip_frames/out/ip_frames &&
-    chmod +x $d/old/crates/*/out/* && cp -a $d/old $d/new && cd $d/new"""
+CHECKOUTS = r"""d=$(mktemp -d) && trap 'rm -r "$d"' EXIT && cd "$d" && mkdir -p old/bench old/crates/{low,ip_bench,ip_frames}/{src,out} &&
+    printf 'low:\nip_bench: low\nip_frames: low\n' > old/crates.txt && touch old/crates/low/src/lib.rt &&
+    printf 'one ip_bench 1 SEED\ntwo ip_bench 2 SEED | ip_frames 3\n' > old/bench/workloads.txt &&
+    printf '#!/bin/sh\necho "$@"\n' > old/crates/ip_bench/out/ip_bench &&
+    printf '#!/bin/sh\n[ "$(cat) $@" = "2 7 3" ]\n' > old/crates/ip_frames/out/ip_frames &&
+    chmod +x old/crates/*/out/* && cp -a old new && cd new"""
 
 
 def timed(name, change, output="", error="", status=1):
     """Two checkouts that are timed after a change of the second one."""
-    command = f"top=$PWD; {CHECKOUTS} && {change} && $top/bench/run ../old . 7 | cut -d '|' -f 2"
+    command = f"""top=$PWD; {CHECKOUTS} && {change} && "$top/bench/run" ../old . 7 | cut -d '|' -f 2"""
     return Case(f"bench/run: {name}", command, b"", output, re.compile(f"bench/run: {error}\n" if error else ""), status)
 
 
@@ -404,14 +404,14 @@ TIMED = [
     timed("another crate", "echo > crates/low/src/lib.rt && touch crates/*/out/*", " NAME \n---\n one \n two \n", status=0),
 ]
 
-CASES = [*RECORDED_CAPTURES, *PCAP, *PCAPNG, *RECORDED_DUMPS, *DUMPS, *DEVICES, *COMPARED, *GENERATED, *COUNTS, *TIMED]
+CASES = [*RECORDED_CAPTURES, *PCAP, *PCAPNG, *RECORDED_DUMPS, *DUMPS, *DEVICES, *COMPARED, *WRITTEN, *COUNTS, *TIMED]
 
 
 def failure(case):
     """What is wrong in a run of the case, or nothing."""
     try:
         run = subprocess.run(["bash", "-c", f"set -o pipefail; {case.command}"], input=case.input, capture_output=True,
-                             cwd=TOP, timeout=60)
+                             cwd=TOP, timeout=600)
     except subprocess.TimeoutExpired:
         return "does not end"
     output = case.output.encode() if isinstance(case.output, str) else case.output

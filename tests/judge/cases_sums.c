@@ -158,9 +158,9 @@ void name_number(void)
     compare_seq(seq, one_in(2) ? (uint32_t)any() : seq + steps[below(6)]);
     both_failure_name(LK_FAILURE((ptrdiff_t)below(14) - 1));
     both_failure_name(one_in(2) ? (ptrdiff_t)below(100) : (ptrdiff_t)any());
-    both_reason_name((int)below(12) - 1);
+    both_reason_name((int)below(LK_REASON_COUNT + 2) - 1);
     both_reason_name((int)any());
-    both_rejection_name((int)below(18) - 1);
+    both_rejection_name((int)below(LK_REJECTION_COUNT + 2) - 1);
     both_rejection_name((int)any());
     both_protocol_name((int)(one_in(8) ? any() : below(256)));
     both_ethertype_name((int)(one_in(2) ? 0x0800 + below(0x50) : 0x8000 + below(0x1200)));

@@ -234,7 +234,7 @@ void print_frame(void)
     frame.transport = (uint8_t)below(LK_ICMP + 1);
     frame.rejected = (uint8_t)below(LK_ICMP + 1);
     frame.is_fragment = (uint8_t)below(2);
-    frame.reason = (uint8_t)below(LK_BAD_ORDER + 1);
+    frame.reason = (uint8_t)below(LK_REASON_COUNT);
     frame.ipv4_checksum = (uint8_t)below(LK_CHECKSUM_CUT + 1);
     frame.transport_checksum = (uint8_t)below(LK_CHECKSUM_CUT + 1);
     PRINT(frame, &frame, LK_FRAME_TEXT);

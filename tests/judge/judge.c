@@ -1,6 +1,7 @@
 /* Compares the C library with a model of its header, on generated values and frames:
  *
- *     judge worked                makes the worked calls; its folder is the top of the repository
+ *     judge worked FOLDER         makes the worked calls; it runs at the top of the repository, and the folder has the
+ *                                 lines `host` of tests/frames/written.py
  *     judge SECONDS SEED          runs cases for this time
  *     judge case SEED NUMBER      runs one case
  *     judge capture FILE ROWS SEED COUNT
@@ -57,8 +58,8 @@ static void run_cases(double seconds, uint64_t seed)
 int main(int argc, char **argv)
 {
     catch_crashes();
-    if (argc == 2 && strcmp(argv[1], "worked") == 0) {
-        make_worked_calls();
+    if (argc == 3 && strcmp(argv[1], "worked") == 0) {
+        make_worked_calls(argv[2]);
         print_counts();
     } else if (argc == 3) {
         alarm((unsigned)atoi(argv[1]) + 60);

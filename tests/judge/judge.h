@@ -159,8 +159,8 @@ void reassemble_frames(void);
 
 /* ---- worked.c ---- */
 
-/* Makes all calls whose results are known from outside. */
-void make_worked_calls(void);
+/* Makes all calls whose results are known from outside. The folder has the lines `host` of tests/frames/written.py. */
+void make_worked_calls(const char *folder);
 
 /* ---- capture.c ---- */
 

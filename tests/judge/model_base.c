@@ -57,23 +57,23 @@ const char *model_failure_name(ptrdiff_t failure)
 
 const char *model_reason_name(int reason)
 {
-    static const char *const names[] = {
+    static const char *const names[LK_REASON_COUNT] = {
         "LK_READ", "LK_TOO_SHORT", "LK_BAD_VERSION", "LK_BAD_LENGTH", "LK_OTHER_ARP", "LK_PORT_ZERO",
         "LK_BAD_FLAGS", "LK_BAD_OPTIONS", "LK_HEADER_CUT", "LK_UNKNOWN_LINK",
         "LK_HOPS_LEFT", "LK_BAD_ORDER",
     };
-    return reason >= LK_READ && reason <= LK_BAD_ORDER ? names[reason] : "no reason"; /* Open: LK_READ. */
+    return reason >= LK_READ && reason < LK_REASON_COUNT ? names[reason] : "no reason"; /* Open: LK_READ. */
 }
 
 const char *model_rejection_name(int rejection)
 {
-    static const char *const names[] = {
+    static const char *const names[LK_REJECTION_COUNT] = {
         "LK_NOT_REJECTED", "LK_NO_IPV4", "LK_NOT_IP", "LK_BAD_HEADER", "LK_WRONG_CHECKSUM", "LK_EXPIRED", "LK_FRAGMENT",
         "LK_OTHER_PROTOCOL", "LK_BAD_TRANSPORT", "LK_ZERO_PORT", "LK_NO_MAPPING", "LK_NO_FREE_PORT", "LK_MARTIAN",
         "LK_NO_ROUTE", "LK_OTHER_INTERFACE",
     };
     /* Open: LK_NOT_REJECTED. */
-    return rejection >= LK_NOT_REJECTED && rejection <= LK_OTHER_INTERFACE ? names[rejection] : "no rejection";
+    return rejection >= LK_NOT_REJECTED && rejection < LK_REJECTION_COUNT ? names[rejection] : "no rejection";
 }
 
 struct named {

@@ -72,7 +72,7 @@ int holds(const struct octets *octets, ptrdiff_t written)
     return written == (ptrdiff_t)octets->len && memcmp(out, octets->at, octets->len) == 0;
 }
 
-void make_worked_calls(void)
+void make_worked_calls(const char *folder)
 {
     begin_case(0, 0);
 #define FRAME(name, hex) name = octets(hex);
@@ -94,7 +94,7 @@ void make_worked_calls(void)
     worked_edit();
     worked_fragment();
     worked_reassembly();
-    worked_hosts();
+    worked_hosts(folder);
     worked_problems();
     worked_summary();
 }

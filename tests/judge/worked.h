@@ -81,7 +81,7 @@ void worked_mld(void);
 void worked_edit(void);
 void worked_fragment(void);
 void worked_reassembly(void);
-void worked_hosts(void);
+void worked_hosts(const char *folder);
 void worked_problems(void);
 void worked_summary(void);
 

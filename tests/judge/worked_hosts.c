@@ -1,5 +1,6 @@
-/* Worked answers of a host: frames from captures and from another program, and the recorded lines `host` of
- * tests/data/calls. */
+/* Worked answers of a host: frames from captures and from another program, the lines `host` of tests/frames/written.py, and
+ * the recorded lines `worked_replies` of tests/data/calls. */
+#include <limits.h>
 #include <stdio.h>
 #include <stdlib.h>
 #include "worked.h"
@@ -300,8 +301,12 @@ static int is_answered_by(char *line, char *recorded)
     return (written < 0 ? 0 : written) == (ptrdiff_t)expected_len && memcmp(answer, expected, expected_len) == 0;
 }
 
-static void worked_lines(const char *calls, const char *answers)
+/* The lines of FOLDER/KIND.call, and their answers in FOLDER/KIND.txt. */
+static void worked_lines(const char *folder, const char *kind)
 {
+    char calls[PATH_MAX], answers[PATH_MAX];
+    CHECK(snprintf(calls, sizeof calls, "%s/%s.call", folder, kind) < PATH_MAX);
+    CHECK(snprintf(answers, sizeof answers, "%s/%s.txt", folder, kind) < PATH_MAX);
     FILE *lines = fopen(calls, "r"), *recorded = fopen(answers, "r");
     char *line = 0, *answer_line = 0;
     size_t line_room = 0, answer_room = 0, row = 1;
@@ -315,7 +320,7 @@ static void worked_lines(const char *calls, const char *answers)
     fclose(recorded);
 }
 
-void worked_hosts(void)
+void worked_hosts(const char *folder)
 {
     answers();
     ignores();
@@ -326,6 +331,6 @@ void worked_hosts(void)
     ignores_without_an_address();
     answers_frames_to_itself();
     answers_of_routers();
-    worked_lines("tests/data/calls/host.call", "tests/data/calls/host.txt");
-    worked_lines("tests/data/calls/worked_replies.call", "tests/data/calls/worked_replies.txt");
+    worked_lines(folder, "host");
+    worked_lines("tests/data/calls", "worked_replies");
 }

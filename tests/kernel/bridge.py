@@ -2,6 +2,7 @@
 """The kernel's side of tests/kernel, for the bridge.
 
 tests/kernel/bridge.py frames PROCESS LEFT RIGHT  sends frames into a bridge, and compares those that come out
+tests/kernel/bridge.py faulty PROCESS LEFT RIGHT  the same, but does not wait long for a frame
 tests/kernel/bridge.py tcp PROCESS LEFT RIGHT     sends TCP through the bridge, and compares its frames too
 tests/kernel/bridge.py loss PROCESS               sends TCP where packets are lost
 
@@ -20,6 +21,7 @@ import compare
 from client import check, echoed, kernel_counters, kernel_errors, report, tcp_at_once, wrong
 from dice import ANY as random
 from rebuilt import rebuilt, recorded
+from waits import LATEST, until
 
 SERVERS = ((socket.AF_INET, "10.78.0.2"), (socket.AF_INET6, "fd78::2"))
 # No device has this address, so the kernel takes no frame to it.
@@ -28,8 +30,10 @@ ELSEWHERE = bytes.fromhex("02000000ee0e")
 LONGEST, TAGGED = 1514, (b"\x81\x00", b"\x88\xa8")
 RANDOM_FRAMES = 4000
 AT_ONCE = 16
-LATEST = 5  # seconds
+LATEST_OF_FAULTY = 3  # seconds
 MOST_WRONG = 3
+# Connections of 1 MB. Loss without a SACK range in one of them is not rare.
+FEWEST, MOST_CONNECTIONS = 4, 100
 ECHO_SERVER = os.path.join(os.path.dirname(os.path.abspath(__file__)), "echo_server.py")
 
 
@@ -90,13 +94,13 @@ def is_hex(line):
         return False
 
 
-def send_frames(process, *devices):
+def send_frames(process, *devices, latest=LATEST):
     """Frames of every kind, in both directions by turns."""
     sides = [Side(place, device) for place, device in zip(("self", process), devices)]
     frames = list(made_frames())
     for n in range(0, len(frames), AT_ONCE):
         here, there = sides if n // AT_ONCE % 2 == 0 else sides[::-1]
-        chunk, came_out, end = frames[n : n + AT_ONCE], [], time.monotonic() + LATEST
+        chunk, came_out, end = frames[n : n + AT_ONCE], [], time.monotonic() + latest
         there.forget()
         for frame in chunk:
             here.sock.send(frame)
@@ -143,11 +147,8 @@ def send_tcp(process, *devices):
 
 def compare_kernel_frames(left, right):
     """The frames of the kernel on both sides, once no more come."""
-    end = time.monotonic() + LATEST
-    while time.monotonic() < end:
-        is_more = left.take(0.02) | right.take(0.02)
-        if not is_more and len(left.handed) == len(right.came_out) and len(right.handed) == len(left.came_out):
-            break
+    until(lambda: not left.take(0.02) | right.take(0.02) and (len(left.handed), len(right.handed)) == (
+        len(right.came_out), len(left.came_out)))
     for here, there in ((left, right), (right, left)):
         compare_frames("frame of the kernel", here.handed, there.came_out)
         here.handed, there.came_out = [], []
@@ -162,10 +163,10 @@ def sack_ranges():
 def lossy(family, address):
     """Sends until the kernel has used a SACK range."""
     before = sack_ranges()
-    for n in range(8):
+    for n in range(1, MOST_CONNECTIONS):
         data = random.randbytes(1 << 20)
         check("TCP with loss", echoed(family, address, data) == data, address)
-        if n >= 3 and sack_ranges() > before:
+        if n >= FEWEST and sack_ranges() > before:
             return
     check("SACK ranges that arrive", False, address)
 
@@ -174,7 +175,11 @@ def send_with_loss(process):
     with_servers(process, lossy)
 
 
-MODES = {"frames": send_frames, "tcp": send_tcp, "loss": send_with_loss}
+def send_to_faulty(process, *devices):
+    send_frames(process, *devices, latest=LATEST_OF_FAULTY)
+
+
+MODES = {"frames": send_frames, "faulty": send_to_faulty, "tcp": send_tcp, "loss": send_with_loss}
 
 if __name__ == "__main__":
     if sys.argv[1] == "errors":

@@ -17,6 +17,7 @@ import sys
 from client import check, report
 from dice import ANY as random
 from links import ping
+from waits import LATEST, until
 
 ROUTER, SERVER = ("10.1.0.1", "fd01::1"), ("10.2.0.2", "fd02::2")
 LEASES = ipaddress.ip_address("10.1.0.100"), ipaddress.ip_address("10.1.0.200")
@@ -36,9 +37,14 @@ def output(command):
     return subprocess.run(command.split(), stdout=subprocess.PIPE, check=True, text=True).stdout
 
 
-def has_addresses():
+def addresses():
     lines = output("ip -oneline address show dev eth0 scope global").splitlines()
-    found = [ipaddress.ip_interface(line.split()[3]) for line in lines]
+    return [ipaddress.ip_interface(line.split()[3]) for line in lines]
+
+
+def has_addresses():
+    until(lambda: {one.version for one in addresses()} == {4, 6})
+    found = addresses()
     check("lease", [LEASES[0] <= one.ip <= LEASES[1] for one in found if one.version == 4] == [True], found)
     check("SLAAC", {one.network for one in found if one.version == 6} == {ipaddress.ip_network("fd01::/64")}, found)
 
@@ -48,7 +54,7 @@ def asked(name, record):
     kind, family = RECORDS[record]
     labels = b"".join(bytes([len(label)]) + label.encode() for label in name.split("."))
     with socket.socket(socket.AF_INET, socket.SOCK_DGRAM) as sock:
-        sock.settimeout(5)
+        sock.settimeout(LATEST)
         sock.connect((ROUTER[0], 53))
         sock.send(struct.pack(">HHHHHH", 7, 0x0100, 1, 0, 0, 0) + labels + struct.pack(">BHH", 0, kind, 1))
         answer = sock.recv(1500)
@@ -63,7 +69,7 @@ def names():
 
 
 def connection(addr, path):
-    sock = socket.create_connection((addr, 80), timeout=10)
+    sock = socket.create_connection((addr, 80), timeout=5 * LATEST)
     sock.sendall(f"GET /{path} HTTP/1.0\r\n\r\n".encode())
     return sock
 

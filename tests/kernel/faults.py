@@ -25,19 +25,21 @@ import nat as kernel_nat
 import router as kernel_router
 from client import check, echoed, report, wrong
 from dice import ANY as random
-from links import LATEST, SELF, Here, Namespace, WideSide, udp_echo
+from links import SELF, Here, Namespace, WideSide, udp_echo
 from nat import INSIDE, OUTSIDE, bound, nat_frames, seen_by
 from router import ARP, MODEL, SERVERS, make_pairs, random_frames, set_host, start_on_pairs, start_on_taps
 from routed_frames import HARDWARE, HOSTS, hostile_frames
+from waits import LATEST, until
 
 FLOOD, FEW = 60_000, 600
 
 
 def works(what):
     for family, address in SERVERS:
-        end, data, found = time.monotonic() + LATEST, random.randbytes(1000), None
-        while found != data and time.monotonic() < end:
-            found = udp_echo(family, (address, 7), data)
+        wait, data, found = 1, random.randbytes(1000), None
+        while found != data and wait <= LATEST:
+            found = udp_echo(family, (address, 7), data, wait=wait)
+            wait *= 2
         check("after a fault", found == data, (what, address, found))
 
 
@@ -72,8 +74,8 @@ def taps_fail(router, room, there, sides):
     set_host(Here(), "left")
     works("a device that was down")
     there.run("ip link set right down")
-    udp_echo(socket.AF_INET, ("10.2.0.2", 7), b"lost")
-    check("lost", router.counters()["right lost"] > 0)
+    udp_echo(socket.AF_INET, ("10.2.0.2", 7), b"lost", wait=0.1)
+    check("lost", until(lambda: router.counters()["right lost"] > 0))
     set_host(there, "right")
     works("the other device was down")
     there.run("ip link delete right")
@@ -121,12 +123,14 @@ def full_queue(router, room):
     if not shutil.which("tc"):
         print("tests/kernel: skipped: a full queue: tc is not on the path")
         return
-    room.run("tc qdisc add dev right root tbf rate 2mbit burst 4kb limit 8kb")
+    room.run("tc qdisc add dev right root tbf rate 200kbit burst 4kb limit 8kb")
     with socket.socket(socket.AF_INET, socket.SOCK_DGRAM) as sock:
-        for _ in range(500):
-            sock.sendto(bytes(1000), ("10.2.0.2", 9))
-            time.sleep(0.0005)
-    check("lost", router.counters()["right lost"] > 0)
+        def loses():
+            for _ in range(50):
+                sock.sendto(bytes(1000), ("10.2.0.2", 9))
+            return router.counters()["right lost"] > 0
+
+        check("lost", until(loses))
     room.run("tc qdisc delete dev right root")
     works("a full queue")
 
@@ -169,11 +173,16 @@ def with_flood(program):
     room, there = Namespace(), Namespace()
     nat = kernel_nat.start_on_taps(room, there, program)
     server = there.serve(*(address for _, address in SERVERS))
-    flood({"left": WideSide(SELF, "left"), "right": WideSide(there.process, "right")})
+    sides = {"left": WideSide(SELF, "left"), "right": WideSide(there.process, "right")}
+
+    def has_taken_many():
+        flood(sides)
+        return nat.counters()["frames"] > FLOOD * 0.5
+
+    check("hostile frames", until(has_taken_many), nat.counters())
     for family, address in SERVERS:
         check("after a flood", udp_echo(family, (address, 7), b"data") == b"data", address)
         check("after a flood", echoed(family, address, bytes(100_000)) == bytes(100_000), address)
-    check("hostile frames", nat.counters()["frames"] > FLOOD * 0.5, nat.counters())
     nat.ends("after a flood")
     server.kill()
 
@@ -231,9 +240,9 @@ def mappings_end(program, env):
         time.sleep(2)
         before = nat.counters().get("LK_NO_MAPPING", 0)
         far.sendto(b"too late", (OUTSIDE, 5000))
-        time.sleep(0.1)
-        check("a mapping that has ended", nat.counters().get("LK_NO_MAPPING", 0) == before + 1)
-    with socket.create_connection(("10.2.0.2", 7), timeout=5) as sock:
+        is_told = until(lambda: nat.counters().get("LK_NO_MAPPING", 0) > before)
+        check("a mapping that has ended", is_told and nat.counters()["LK_NO_MAPPING"] == before + 1)
+    with socket.create_connection(("10.2.0.2", 7), timeout=LATEST) as sock:
         time.sleep(2)
         sock.sendall(b"idle")
         check("a connection that was idle", sock.recv(99) == b"idle")

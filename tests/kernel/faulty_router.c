@@ -119,7 +119,7 @@ WRAPPED(ptrdiff_t, lk_emit_icmp_error(const struct lk_interface *own, int proble
     if (result == 0 && fault() == ERROR_ABOUT_ERROR)
         return emit_any_error(own, frame, len, out, cap);
     if (fault() == NO_LIMIT)
-        interface->limit.full_at = 0;
+        memset(&interface->limit, 0, sizeof interface->limit);
     return result;
 }
 

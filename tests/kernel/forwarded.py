@@ -314,3 +314,20 @@ def updated(checksum, before, after, is_udp):
     while total > 0xFFFF:
         total = (total & 0xFFFF) + (total >> 16)
     return (0xFFFF - total or 0xFFFF * is_udp).to_bytes(2, "big")
+
+
+def renumbered(frame, found):
+    """A packet without DF gets another identification (RFC 6864, section 5.3.1): any one."""
+    end = 14 + frame[14] % 16 * 4
+    is_atomic = frame[20] & 0x40 or len(found) < end
+    return frame if is_atomic else frame[:14] + with_header_checksum(frame[14:18] + found[18:20] + frame[20:end]) + frame[end:]
+
+
+def is_ping(packet):
+    """An echo request: the NAT answers it itself."""
+    is_icmp = packet.version == 4 and not packet.is_fragment and packet.protocol == ICMP
+    return is_icmp and len(packet.payload) >= 8 and packet.payload[0] == 8
+
+
+def is_answered(packet):
+    return icmp.is_valid(packet.payload, *packet.ends) and packet.payload[1] == 0 and not packet.frame[6] & 1

@@ -20,11 +20,12 @@ import packets
 from dice import ANY as random
 from client import HOST_HARDWARE, HOSTS as TAP_HOSTS, check, report
 from forwarded import Packet, with_header_checksum
-from links import ELSEWHERE, LATEST, SELF, Namespace, WideSide, no_errors, ping, settle, udp_echo
+from links import ELSEWHERE, SELF, Namespace, WideSide, no_errors, ping, settle, udp_echo
 from nat import INSIDE, OUTSIDE, SERVERS, bound, seen_by, start_on_pairs, start_on_taps as start_nat
 from rebuilt import number
-from routed_frames import HARDWARE, HOSTS
+from routed_frames import HARDWARE
 from router import MODEL, OF_TAPS, compare_counters, send_chunk, start_on_taps as start_router
+from waits import LATEST, until
 
 LENGTHS = (1473, 2000, 8000, 60_000, 65_506, 65_507)
 IPV6_LENGTHS = (1453, 2000, 8000, 60_000, 65_487, 65_527)
@@ -126,7 +127,7 @@ def without_answer(side, src, dst, hardware):
         for frame in framed([parts[0], parts[-1], wrong, *parts, *parts], hardware):
             side.sock.send(frame)
     time.sleep(SILENCE)
-    side.take()
+    settle(side)
     check("fragments that overlap", not [one for one in side.came_out if one.startswith(ELSEWHERE)])
 
 
@@ -152,7 +153,7 @@ def without_advert(side, src, dst, hardware):
         for frame in framed(cut_ipv6(src, dst, random.randrange(1 << 32), icmp.ICMPV6, body, most, 255), hardware):
             side.sock.send(frame)
     time.sleep(SILENCE)
-    side.take()
+    settle(side)
     check("solicitation in fragments", not [one for one in side.came_out if one.startswith(ELSEWHERE)])
     side.sock.send(icmp.framed(body, src, dst, ELSEWHERE, hardware, 255))
     end = time.monotonic() + LATEST
@@ -168,9 +169,26 @@ def to_host(device):
     from_kernel(socket.AF_INET6, host6, IPV6_LENGTHS, True)
     echo_in_fragments(side, socket.inet_aton("10.77.0.99"), addr, HOST_HARDWARE)
     without_answer(side, socket.inet_aton("10.77.0.98"), addr, HOST_HARDWARE)
+    after_losses(side, socket.inet_aton("10.77.0.96"), addr, HOST_HARDWARE)
     addrs = [socket.inet_pton(socket.AF_INET6, one) for one in ("fd77::99", host6)]
     echo_over_ipv6(side, *addrs, HOST_HARDWARE)
     without_advert(side, *addrs, HOST_HARDWARE)
+
+
+def after_losses(side, src, dst, hardware):
+    """A sender of packets that never become whole is heard again, and does not stop another one."""
+    side.forget()
+    other, data = src[:3] + bytes([src[3] + 1]), random.randbytes(2000)
+    parts = {addr: framed(cut(packets.header(0, protocol=1, src=addr, dst=dst, ident=9, flags=0),
+                              icmp.echo_request(addr, dst, 9, 7, data), 1480), hardware) for addr in (src, other)}
+    lost = [packets.header(0, protocol=1, src=src, dst=dst, ident=ident, flags=0) for ident in range(100, 300)]
+    side.sock.send(parts[other][0])
+    time.sleep(0.01)  # so that it is the oldest one
+    for frame in (*(framed(cut(one, data, 1480), hardware)[0] for one in lost), parts[other][1], *parts[src]):
+        side.sock.send(frame)
+    wholes = came_to_elsewhere(side, lambda found: len(found) == 2)
+    found = {key[1]: whole for key, whole in wholes.items()}
+    check("echo after lost fragments", found == {addr: icmp.echo_reply(addr, dst, 9, 7, data) for addr in parts}, wholes.keys())
 
 
 def forwarded(sides):
@@ -208,7 +226,7 @@ def time_exceeded(program, clock):
         check("time exceeded", is_told(side, HARDWARE["left"], parts[0]), most)
         check("a minute", time.monotonic() - start > 0.55, time.monotonic() - start)
         time.sleep(SILENCE)
-        side.take()
+        settle(side)
         check("errors", sum(icmp.is_error(frame) for frame in side.came_out) == 1)
     router.ends("with fragments and a fast clock")
 
@@ -223,6 +241,7 @@ def to_router(program, clock):
     own, hardware = socket.inet_aton("10.1.0.1"), HARDWARE["left"]
     echo_in_fragments(sides["left"], FAR_LEFT, own, hardware)
     without_answer(sides["left"], FAR_LEFT, own, hardware)
+    after_losses(sides["left"], FAR_LEFT, own, hardware)
     addrs = [socket.inet_pton(socket.AF_INET6, one) for one in ("3fff::7", "fd01::1")]
     echo_over_ipv6(sides["left"], *addrs, hardware)
     addrs[0] = socket.inet_pton(socket.AF_INET6, "fd01::77")
@@ -282,14 +301,42 @@ def own_identifications(sides):
     check("identifications", len(wholes) == len(idents) == 2 and {key[0] for key in wholes} == {outside}, wholes.keys())
 
 
+def whole_packets(sides):
+    """A packet that may be fragmented later gets an identification of the NAT, and one with DF keeps its own (RFC 6864, section
+    5.3.1). The checksum of the header stays right."""
+    for side in sides.values():
+        side.forget()
+    outside, sent = socket.inet_aton(OUTSIDE), []
+    for n, flags in enumerate((0, 0, 0x4000, 0x4000)):
+        src = FAR_LEFT[:3] + bytes([30 + n])
+        header = packets.header(12, protocol=UDP, src=src, dst=FAR_RIGHT, ident=77, flags=flags, options=bytes([1, 1, 1, 0] * n))
+        sent += framed([header + udp_packet(src, FAR_RIGHT, 42000 + n, 53, b"data")], HARDWARE["left"])
+        sides["left"].sock.send(sent[-1])
+    found = {}
+
+    def is_done():
+        sides["right"].take(0.02)
+        for frame in sides["right"].came_out:
+            if frame.startswith(ELSEWHERE) and frame[12:14] == b"\x08\0" and frame[26:30] == outside:
+                found[number(frame[14 + 4 * (frame[14] & 15) :][:2]) - 42000] = frame
+        return len(found) == len(sent)
+
+    until(is_done)
+    idents = [number(found[n][18:20]) for n in sorted(found)]
+    check("identifications of whole packets", len(set(idents[:2])) == 2 and idents[2:] == [77, 77], idents)
+    sums = [packets.word_sum(frame[14 : 14 + 4 * (frame[14] & 15)]) for frame in found.values()]
+    check("checksums of whole packets", sums == [0xFFFF] * len(sent), sums)
+
+
 def incomplete(nat, sides):
-    """An inside address has at most 8 incomplete packets, and others still have theirs (RFC 4787, REQ-14)."""
+    """A sender has at most 8 incomplete packets, in both directions, and others still have theirs (RFC 4787, REQ-14)."""
     before = nat.counters()
     for ident in range(12):
         header = packets.header(0, protocol=UDP, src=FAR_LEFT, dst=FAR_RIGHT, ident=ident, flags=0)
         sides["left"].sock.send(framed(cut(header, bytes(3000), 1480), HARDWARE["left"])[1])
-    compare_counters(nat, before, ["fragments"] * 12 + ["bad fragment"] * 4)
+    compare_counters(nat, before, ["fragments"] * 12)
     own_identifications(sides)
+    after_losses(sides["right"], FAR_RIGHT, socket.inet_aton(OUTSIDE), HARDWARE["right"])
 
 
 def through_nat(program, start=start_nat):
@@ -312,6 +359,7 @@ def through_nat(program, start=start_nat):
             check("fragments from outside", sock.recv(70_000) == data, length)
     translated_both_ways(sides)
     own_identifications(sides)
+    whole_packets(sides)
     incomplete(nat, sides)
     no_errors(there)
     nat.ends("with fragments")

@@ -28,10 +28,11 @@ import compare
 import icmp
 import client
 import packets
-from client import (ACK, ECHO, FIN, HOST_HARDWARE, HOSTS, RST, SYN, TCP, TCP_CLIENT, UDP, UDP_CLIENT, check,
-                    segment)
+from client import (ACK, ECHO, FIN, HOST_HARDWARE, HOSTS, RST, SYN, TCP, TCP_CLIENT, UDP, UDP_CLIENT, check, segment,
+                    tcp_of)
 from dice import ANY as random
 from links import ping
+from waits import LATEST, ends, is_idle, until
 
 FLOOD, AT_ONCE, CORPUS = 60_000, 250, 3000
 # Addresses of this network that the kernel does not have, so that it does not answer for them.
@@ -42,24 +43,23 @@ def wires(device):
     return [client.Wire(device, family, own, host, False) for (family, _, host), own in zip(HOSTS, OTHERS)]
 
 
-def tcp_of(frame):
-    """The TCP segment in a frame that the host sent, or None."""
-    at = 34 if frame[12:14] == b"\x08\x00" else 54
-    protocol = frame[23] if at == 34 else frame[20]
-    end = 14 + int.from_bytes(frame[16:18], "big") if at == 34 else 54 + int.from_bytes(frame[18:20], "big")
-    return frame[at:end] if frame[12] in (0x08, 0x86) and protocol == TCP else None
+def segment_to(port, frame):
+    """The segment to a port in a frame: sequence and acknowledgement number, flags, length of the payload, window; or None."""
+    body = tcp_of(frame)
+    if not body or body[2:4] != port.to_bytes(2, "big"):
+        return None
+    seq, ack, offset, flags, window = struct.unpack(">IIBBH", body[4:16])
+    return seq, ack, flags, len(body) - (offset >> 4) * 4, window
 
 
-def segments_until(wire, port, end, most=1000):
-    """The segments from the host to a port: (time, sequence and acknowledgement number, flags, length of the payload,
-    window)."""
-    found = []
-    while len(found) < most and select.select([wire.sock], [], [], max(0, end - time.monotonic()))[0]:
+def segments_until(wire, port, is_enough):
+    """The segments from the host to a port, once they are enough."""
+    found, end = [], time.monotonic() + LATEST
+    while not is_enough(found) and select.select([wire.sock], [], [], max(0, end - time.monotonic()))[0]:
         data, place = wire.sock.recvfrom(70000)
-        body = tcp_of(data)
-        if body and place[2] != socket.PACKET_OUTGOING and body[2:4] == port.to_bytes(2, "big"):
-            seq, ack, offset, flags, window = struct.unpack(">IIBBH", body[4:16])
-            found.append((time.monotonic(), seq, ack, flags, len(body) - (offset >> 4) * 4, window))
+        one = segment_to(port, data)
+        if one and place[2] != socket.PACKET_OUTGOING:
+            found.append(one)
     return found
 
 
@@ -68,14 +68,15 @@ def answer_to(wire, port, *fields):
     while select.select([wire.sock], [], [], 0)[0]:
         wire.sock.recv(70000)
     wire.sock.send(wire.frame(TCP, segment(port, *fields)))
-    found = segments_until(wire, port, time.monotonic() + client.LATEST, 1)
+    found = segments_until(wire, port, bool)
     check("answer to a segment", found, fields)
-    return found[0][1:4] if found else (0, 0, 0)
+    return found[0][:3] if found else (0, 0, 0)
 
 
 def opened(wire, port, options=b"", window=1000):
     """Opens a connection, also if there is one from this port. Returns the next number of each side."""
-    for _ in range(4):
+    end = time.monotonic() + LATEST
+    while time.monotonic() < end:
         seq = random.randrange(2**32)
         own, ack, flags = answer_to(wire, port, seq, 0, SYN, options)
         if flags == SYN | ACK and ack == (seq + 1) % 2**32:
@@ -138,6 +139,11 @@ def random_error(rng, wire, port, seq, ack):
     return icmp.framed(body, *wire.addresses, wire.hardware[0], HOST_HARDWARE)
 
 
+def is_from_kernel(frame):
+    """Whether it has the source address of the kernel, which would count an error about it for which it has no socket."""
+    return any(socket.inet_pton(family, own) in (frame[26:30], frame[22:38]) for family, own, _ in HOSTS)
+
+
 def recorded_frames(rng):
     """Frames of the corpus of make compare."""
     for line in compare.corpus(rng.randrange(2**32), CORPUS):
@@ -160,7 +166,9 @@ def hostile_frames(rng, pair):
         if kind == 0:
             yield HOST_HARDWARE + rng.choice(recorded)[6:]
         elif kind == 1:
-            yield compare.changed(rng, rng.choice(valid))
+            while is_from_kernel(frame := compare.changed(rng, rng.choice(valid))):
+                pass
+            yield frame
         elif rng.randrange(8) == 0:
             yield random_error(rng, wire, port, *numbers)
         else:
@@ -204,7 +212,7 @@ def answers_correctly(pair):
 def flood(device, _):
     """The host answers between the frames and after them. A connection that was open stays so."""
     pair = wires(device)
-    with socket.create_connection((HOSTS[0][2], ECHO), timeout=5) as sock:
+    with socket.create_connection((HOSTS[0][2], ECHO), timeout=LATEST) as sock:
         send_flood(pair[0].sock, hostile_frames(random, pair), lambda: answers_udp(random.choice(pair)))
         sock.sendall(b"still open")
         check("TCP open during a flood", client.received(sock) == b"still open")
@@ -231,7 +239,7 @@ def proved(device, process):
         pair[0].sock.send(pair[0].frame(UDP, struct.pack(">HHHH", UDP_CLIENT, ECHO, 12, 0) + b"data"))
         set_link(device, "down")
         os.kill(int(process), signal.SIGCONT)
-        time.sleep(0.05)
+        until(lambda: is_idle(process))
         set_link(device, "up")
         pair = wires(device)
         check("answer after a device was down", answers_udp(pair[0]))
@@ -239,7 +247,7 @@ def proved(device, process):
 
 def forwards(wire, far):
     """Whether a frame that goes into the bridge comes out at the other device."""
-    marker, end = random.randbytes(8), time.monotonic() + client.LATEST
+    marker, end = random.randbytes(8), time.monotonic() + LATEST
     wire.sock.send(wire.frame(UDP, struct.pack(">HHHH", UDP_CLIENT, ECHO, 16, 0) + marker))
     while select.select([far.sock], [], [], max(0, end - time.monotonic()))[0]:
         if far.sock.recv(70000).endswith(marker):
@@ -259,15 +267,6 @@ def bridge(device, process):
     ends_in_a_flood(wire, process)
 
 
-def has_ended(process):
-    """Whether there is no such process, or only its status."""
-    try:
-        with open(f"/proc/{process}/stat", encoding="utf-8") as file:
-            return file.read().rpartition(")")[2].split()[0] in "ZX"
-    except (FileNotFoundError, ProcessLookupError):
-        return True
-
-
 def ends_in_a_flood(wire, process):
     """Whether the program ends by SIGTERM while two processes send frames as fast as they can."""
     frame = wire.frame(UDP, struct.pack(">HHHH", UDP_CLIENT, ECHO, 8, 0))
@@ -275,45 +274,50 @@ def ends_in_a_flood(wire, process):
     for _ in range(2):
         senders.append(os.fork())
         if senders[-1] == 0:
-            end = time.monotonic() + 2
+            end = time.monotonic() + 10
             while time.monotonic() < end:
                 send_all(wire, [frame] * 1000)
             os._exit(0)
     time.sleep(0.1)
     os.kill(int(process), signal.SIGTERM)
     os.kill(int(process), signal.SIGCONT)
-    end = time.monotonic() + 1
-    while not has_ended(process) and time.monotonic() < end:
-        time.sleep(0.01)
-    check("SIGTERM in a flood", has_ended(process))
+    check("SIGTERM in a flood", until(lambda: ends(process)))
     for sender in senders:
         os.kill(sender, signal.SIGKILL)
         os.waitpid(sender, 0)
 
 
-def acks(device, _):
+def acks(device, process):
     """One acknowledgement for two segments, one in time for a single one, and at once around a gap."""
     wire = wires(device)[0]
     seq, ack = opened(wire, TCP_CLIENT, b"\x02\x04\x05\xb4", window=0)
 
-    def sent(*offsets, wait=0.3):
-        """What the host acknowledges within this time after segments of 1000 bytes: bytes after `seq`, and when. A
-        probe of the closed window is left out."""
-        begin = time.monotonic()
-        for offset in offsets:
-            body = segment(TCP_CLIENT, (seq + offset) % 2**32, ack, ACK, data=bytes(1000), window=0)
-            wire.sock.send(wire.frame(TCP, body))
-        found = [place for place in segments_until(wire, TCP_CLIENT, begin + wait) if place[4] == 0]
-        return [(place[2] - seq) % 2**32 for place in found], [place[0] - begin for place in found]
+    def parts(*offsets):
+        """Frames with segments of 1000 bytes."""
+        bodies = [segment(TCP_CLIENT, (seq + at) % 2**32, ack, ACK, data=bytes(1000), window=0) for at in offsets]
+        return [wire.frame(TCP, body) for body in bodies]
 
-    found, _ = sent(*range(0, 100_000, 1000))
+    def acked(found):
+        """Bytes after `seq`. A probe of the closed window is left out."""
+        return [(place[1] - seq) % 2**32 for place in found if place and place[3] == 0]
+
+    def at_once(*offsets):
+        """What the host acknowledges before it answers a probe that comes after these segments."""
+        return acked(segment_to(TCP_CLIENT, frame) for frame in wire.answers(*parts(*offsets)))
+
+    os.kill(int(process), signal.SIGSTOP)  # so that it has all of them when it goes on
+    send_all(wire, parts(*range(0, 100_000, 1000)))
+    os.kill(int(process), signal.SIGCONT)
+    found = acked(segments_until(wire, TCP_CLIENT, lambda found: 100_000 in acked(found)))
     check("one acknowledgement for two segments", 50 <= len(found) <= 55 and found[-1] == 100_000, found)
-    found, times = sent(100_000, wait=0.5)
-    check("delayed acknowledgement", found == [101_000] and 0.03 < times[0], (found, times))
-    found, times = sent(102_000)
-    check("acknowledgement of a gap", found == [101_000] and times[0] < 0.03, (found, times))
-    found, times = sent(103_000, 101_000)
-    check("acknowledgement of a closed gap", found == [101_000, 104_000] and times[1] < 0.03, (found, times))
+    begin = time.monotonic()
+    send_all(wire, parts(100_000))
+    found = acked(segments_until(wire, TCP_CLIENT, acked))
+    check("delayed acknowledgement", found == [101_000] and 0.03 < time.monotonic() - begin, found)
+    found = at_once(102_000)
+    check("acknowledgement of a gap", found == [101_000], found)
+    found = at_once(103_000, 101_000)
+    check("acknowledgement of a closed gap", found == [101_000, 104_000], found)
     close(wire, TCP_CLIENT)
     of_duplicates(wire)
     in_a_bulk_transfer(wire)
@@ -321,33 +325,41 @@ def acks(device, _):
 
 def of_duplicates(wire):
     """After a gap the window stays, although the peer acknowledges bytes. Else these would be no duplicates."""
+    def has_three(found):
+        return len(found) >= 3
+
     seq, ack = opened(wire, TCP_CLIENT, b"\x02\x04\x05\xb4\x01\x03\x03\0", window=10_000)
     for offset in (0, 1000, 2000):
         body = segment(TCP_CLIENT, (seq + offset) % 2**32, ack, ACK, data=bytes(1000), window=10_000)
         wire.sock.send(wire.frame(TCP, body))
-    segments_until(wire, TCP_CLIENT, time.monotonic() + 0.9, 3)
+    segments_until(wire, TCP_CLIENT, has_three)
     for offset in (4000, 5000, 6000):
         number = (ack + offset // 2) % 2**32
         body = segment(TCP_CLIENT, (seq + offset) % 2**32, number, ACK, data=bytes(1000), window=10_000)
         wire.sock.send(wire.frame(TCP, body))
-    found = segments_until(wire, TCP_CLIENT, time.monotonic() + 0.9, 3)
-    check("duplicates", len(found) == 3 and len({place[2:] for place in found}) == 1, found)
-    check("duplicate", found and found[0][2:5] == ((seq + 3000) % 2**32, ACK, 0), found)
+    found = segments_until(wire, TCP_CLIENT, has_three)
+    check("duplicates", len(found) == 3 and len({place[1:] for place in found}) == 1, found)
+    check("duplicate", found and found[0][1:4] == ((seq + 3000) % 2**32, ACK, 0), found)
     close(wire, TCP_CLIENT)
 
 
 def in_a_bulk_transfer(wire):
     """The same for the kernel, which sends 1 MB, and reads nothing before the buffers are full."""
+    def acked(found):
+        return (found[-1][1] - found[0][1]) % 2**32 / wire.max_seg_size if found else 0
+
     host, data, back = HOSTS[0][2], bytes(1 << 20), 0
-    with socket.create_connection((host, ECHO), timeout=5) as sock:
-        thread = threading.Thread(target=sock.sendall, args=(data,), daemon=True)
+    with socket.create_connection((host, ECHO), timeout=LATEST) as sock:
+        begin, thread = time.monotonic(), threading.Thread(target=sock.sendall, args=(data,), daemon=True)
         thread.start()
-        found = segments_until(wire, sock.getsockname()[1], time.monotonic() + 0.5, 100_000)
+        found = segments_until(wire, sock.getsockname()[1], lambda found: acked(found) > 100)
+        took = time.monotonic() - begin
         while back < len(data) and isinstance(more := client.received(sock), bytes) and more:
             back += len(more)
-        thread.join(5)
-    acks, segments = sum(place[4] == 0 for place in found), (found[-1][2] - found[0][2]) % 2**32 / wire.max_seg_size
-    check("bulk transfer", back == len(data) and 100 < segments and acks <= segments / 2 + 10, (back, acks, segments))
+        thread.join(LATEST)
+    acks, segments = sum(place[3] == 0 for place in found), acked(found)
+    # One more for each time that the host has waited for a second segment, 40 ms.
+    check("bulk transfer", back == len(data) and 100 < segments and acks <= segments / 2 + 10 + took / 0.04, (back, acks, segments))
 
 
 def send_all(wire, frames):
@@ -374,10 +386,16 @@ def queue(device, process):
     """A queue of four frames loses some. A host that was stopped goes on."""
     (family, _, host), data = HOSTS[0], random.randbytes(1 << 19)
     set_link(device, "txqueuelen", "4")
+    with socket.create_connection((host, ECHO), timeout=5 * LATEST) as sock:
+        os.kill(int(process), signal.SIGSTOP)
+        sock.sendall(data[:20_000])
+        check("lost frames", until(lambda: dropped_frames(device) > 0))
+        os.kill(int(process), signal.SIGCONT)
+        with sock.makefile("rb") as file:
+            check("TCP over a short queue", file.read(20_000) == data[:20_000])
     check("TCP over a short queue", client.echoed(family, host, data) == data)
-    check("lost frames", dropped_frames(device) > 0)
     set_link(device, "txqueuelen", "1000")
-    with socket.create_connection((host, ECHO), timeout=5) as sock:
+    with socket.create_connection((host, ECHO), timeout=LATEST) as sock:
         os.kill(int(process), signal.SIGSTOP)
         fill(wires(device)[0])
         sock.sendall(b"while it is stopped")
@@ -397,8 +415,8 @@ def leave_retransmitting(device, _):
     wire = wires(device)[0]
     seq, ack = opened(wire, TCP_CLIENT)
     wire.sock.send(wire.frame(TCP, segment(TCP_CLIENT, seq, ack, ACK, data=b"data")))
-    found = segments_until(wire, TCP_CLIENT, time.monotonic() + 3, 2)
-    check("retransmission", [place[4] for place in found] == [4, 4], found)
+    found = segments_until(wire, TCP_CLIENT, lambda found: len(found) >= 2)
+    check("retransmission", [place[3] for place in found] == [4, 4], found)
 
 
 def leave_full(device, process):

@@ -21,22 +21,22 @@ import time
 import icmp
 import nat as kernel_nat
 import packets
-from client import CLOSED, ECHO, HOST_HARDWARE, HOSTS, PROBE, UDP, check, echoed, report
+from client import CLOSED, ECHO, HOST_HARDWARE, HOSTS, UDP, check, echoed, report
 from dice import ANY as random
 from hostile import wires
-from links import READS_MTU, SELF, Here, Namespace, WideSide, no_errors, ping, settle, udp_error
+from links import (SELF, Here, Namespace, WideSide, no_errors, ping, reads_smaller_mtu, reads_whole_mtu, settle, udp_error)
 from nat import INSIDE, OUTSIDE, bound, seen_by
-from ndisc import SILENCE, adverts, heard, solicits
-from router import ARP, MODEL, SERVERS, compare_lists, start_on_pairs, start_on_taps
+from ndisc import adverts, becomes_stale, heard, solicits
+from router import MODEL, SERVERS, compare_lists, start_on_pairs, start_on_taps
 from packets import word_sum
 from routed_frames import HARDWARE, extended
+from waits import LATEST, until
 
-LATEST = 5  # seconds
 OWN = {socket.AF_INET: "10.1.0.1", socket.AF_INET6: "fd01::1"}
 # The limit of errors: so many at once, and so many in a second.
 MOST_ERRORS, ERRORS_PER_SECOND = 50, 100
 # A kernel that sends all errors, and one that soon asks again for a neighbour of which it has heard.
-NO_LIMIT = "sysctl -qw net.ipv4.icmp_ratelimit=0 net.ipv6.icmp.ratelimit=0"
+NO_LIMIT = "sysctl -qw net.ipv4.icmp_ratelimit=0 net.ipv4.icmp_ratemask=0 net.ipv6.icmp.ratelimit=0"
 PROMPT = NO_LIMIT + " net.ipv6.neigh.{name}.delay_first_probe_time=1"
 
 
@@ -54,17 +54,16 @@ def run(*command):
 
 def is_reachable(address, device, is_router):
     """Whether the kernel finds a neighbour by asking, and the answer has R exactly if it is a router."""
-    words, end = [], time.monotonic() + LATEST
-    while "REACHABLE" not in words and time.monotonic() < end:
-        words = run("ip", "-6", "neighbour", "show", address, "dev", device).split()
-        time.sleep(0.05)
-    return "REACHABLE" in words and ("router" in words) == is_router
+    def words():
+        return run("ip", "-6", "neighbour", "show", address, "dev", device).split()
+
+    return until(lambda: "REACHABLE" in words()) and ("router" in words()) == is_router
 
 
 def is_refused(family, address, port=CLOSED):
     """Whether a UDP packet to a closed port fails at once."""
     with socket.socket(family, socket.SOCK_DGRAM) as sock:
-        sock.settimeout(1)
+        sock.settimeout(LATEST)
         sock.connect((address, port))
         sock.send(b"x")
         try:
@@ -89,32 +88,13 @@ def pings(family, address, device):
         for length in (answered[-1] + 1, 65507):
             check("ping in fragments", ping(family, address, bytes(length), 1), (address, length))
         for length in (0, 1, 8, answered[-1]) if has("ping") else ():
-            command = ["ping", "-c", "1", "-W", "2", "-s", str(length), address]
+            command = ["ping", "-c", "1", "-W", str(LATEST), "-s", str(length), address]
             check("program ping", " 0% packet loss" in run(*command), command)
     subprocess.run(["ip", "link", "set", device, "mtu", "1500"], check=True)
 
 
-def answers(wire, *frames):
-    """The frames with which the host answers these, but for ARP. An answer to a probe comes after them."""
-    marker, found, end = random.randbytes(8), [], time.monotonic() + LATEST
-    while select.select([wire.sock], [], [], 0)[0]:
-        wire.sock.recv(70000)
-    for frame in frames:
-        wire.sock.send(frame)
-    wire.sock.send(wire.frame(UDP, struct.pack(">HHHH", PROBE, ECHO, 16, 0) + marker))
-    while select.select([wire.sock], [], [], max(0, end - time.monotonic()))[0]:
-        data, place = wire.sock.recvfrom(70000)
-        if place[2] == socket.PACKET_OUTGOING or data[12:14] == ARP or data[6:12] != HOST_HARDWARE:
-            continue
-        if data.endswith(marker):
-            return found
-        found.append(data)
-    check("answer to a probe", False, [frame.hex() for frame in frames])
-    return found
-
-
 def answered_by(kind, wire, frame, *expected):
-    found = answers(wire, frame)
+    found = wire.answers(frame)
     lists = [[one.hex() for one in frames] for frames in (found, expected)]
     check(kind, found == list(expected), "\n    {}\n    is {}\n    not {}".format(frame.hex(), *lists))
 
@@ -164,7 +144,8 @@ def solicitations(wire):
             request = icmp.solicitation(dst, src, to, option)
             answered_by("solicitation", wire, icmp.framed(request, src, to, own, hardware, 255), advert)
             answered_by("solicitation from elsewhere", wire, icmp.framed(request, src, to, own, hardware, 254))
-            answered_by("damaged solicitation", wire, icmp.framed(request[:-1] + b"\xa5", src, to, own, hardware, 255))
+            damaged = request[:-1] + bytes([request[-1] ^ 1])
+            answered_by("damaged solicitation", wire, icmp.framed(damaged, src, to, own, hardware, 255))
             other = icmp.solicitation(dst[:13] + b"\xaa" + dst[14:], src, to, option)
             answered_by("solicitation for others", wire, icmp.framed(other, src, to, own, hardware, 255))
         answered_by("option of length 0", wire, icmp.framed(
@@ -176,10 +157,12 @@ def solicitations(wire):
         icmp.advertisement(dst, dst, nodes, HOST_HARDWARE, 1), dst, nodes, HOST_HARDWARE, b"\x33\x33\0\0\0\1", 255))
 
 
-def count_errors(sock, seconds, hardware):
-    """How many ICMP errors came from an Ethernet address within this time."""
-    count, end = 0, time.monotonic() + seconds
-    while select.select([sock], [], [], max(0, end - time.monotonic()))[0]:
+def count_errors(sock, least, seconds, hardware):
+    """How many ICMP errors came from an Ethernet address within this time, or after it until there are enough."""
+    count, begin = 0, time.monotonic()
+    while time.monotonic() - begin < (seconds if count >= least else LATEST):
+        if not select.select([sock], [], [], 0.05)[0]:
+            continue
         data, place = sock.recvfrom(70000)
         is_icmp = data[23] == icmp.ICMP if data[12:14] == b"\x08\0" else data[20] == icmp.ICMPV6 and data[54] < 128
         count += place[2] != socket.PACKET_OUTGOING and data[6:12] == hardware and data[12] in (8, 0x86) and is_icmp
@@ -194,7 +177,7 @@ def limited(kind, sock, frames, hardware):
     start = time.monotonic()
     for frame in frames:
         sock.send(frame)
-    count = count_errors(sock, 0.3, hardware)
+    count = count_errors(sock, MOST_ERRORS, 0.3, hardware)
     most = MOST_ERRORS + ERRORS_PER_SECOND * (time.monotonic() - start)
     check(kind, MOST_ERRORS <= count <= most + 1, (count, most))
 
@@ -270,7 +253,7 @@ def traces(place, hops, *options):
     """traceroute finds each hop, with three replies."""
     if not has("traceroute"):
         return
-    output = run("traceroute", "-n", "-w", "2", "-N", "1", *options, place)
+    output = run("traceroute", "-n", "-w", str(LATEST), "-N", "1", *options, place)
     found = [re.findall(r"[0-9a-f.:]+(?=  )|\*", line.split(maxsplit=1)[1])[:1] for line in output.splitlines()[1:]]
     check("traceroute", found == [[hop] for hop in hops] and "*" not in output, (options, output))
 
@@ -313,7 +296,6 @@ def compare_errors_about(frames, side):
     time.sleep(MOST_ERRORS / ERRORS_PER_SECOND)
     for frame in frames:
         side.sock.send(frame)
-    time.sleep(SILENCE)
     settle(side)
     expected = [MODEL.error(frame, "left", "no route") for frame in frames]
     found = [frame for frame in side.came_out if icmp.is_error(frame) and frame[6:12] == HARDWARE["left"]]
@@ -335,7 +317,7 @@ def smaller_link(room, there):
     here = Here()
     for name, namespace in (("right", room), ("right", there)):
         namespace.run(f"ip link set {name} mtu 1300")
-    time.sleep(READS_MTU)
+    reads_smaller_mtu(socket.AF_INET, (SERVERS[0][1], 7))
     for family, server in SERVERS:
         four = family == socket.AF_INET
         expected = (3, 4, 1300, OWN[family]) if four else (2, 0, 1300, OWN[family])
@@ -350,8 +332,7 @@ def smaller_link(room, there):
         check("ping in fragments over a smaller link", four or ping_in_fragments(server), server)
     for namespace in (room, there):
         namespace.run("ip link set right mtu 1500")
-    time.sleep(READS_MTU)
-    here.run("ip route flush cache && ip -6 route flush cache")
+    reads_whole_mtu((SERVERS[0][1], 7))
 
 
 def ping_discovers(server):
@@ -361,14 +342,14 @@ def ping_discovers(server):
         return True
     told_mtu = subprocess.run(["ping", "-c", "1", "-W", "1", "-M", "do", "-s", str(length + 1), server], capture_output=True,
                               text=True, check=False)
-    passes = run("ping", "-c", "2", "-W", "2", "-i", "0.2", "-M", "do", "-s", str(length), server)
+    passes = run("ping", "-c", "2", "-W", str(LATEST), "-i", "0.2", "-M", "do", "-s", str(length), server)
     return "1300" in told_mtu.stdout + told_mtu.stderr and " 0% packet loss" in passes
 
 
 def ping_in_fragments(server):
     """A `ping` over IPv6 that comes in fragments learns the MTU, and then its packets pass."""
     return not has("ping") or " 0% packet loss" not in run("ping", "-c", "1", "-W", "1", "-s", "4000", server) and (
-        " 0% packet loss" in run("ping", "-c", "2", "-W", "2", "-i", "0.2", "-s", "4000", server))
+        " 0% packet loss" in run("ping", "-c", "2", "-W", str(LATEST), "-i", "0.2", "-s", "4000", server))
 
 
 def with_router(program):
@@ -381,6 +362,7 @@ def with_router(program):
     own_addresses()
     told(there)
     solicits(sides)
+    becomes_stale(sides)
     adverts(sides)
     heard(sides)
     for family, address in SERVERS:

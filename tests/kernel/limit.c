@@ -34,7 +34,7 @@ static uint32_t addr_of(size_t number)
 /* Opens a mapping, as lk_translate_out does. Returns whether it is within the limit. */
 static int opens(struct limit *limit, size_t place, uint32_t addr, uint64_t expires, uint64_t now)
 {
-    mappings[place] = (struct lk_mapping){.expires = expires};
+    mappings[place] = (struct lk_mapping){.expires = expires, .inside_port = (uint16_t)place};
     memcpy(mappings[place].inside, &addr, sizeof addr);
     return is_within_limit(limit, mappings, place, now);
 }
@@ -88,6 +88,17 @@ static void many_of_one(void)
     check(opens_counted(limit, 0, addr_of(2), 200, 100), "a mapping of another address", 0);
 }
 
+/* Whether the index has what a search of all mappings finds. */
+static void check_index(struct limit *limit, size_t places, const struct lk_mapping *endpoint, uint64_t now)
+{
+    size_t live = 0;
+    for (size_t i = 0; i < places; i++)
+        live += now < mappings[i].expires && memcmp(mappings[i].inside, endpoint->inside, 4) == 0
+                && mappings[i].inside_port == endpoint->inside_port;
+    check(has_mapping(limit, mappings, 0, endpoint, now) == (live > 0), "the index", now);
+    check(!has_mapping(limit, mappings, 1, endpoint, now), "the index of another protocol", now);
+}
+
 /* Any mappings of a few addresses, compared with a count of those that are live. */
 static void any_mappings(void)
 {
@@ -104,6 +115,9 @@ static void any_mappings(void)
         for (size_t i = 0; i < PLACES; i++)
             live += i != place && now < mappings[i].expires && memcmp(mappings[i].inside, &addr, sizeof addr) == 0;
         check(opens(limit, place, addr, expires, now) == (live < MOST), "a count of all mappings", now);
+        struct lk_mapping endpoint = mappings[(size_t)random() % PLACES];
+        endpoint.inside_port = (uint16_t)(random() % PLACES);
+        check_index(limit, PLACES, &endpoint, now);
     }
 }
 

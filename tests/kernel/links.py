@@ -14,10 +14,9 @@ import time
 from bridge import Side, in_namespace, set_namespace
 from client import check, kernel_errors
 from packets import word_sum
+from waits import LATEST, is_idle, until
 
 TOP = os.path.dirname(os.path.dirname(os.path.dirname(os.path.abspath(__file__))))
-LATEST = 5  # seconds
-READS_MTU = 1.2  # seconds, until a router has looked at its interfaces again
 SO_RCVBUFFORCE, SOL_PACKET, PACKET_STATISTICS = 33, 263, 6
 # By the version of IP: the level of options; IP_RECVERR, IP_TTL and IP_MTU_DISCOVER; where an error has the address.
 MTU_DISCOVER = 10
@@ -34,7 +33,7 @@ class Namespace:
     """A network namespace, which a process keeps."""
 
     def __init__(self):
-        self.keeper = subprocess.Popen(["unshare", "--net", "sh", "-c", "echo ready && exec sleep 900"], stdout=subprocess.PIPE)
+        self.keeper = subprocess.Popen(["unshare", "--net", "sh", "-c", "echo ready && exec sleep infinity"], stdout=subprocess.PIPE)
         self.keeper.stdout.readline()
         self.process = str(self.keeper.pid)
         atexit.register(self.keeper.kill)
@@ -72,6 +71,8 @@ class Here(Namespace):
 class Program:
     """A router or NAT that runs in a namespace, on these interfaces. `wrap` is a command that runs it."""
 
+    running = []
+
     def __init__(self, namespace, program, config, interfaces, options=(), env=None, wrap=()):
         self.last, self.errors = interfaces[-1].split(":")[1], f"{program}.err"
         self.config = f"{program}.config"
@@ -82,6 +83,7 @@ class Program:
         if self.process.stdout.readline() != "ready\n":
             sys.exit(f"tests/kernel: {program} does not start: {self.messages()}")
         self.read_lines()
+        self.running.append(self.process.pid)
 
     def write(self, config):
         self.text = config
@@ -98,13 +100,8 @@ class Program:
             return errors.read()
 
     def waits_for(self, message, lines=0):
-        """Whether it prints this message within 5 s, after so many lines."""
-        end = time.monotonic() + LATEST
-        while True:
-            found = message in "\n".join(self.messages().split("\n")[lines:])
-            if found or time.monotonic() > end:
-                return found
-            time.sleep(0.02)
+        """Whether it prints this message, after so many lines."""
+        return until(lambda: message in "\n".join(self.messages().split("\n")[lines:]))
 
     def read_lines(self):
         """The lines up to that of the last interface."""
@@ -128,15 +125,16 @@ class Program:
         return found
 
     def ends(self, what, status=0):
-        """It ends within 2 s of SIGTERM, with this status."""
+        """It ends by SIGTERM, with this status."""
         self.process.send_signal(signal.SIGTERM)
         try:
-            found = self.process.wait(2)
+            found = self.process.wait(LATEST)
         except subprocess.TimeoutExpired:
             self.process.kill()
             found = self.process.wait()
         check("SIGTERM", found == status, (what, found))
         self.process.stdout.close()
+        self.running.remove(self.process.pid)
 
 
 class WideSide(Side):
@@ -162,17 +160,23 @@ class WideSide(Side):
         self.is_short = False
 
 
+def wait_until_idle():
+    """Waits until all routers and NATs have taken the frames and signals that they got."""
+    return until(lambda: all(map(is_idle, Program.running)))
+
+
 def settle(*sides):
-    """Takes frames on all sides until no more come. Whether none was lost."""
+    """Takes frames on all sides until the programs are idle and no more come. Whether none was lost."""
+    wait_until_idle()
     while any([side.take(0.02) for side in sides]):
-        pass
+        wait_until_idle()
     return not any([side.has_lost() for side in sides])
 
 
-def udp_echo(family, place, data, source=None, options=()):
+def udp_echo(family, place, data, source=None, options=(), wait=LATEST):
     """What comes back of a UDP packet, or the error."""
     with socket.socket(family, socket.SOCK_DGRAM) as sock:
-        sock.settimeout(2)
+        sock.settimeout(wait)
         for option in options:
             sock.setsockopt(*option)
         if source:
@@ -201,6 +205,32 @@ def ping(family, address, data, number, source=None, wait=LATEST):
             if answer[:1] == (b"\0" if is_ipv4 else b"\x81") and answer[4:] == body:
                 return True
     return False
+
+
+def reads_smaller_mtu(family, place, length=1400):
+    """Waits until a packet of this length, which no longer fits a link, gets an error: a router looks at its interfaces once a
+    second. The sockets stay open as long as an error may come, because the kernel counts one that finds none."""
+    level, recverr, _, discover, _ = ERROR_OPTIONS[family]
+    poll, end = select.poll(), time.monotonic() + LATEST
+    with contextlib.ExitStack() as sockets:
+        while not poll.poll(50) and time.monotonic() < end:
+            sock = sockets.enter_context(socket.socket(family, socket.SOCK_DGRAM))
+            for option, value in ((recverr, 1), (discover, PMTUDISC_PROBE)):
+                sock.setsockopt(level, option, value)
+            sock.connect(place)
+            poll.register(sock, select.POLLERR)
+            sock.send(bytes(length))
+        wait_until_idle()
+
+
+def reads_whole_mtu(place):
+    """Waits until a packet of 1400 bytes passes again, and forgets what the kernel knows of MTUs."""
+    def passes():
+        Here().run("ip route flush cache && ip -6 route flush cache")
+        probe = socket.IPPROTO_IP, MTU_DISCOVER, PMTUDISC_PROBE
+        return udp_echo(socket.AF_INET, place, bytes(1400), options=[probe], wait=1) == bytes(1400)
+
+    return until(passes)
 
 
 def udp_error(family, place, data=b"", hop_limit=64, source=None, options=b""):

@@ -12,19 +12,19 @@ import copy
 import ipaddress
 import socket
 import sys
-import time
 
 import packets
 import icmp
 from dice import ANY as random
-from forwarded import (DESTINATION, ICMP, SOURCE, Packet, Router, has_ports, is_icmp_error, port_at, port_of, quoted_end, quotes_enough,
-                       translated, with_header_checksum, with_quoted)
+from forwarded import (DESTINATION, ICMP, SOURCE, Packet, Router, has_ports, is_answered, is_icmp_error, is_ping, port_at, port_of,
+                       quoted_end, quotes_enough, renumbered, translated, with_header_checksum, with_quoted)
 from client import check, echoed, report, tcp_at_once, tcp_turns, udp_lengths
 from rebuilt import number
 from links import ELSEWHERE, SELF, Here, Namespace, Program, WideSide, no_errors, settle, udp_echo
-from router import (ARP, CLAMP, compare_counters, compare_sides, longest_handed, longer_hosts, make_pairs, random_frames,
+from router import (CLAMP, compare_counters, compare_sides, longest_handed, longer_hosts, make_pairs, random_frames,
                     set_host)
 from routed_frames import HARDWARE, HOSTS, RANDOM_FRAMES, hostile_frames, routed
+from waits import LATEST
 
 TIMESTAMP = 13
 OUTSIDE, INSIDE = "10.2.0.1", ("10.1.0.2", "10.1.0.3")
@@ -154,9 +154,16 @@ class Nat(Router):
         return (why, None) if out is None and why else (to, self.clamped(out, came_in, to))
 
     def fate(self, frame, came_in):
-        """As that of a router. If the outside port is not known yet, the frame is a function of what came out."""
+        """As that of a router. The frame is a function of what came out, because the NAT chooses identifications."""
         if Packet(frame).version == 6:
             return super().fate(frame, came_in)
+        to, out = self.fate_before(frame, came_in)
+        if out is None or to != "right":
+            return to, out
+        return to, lambda found: renumbered(out(found) if callable(out) else out, found)
+
+    def fate_before(self, frame, came_in):
+        """The same without identifications. If the outside port is not known yet, the frame is a function of what came out."""
         self.unknown = None
         to, out = self.known_fate(frame, came_in)
         key = self.unknown
@@ -169,16 +176,6 @@ class Nat(Router):
             return self.known_fate(frame, came_in)[1]
 
         return to, out_of
-
-
-def is_ping(packet):
-    """An echo request: the NAT answers it itself."""
-    is_icmp = packet.version == 4 and not packet.is_fragment and packet.protocol == ICMP
-    return is_icmp and len(packet.payload) >= 8 and packet.payload[0] == 8
-
-
-def is_answered(packet):
-    return icmp.is_valid(packet.payload, *packet.ends) and packet.payload[1] == 0 and not packet.frame[6] & 1
 
 
 def start_on_taps(room, there, program, lines="", config=OF_TAPS, **words):
@@ -322,7 +319,7 @@ def free_ports(model):
 
 def bound(kind, source):
     sock = socket.socket(socket.AF_INET, kind)
-    sock.settimeout(2)
+    sock.settimeout(LATEST)
     sock.setsockopt(socket.SOL_SOCKET, socket.SO_REUSEADDR, 1)
     sock.setsockopt(socket.SOL_SOCKET, socket.SO_REUSEPORT, 1)
     sock.bind(source)
@@ -421,7 +418,6 @@ def not_translated(nat):
     with socket.socket(socket.AF_INET, socket.SOCK_RAW, socket.IPPROTO_ICMP) as sock:
         for _ in range(5):
             sock.sendto(icmp.message(TIMESTAMP, 0, 1, bytes(12), bytes(4), bytes(4)), (SERVERS[0], 0))
-    time.sleep(0.1)
     compare_counters(nat, before, ["LK_OTHER_PROTOCOL"] * 5)
 
 

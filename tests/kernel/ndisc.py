@@ -4,10 +4,10 @@ import time
 
 import icmp
 from client import UDP, check
+from links import settle
 from router import compare_lists
 from routed_frames import HARDWARE, HOSTS
-
-LATEST, SILENCE = 5, 0.2  # seconds
+from waits import until
 
 
 def solicits(sides):
@@ -20,6 +20,31 @@ def solicits(sides):
     compare_lists("solicitation", [icmp.framed(request, own, group, HARDWARE["right"], hardware, 255)] * 3, found)
 
 
+def is_asked(side, host, hardware):
+    """Whether the router, which has a packet for a neighbour, asks this Ethernet address for it."""
+    with socket.socket(socket.AF_INET6, socket.SOCK_DGRAM) as sock:
+        sock.sendto(b"", ("fd02::2", 7))
+    side.take(0.05)
+    return any(frame[:6] == hardware and frame[20] == icmp.ICMPV6 and (frame[54], frame[62:78]) == (icmp.SOLICITATION, host)
+               for frame in side.came_out)
+
+
+def becomes_stale(sides):
+    """An advertisement without O of another Ethernet address does not change a fresh entry, but it is asked for (RFC 4861,
+    section 7.2.5)."""
+    side, true, false = sides["right"], HOSTS["right"], bytes.fromhex("020000000299")
+    own, host = (socket.inet_pton(socket.AF_INET6, text) for text in ("fd02::1", "fd02::2"))
+    is_asked(side, host, true)
+    time.sleep(1.2)  # an answer has come, and it may be asked again
+    settle(side)
+    side.forget()
+    check("a fresh neighbour", not is_asked(side, host, true))
+    side.sock.send(icmp.framed(icmp.advertisement(host, host, own, false, 0), host, own, false, HARDWARE["right"], 255))
+    settle(side)
+    check("a stale neighbour", until(lambda: is_asked(side, host, true), 20))
+    check("its Ethernet address", {frame[:6] for frame in side.came_out if frame[20] == UDP} == {true})
+
+
 def adverts(sides):
     """What an advertisement changes (RFC 4861, section 7.2.5)."""
     side, true, false = sides["right"], HOSTS["right"], bytes.fromhex("020000000299")
@@ -29,13 +54,12 @@ def adverts(sides):
             ("without O", true, nodes, 0, 255, false), ("to all nodes, with O", true, nodes, 1, 255, true)):
         to_hardware = HARDWARE["right"] if to == own else b"\x33\x33\0\0\0\1"
         side.sock.send(icmp.framed(icmp.advertisement(host, host, to, hardware, flags), host, to, hardware, to_hardware, hop_limit))
-        time.sleep(0.05)
+        settle(side)
         side.forget()
         with socket.socket(socket.AF_INET6, socket.SOCK_DGRAM) as sock:
             sock.sendto(b"", ("fd02::2", 7))
-            side.take(LATEST)
-            time.sleep(0.05)
-            side.take()
+            until(lambda: side.take(0.05) and any(frame[20] == UDP for frame in side.came_out))
+            settle(side)
         found = {frame[:6] for frame in side.came_out if frame[20] == UDP}
         check("advertisement", found == {expected}, (what, found))
 
@@ -45,11 +69,11 @@ def heard(sides):
     side, hardware = sides["right"], bytes.fromhex("020000000255")
     own, host = (socket.inet_pton(socket.AF_INET6, text) for text in ("fd02::1", "fd02::55"))
     side.sock.send(icmp.framed(icmp.solicitation(own, host, own, hardware), host, own, hardware, HARDWARE["right"], 255))
-    time.sleep(0.05)
+    settle(side)
     side.forget()
     with socket.socket(socket.AF_INET6, socket.SOCK_DGRAM) as sock:
         sock.sendto(b"", ("fd02::55", 7))
-        time.sleep(SILENCE)
-    side.take()
+        until(lambda: side.take(0.05) and len([frame for frame in side.came_out if frame[:6] == hardware]) >= 2)
+        settle(side)
     found = sorted(frame[20] for frame in side.came_out if frame[:6] == hardware)
     check("a host that asked", found == [UDP, icmp.ICMPV6], found)

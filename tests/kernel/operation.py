@@ -22,10 +22,11 @@ import packets
 from client import check, report
 from dice import ANY as random
 from forwarded import Router
-from links import ELSEWHERE, LATEST, SELF, Namespace, WideSide, settle
+from links import ELSEWHERE, SELF, Namespace, WideSide, settle, wait_until_idle
 from nat import INSIDE, OUTSIDE, start_on_taps as start_nat
 from routed_frames import HARDWARE, HOSTS
 from router import ADDRESSES, AT_ONCE, OF_TAPS, send_chunk, start_on_taps as start_router
+from waits import LATEST, is_idle, until
 
 HOST_ARGUMENTS = ["tap0", "02:00:00:00:aa:07", "10.77.0.2", "fd77::2"]
 ARGUMENTS = {"host": HOST_ARGUMENTS, "http": [*HOST_ARGUMENTS, "/dev/null"], "proved_host": [*HOST_ARGUMENTS, "80"],
@@ -131,7 +132,7 @@ class Runner:
         """Its output, its errors and its status. One that has not ended in time is ended."""
         process = self.start(program, arguments)
         try:
-            return (*process.communicate(timeout=4 * LATEST), process.returncode)
+            return (*process.communicate(timeout=LATEST), process.returncode)
         except subprocess.TimeoutExpired:
             process.kill()
             return (*process.communicate(), "no end")
@@ -164,7 +165,7 @@ def wrong_files(runner):
 
 
 def is_ready(process):
-    """Whether it takes signals within 5 s: it has a file for them."""
+    """Whether it takes signals: it has a file for them."""
     folder, end = f"/proc/{process.pid}/fd", time.monotonic() + LATEST
     while time.monotonic() < end and process.poll() is None:
         with contextlib.suppress(FileNotFoundError):
@@ -175,10 +176,10 @@ def is_ready(process):
 
 
 def ends(process, what, number=signal.SIGTERM, status=0):
-    """It ends within 2 s of a signal, with this status."""
+    """It ends by a signal, with this status."""
     process.send_signal(number)
     try:
-        found = process.wait(2)
+        found = process.wait(LATEST)
     except subprocess.TimeoutExpired:
         process.kill()
         found = process.wait()
@@ -205,17 +206,17 @@ def frame_from_left(source=INSIDE[0], target="198.18.0.1", port=4000, kind="UDP"
     return HARDWARE["left"] + ELSEWHERE + frame[12:]  # so that no kernel gets an ICMP error about it
 
 
-def comes_out(sides, to=ELSEWHERE, wait=LATEST, **fields):
+def comes_out(sides, to=ELSEWHERE, is_expected=True, **fields):
     """Whether a packet from the left comes out on the right, for this neighbour."""
+    def is_there():
+        sides["right"].take(0.05)
+        return any(frame.startswith(to) for frame in sides["right"].came_out)
+
     for side in sides.values():
         side.forget()
     sides["left"].sock.send(frame_from_left(**fields))
-    end = time.monotonic() + wait
-    while time.monotonic() < end:
-        sides["right"].take(0.05)
-        if any(frame.startswith(to) for frame in sides["right"].came_out):
-            return True
-    return False
+    settle(*sides.values())
+    return until(is_there, LATEST if is_expected else 0.1)
 
 
 @contextlib.contextmanager
@@ -243,7 +244,7 @@ def configurations(program):
     other = bytes.fromhex("020000000909")
     with on_taps(start_router, program, config="address 10.1.0.1/24 dev left\naddress 10.2.0.1/24 dev right\n" + "".join(
             f"lladdr {addr.hex(':')} dev {name}\n" for name, addr in HARDWARE.items())) as (router, sides):
-        check("no route", not comes_out(sides, wait=0.3))
+        check("no route", not comes_out(sides, is_expected=False))
         for config, message, to in (
                 (OF_TAPS, "read again", ELSEWHERE), (OF_TAPS + "route 10.0.0.0/8 dev middle\n", "no such interface", ELSEWHERE),
                 ("address 10.1.0.1/24 dev left\n", "read again", None), (OF_TAPS, "read again", ELSEWHERE),
@@ -251,7 +252,7 @@ def configurations(program):
             before = router.messages().count("\n")
             router.has_again(config)
             check("SIGHUP", router.waits_for(message, before), (message, router.messages()))
-            check("the new file", comes_out(sides, to) if to else not comes_out(sides, wait=0.3), (message, to))
+            check("the new file", comes_out(sides, to) if to else not comes_out(sides, is_expected=False), (message, to))
             check("one line", router.messages().count("\n") == before + 1, router.messages())
         os.remove(router.config)
         router.process.send_signal(signal.SIGHUP)
@@ -269,7 +270,7 @@ def outputs(program):
         router.process.stdout.close()
         for _ in range(20):
             router.process.send_signal(signal.SIGUSR1)
-            time.sleep(0.01)
+            wait_until_idle()
         check("an output without a reader", comes_out(sides))
         ends(router.process, "without a reader")
     for state in ("read again", "full"):
@@ -277,7 +278,7 @@ def outputs(program):
             fcntl.fcntl(router.process.stdout.fileno(), fcntl.F_SETPIPE_SZ, 4096)
             for _ in range(100):
                 router.process.send_signal(signal.SIGUSR1)
-                time.sleep(0.005)
+                wait_until_idle()
             check("a full output", comes_out(sides))
             if state == "full":
                 ends(router.process, "a full output")
@@ -296,7 +297,7 @@ def terminal(runner):
         check("a start on a terminal that takes nothing", is_ready(router))
         for number in (signal.SIGUSR1, signal.SIGHUP, signal.SIGUSR1):
             router.send_signal(number)
-            time.sleep(0.05)
+            until(lambda: is_idle(router.pid))
         check("a terminal that blocks others", not fcntl.fcntl(slave, fcntl.F_GETFL) & os.O_NONBLOCK)
         ends(router, "a terminal that takes nothing")
     os.close(master)

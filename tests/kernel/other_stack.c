@@ -34,7 +34,7 @@
 enum { ECHO_PORT = 7, MTU = 1500, LONGEST_FRAME = 65535 + 18, FRAMES_AT_ONCE = 64 };
 enum { LARGEST = 10000000, MOST_WRONG = 10 };
 /* In milliseconds. With loss, a UDP packet is sent again after a while. */
-enum { PATIENCE = 120000, UDP_PATIENCE = 50, UDP_TRIES = 50 };
+enum { PATIENCE = 600000, UDP_PATIENCE = 50, UDP_TRIES = 2000 };
 
 static struct netif netif;
 static int frames;           /* the packet socket */
@@ -168,7 +168,7 @@ static void ping(const ip_addr_t *server, size_t len)
         pbuf_take_at(p, &checksum, 2, 2);
         raw_sendto(pcb, p, server);
         pbuf_free(p);
-        wait_for(&echo.is_received, one_in != 0 ? UDP_PATIENCE : 2000);
+        wait_for(&echo.is_received, one_in != 0 ? UDP_PATIENCE : PATIENCE);
     }
     if (!echo.is_received || echo.is_wrong)
         fail("ping of %zu octets: %s", len, echo.is_received ? "other octets" : "none");
@@ -196,7 +196,7 @@ static void echo_udp(const ip_addr_t *server, size_t len)
         pbuf_take(p, data, (u16_t)len);
         udp_send(pcb, p);
         pbuf_free(p);
-        wait_for(&echo.is_received, one_in != 0 ? UDP_PATIENCE : 2000);
+        wait_for(&echo.is_received, one_in != 0 ? UDP_PATIENCE : PATIENCE);
     }
     if (!echo.is_received || echo.is_wrong)
         fail("UDP echo of %zu octets: %s", len, echo.is_received ? "other octets" : "none");

@@ -18,9 +18,11 @@ import nat
 import packets
 from bridge import in_namespace
 from client import check, echoed, report
-from links import ELSEWHERE, READS_MTU, SELF, Here, Namespace, Program, WideSide, no_errors, ping, settle, udp_echo, udp_error
+from links import (ELSEWHERE, SELF, Here, Namespace, Program, WideSide, no_errors, ping, reads_smaller_mtu, settle, udp_echo,
+                   udp_error)
 from routed_frames import HARDWARE, HOSTS
 from router import ADDRESSES, ARP, CONFIG, compare_lists, make_pairs
+from waits import until
 
 PAIRS = ["packet:left", "packet:right"]
 ALL_NODES, ALL_NODES_HARDWARE = socket.inet_pton(socket.AF_INET6, "ff02::1"), b"\x33\x33\0\0\0\1"
@@ -30,6 +32,7 @@ LENGTHS = (0, 1, 1452, 1453, 1472, 1473, 8000, 60000)  # of pings, in bytes
 KERNEL = """
     sysctl -qw net.ipv4.ip_forward=0 net.ipv6.conf.all.forwarding=0 net.ipv6.conf.left.forwarding=1 net.ipv6.conf.right.forwarding=1
     sysctl -qw net.ipv4.conf.all.rp_filter=1 net.ipv4.conf.default.rp_filter=1 net.ipv4.icmp_ratelimit=0 net.ipv6.icmp.ratelimit=0
+    sysctl -qw net.ipv4.icmp_ratemask=0
     ip -6 route add blackhole default metric 9999
 """
 # Forgets a group after 3 s without a report.
@@ -82,6 +85,7 @@ def introduces(what, sides, names):
     for name, side in sides.items():
         own = [ipaddress.ip_interface(text).ip.packed for text, at in ADDRESSES if at == name and name in names]
         expected = [step(addr, HARDWARE[name]) for step in (probe, announcement) for addr in own]
+        until(lambda: len(sent_by_router(side, name)) >= len(expected))
         compare_lists(f"addresses {what}", expected, sent_by_router(side, name))
         side.forget()
 
@@ -109,13 +113,14 @@ def conflicts(router, sides):
     for name, addr, text in (("left", four, "10.5.0.1"), ("right", six, "fd02::1")):
         side, before = sides[name], router.messages()
         side.sock.send(announcement(addr, HARDWARE[name]))  # a loop in the link
-        time.sleep(ANSWERS)
+        settle(side)
         check("an own frame", router.messages() == before, router.messages())
         side.forget()
         for _ in range(3):
             side.sock.send(announcement(addr, ELSEWHERE))
-        time.sleep(ANSWERS)
         message = f"router: {name}: 02-00-00-00-EE-0E uses the router's address {text}\n".lower()
+        until(lambda: len(router.messages()) > len(before) and sent_by_router(side, name))
+        settle(side)
         check("a conflict", router.messages() == before + message, router.messages())
         compare_lists("defence", [announcement(addr, HARDWARE[name])], [frame for frame in sent_by_router(side, name) if frame[0] & 1])
         side.forget()
@@ -124,14 +129,24 @@ def conflicts(router, sides):
 # ---- the kernel answers
 
 
+def came_out(side, is_meant):
+    """The frames of this kind, once one has come and there was time for a second one."""
+    def is_there():
+        side.take(0.02)
+        return any(map(is_meant, side.came_out))
+
+    until(is_there)
+    time.sleep(ANSWERS)
+    settle(side)
+    return list(filter(is_meant, side.came_out))
+
+
 def counted(side, is_meant, exchange):
     """What an exchange returns, and how many frames of this kind came out meanwhile."""
     settle(side)
     side.forget()
     result = exchange()
-    time.sleep(ANSWERS)
-    side.take()
-    return result, sum(map(is_meant, side.came_out))
+    return result, len(came_out(side, is_meant))
 
 
 def is_echo(frame):
@@ -157,21 +172,21 @@ def asked(side):
     reply = packets.ethernet(packets.ARP, packets.arp(2, sha=HARDWARE["left"], spa=own, tha=HOSTS["left"], tpa=host), HOSTS["left"], HARDWARE["left"])
     side.forget()
     side.sock.send(packets.ethernet(packets.ARP, packets.arp(1, sha=HOSTS["left"], spa=host, tpa=own), BROADCAST, HOSTS["left"]))
-    time.sleep(ANSWERS)
-    compare_lists("ARP of the kernel", [reply], [frame[:42] for frame in sent_by_router(side, "left") if frame[20:22] == b"\0\2"])
+    replies = came_out(side, lambda frame: frame[12:14] == ARP and frame[20:22] == b"\0\2")
+    compare_lists("ARP of the kernel", [reply], [frame[:42] for frame in replies])
     own, host = (socket.inet_pton(socket.AF_INET6, f"fd01::{n}") for n in (1, 2))
     group, group_hardware = icmp.group_of(own)
     side.forget()
     side.sock.send(icmp.framed(icmp.solicitation(own, host, group, HOSTS["left"]), host, group, HOSTS["left"], group_hardware, 255))
-    time.sleep(ANSWERS)
+    adverts = came_out(side, lambda frame: is_nd(frame) and frame[54] == icmp.ADVERTISEMENT)
     advert = icmp.framed(icmp.advertisement(own, own, host, HARDWARE["left"], 7), own, host, HARDWARE["left"], HOSTS["left"], 255)
-    compare_lists("advertisement of the kernel", [advert], [frame for frame in sent_by_router(side, "left") if frame[54] == icmp.ADVERTISEMENT])
+    compare_lists("advertisement of the kernel", [advert], adverts)
 
 
 def errors(side, room, fronts=((socket.AF_INET, "10.%d.0."), (socket.AF_INET6, "fd0%d::"))):
     """One error for each packet, of the router or of the kernel. The link on the right has an MTU of 1300."""
     room.run("ip link set right mtu 1300")
-    time.sleep(READS_MTU)
+    reads_smaller_mtu(fronts[-1][0], (fronts[-1][1] % 2 + "2", 7))
     for family, front in fronts:
         version, own, host, nobody = 4 if family == socket.AF_INET else 6, front % 1 + "1", front % 2 + "2", front % 9 + "9"
         for what, kind, place, hop_limit, length in (
@@ -246,6 +261,11 @@ def kernel_inside(program):
     server.kill()
 
 
+def groups_of(switch):
+    command = ["nsenter", "--target", switch.process, "--net", "bridge", "mdb"]
+    return subprocess.run(command, capture_output=True, text=True, check=True).stdout
+
+
 def behind_snooping(program, hosts):
     """Behind a bridge that forwards a group only to where reports came from, a host finds the router, the router whose
     groups the kernel reports, and the hosts on TAP devices. Its queries are of version 2, and then of version 1."""
@@ -265,11 +285,11 @@ def behind_snooping(program, hosts):
         switch.run(f"ip link set switch type bridge mcast_mld_version {version}")
         time.sleep(SNOOPS)
         far.run("ip neighbour flush all")
-        groups = subprocess.run(["nsenter", "--target", switch.process, "--net", "bridge", "mdb"], capture_output=True, text=True, check=True)
         for number, port in ((1, "left"), (2, "right"), (4, "tap4"), (5, "tap5")):
             with far.entered():
                 check("ping behind a bridge that snoops", ping(socket.AF_INET6, f"fd01::{number}", b"data", 1), (version, port))
-            check("groups", f"port {port} grp ff02::1:ff00:{number} " in groups.stdout, (version, port, groups.stdout))
+            is_member = until(lambda: f"port {port} grp ff02::1:ff00:{number} " in groups_of(switch))
+            check("groups", is_member, (version, port, groups_of(switch)))
     for router in routers:
         router.ends("behind a bridge that snoops")
     for host in running:

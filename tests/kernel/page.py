@@ -16,7 +16,7 @@ import sys
 import threading
 import time
 
-LATEST, LATEST_OF_DAY = 10, 120  # seconds
+LATEST, LATEST_OF_DAY = 120, 600  # seconds
 DAY = f"ip netns exec client {sys.executable} {os.path.dirname(os.path.abspath(__file__))}/day.py"
 END = "the end of a command"
 TOOLS = ("ping", "curl", "dnsmasq", "udhcpc", "busybox")
@@ -76,7 +76,8 @@ def main(programs):
     threading.Thread(target=lambda: lines.extend(line.rstrip("\n") for line in shell.stdout), daemon=True).start()
     for command, shown in commands(page):
         begin, end = len(lines), time.monotonic() + (LATEST_OF_DAY if command == DAY else LATEST)
-        shell.stdin.write(f"{command}\necho {END} $?\n")
+        # In a line of its own, also if a program has written half of one.
+        shell.stdin.write(f"{command}\nprintf '\\n{END} %s\\n' $?\n")
         while time.monotonic() < end:
             new = lines[begin:]
             if any(line.startswith(END) for line in new) and all(is_printed(line, new) for line in shown):

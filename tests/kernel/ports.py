@@ -3,6 +3,7 @@
 
 tests/kernel/ports.py NAT
 """
+import os
 import socket
 import subprocess
 import sys
@@ -13,7 +14,9 @@ from links import ELSEWHERE, settle
 from nat import INSIDE, OUTSIDE, start_on_taps
 from operation import comes_out, frame_from_left, on_taps, send_from
 from routed_frames import HARDWARE
+from waits import until
 
+FLOWS = 20_000
 
 def shared_ports(program):
     """Ports that one inside address uses, most of all, and another one wants: it gets others, until all are taken."""
@@ -21,6 +24,29 @@ def shared_ports(program):
         for source, count in ((INSIDE[0], 60000), (INSIDE[1], 4512)):
             found = send_from(nat, sides, (frame_from_left(port=1024 + n, source=source) for n in range(count)))
             check("ports that two addresses want", found == (count, 0), (source, found))
+        refused_flows(nat, sides)
+
+
+def processor_time(nat):
+    """Seconds."""
+    with open(f"/proc/{nat.process.pid}/stat", encoding="ascii") as file:
+        fields = file.read().rpartition(")")[2].split()
+    return (int(fields[11]) + int(fields[12])) / os.sysconf("SC_CLK_TCK")
+
+
+def refused_flows(nat, sides):
+    """New flows while no port is free take little time: a search of all mappings for each of them takes 3 s. Those that have
+    a port keep it, and other protocols have theirs."""
+    before, begin = nat.counters(), processor_time(nat)
+    for at in range(0, FLOWS, 200):
+        for n in range(200):
+            sides["left"].sock.send(frame_from_left(port=1024 + (at + n) % 60000, source=INSIDE[1][:-1] + str(100 + at % 50)))
+        until(lambda: nat.counters().get("LK_NO_FREE_PORT", 0) - before.get("LK_NO_FREE_PORT", 0) >= at + 200)
+    took, after = processor_time(nat) - begin, nat.counters()
+    check("flows without a port", after["LK_NO_FREE_PORT"] - before.get("LK_NO_FREE_PORT", 0) == FLOWS, after)
+    check("time of flows without a port", took < 1.2, took)
+    for port, source, kind in ((1024, INSIDE[0], "UDP"), (5535, INSIDE[1], "UDP"), (9999, INSIDE[1], "TCP")):
+        check("flows beside those", comes_out(sides, port=port, source=source, kind=kind), (port, source, kind))
 
 
 def forwarded_ports(program):

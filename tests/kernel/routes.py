@@ -13,10 +13,11 @@ import time
 
 import packets
 from client import check, report
-from links import ELSEWHERE, LATEST, settle
+from links import ELSEWHERE, settle
 from operation import on_taps
 from router import MODEL, OF_TAPS, compare_counters, random_frames, start_on_taps
 from routed_frames import HARDWARE, HOSTS, RANDOM_FRAMES
+from waits import LATEST, until
 
 # The most packets that wait for a neighbour, and the most frames that the router reads at once.
 MOST_HELD, AT_ONCE = 64, 64
@@ -48,10 +49,9 @@ def held_frames(router, sides):
     ports, before = list(range(1000, 1000 + MOST_HELD)), router.counters()["frames"]
     for port in ports:
         sides["left"].sock.send(udp_frame("left", "10.1.0.2", "10.60.0.1", port))
-    end = time.monotonic() + LATEST
-    while router.counters()["frames"] < before + MOST_HELD and time.monotonic() < end:
-        time.sleep(0.02)
-    check("packets that wait", ports_from(sides["left"], 1, 0.2) == ports_from(sides["right"], 1, 0.2) == [])
+    until(lambda: router.counters()["frames"] >= before + MOST_HELD)
+    settle(*sides.values())
+    check("packets that wait", ports_from(sides["left"], 1, 0.1) == ports_from(sides["right"], 1, 0.1) == [])
     return ports
 
 

@@ -13,10 +13,9 @@ import sys
 
 import icmp
 from client import (ACK, CLOSED, ECHO, FIN, HOST_HARDWARE, HOSTS, RST, SYN, SYN_CLIENT, TCP, TCP_CLIENT, check, echoed,
-                    report, segment)
+                    report, segment, tcp_of)
 from dice import ANY, Random
-from hostile import close, opened, tcp_of, wires
-from icmp_tests import answers as all_answers
+from hostile import close, opened, wires
 from links import Here, Namespace
 
 PSH, URG, ECE, CWR = 8, 32, 64, 128
@@ -30,7 +29,7 @@ OTHER_HOSTS = ("10.0.0.1", "1.2.3.4", "223.255.255.254", "fe80::1", "fd00::1", "
 
 def answers(wire, *frames):
     """The frames with TCP segments that the host sends after these frames."""
-    return list(filter(tcp_of, all_answers(wire, *frames)))
+    return list(filter(tcp_of, wire.answers(*frames)))
 
 
 def from_hardware(hardware, frame):
@@ -220,6 +219,16 @@ def too_big(wire, mtu, special, expected):
     peer.end()
 
 
+def two_without_df(wire):
+    """The packets of two connections have different identifications (RFC 6864, section 4.3)."""
+    found = []
+    for _ in range(2 if wire.version == 4 else 0):
+        peer = in_flight(wire)
+        found.append(fragmentable(answers(wire, error_about(peer, 0))))
+        peer.end()
+    check("identifications of two connections", not found or found[0] and found[1] and not found[0] & found[1], found)
+
+
 def too_big_at_the_end(wire):
     """FIN goes with the last segment."""
     peer = in_flight(wire, ACK | FIN)
@@ -230,7 +239,7 @@ def too_big_at_the_end(wire):
 
 def with_host(device):
     for wire in wires(device):
-        for exchange in (exchanges, syns_again, moves, sources, too_big_at_the_end):
+        for exchange in (exchanges, syns_again, moves, sources, two_without_df, too_big_at_the_end):
             exchange(wire)
         for version, *row in ERRORS:
             if version in (0, wire.version):

@@ -11,8 +11,8 @@ import struct
 import sys
 import time
 
-from client import ACK, RST, SYN, TCP, TCP_CLIENT, check, report, segment
-from hostile import answer_to, close, opened, tcp_of, wires
+from client import ACK, RST, SYN, TCP, TCP_CLIENT, check, report, segment, tcp_of
+from hostile import answer_to, close, opened, wires
 
 SO_TIMESTAMPNS = 35
 PLACES, USER_TIMEOUT = 64, 300
@@ -21,6 +21,8 @@ PLACES, USER_TIMEOUT = 64, 300
 AFTER_SYN, AFTER_LOST_SYN = (1, 2, 4, 8, 16, 32, 60), (3, 6, 12, 24, 48, 60, 60, 60)
 LAST = 60  # the host gives up so long after the last one
 DATA = b"data"
+# Real seconds that a busy machine may add to an interval, and how often it may take longer.
+LATE, TRIES = 0.25, 10
 
 
 class Clock:
@@ -54,17 +56,19 @@ class Clock:
         self.wire.sock.send(self.wire.frame(TCP, segment(port, *fields, data=data)))
 
 
-def check_intervals(what, times, expected, factor):
-    """No interval is too short. They may be longer by a quarter of a real second."""
+def check_intervals(what, times, expected, late, may_be_late):
+    """No interval is too short. Whether none is too long, or lacking."""
     found = [later - earlier for earlier, later in zip(times, times[1:])]
-    is_right = len(found) == len(expected) and all(
-        least - 0.01 <= interval <= least + factor / 4 for least, interval in zip(expected, found))
-    check(f"intervals {what}", is_right, found)
+    is_in_time = len(found) == len(expected) and all(interval <= least + late for least, interval in zip(expected, found))
+    is_right = len(found) <= len(expected) and all(least - 0.01 <= interval for least, interval in zip(expected, found))
+    check(f"intervals {what}", is_right and (is_in_time or may_be_late), found)
+    return is_in_time
 
 
-def sends_again(clock):
-    """SYN and ACK, and data after a SYN that was lost, to a peer that does not acknowledge them."""
-    syn, lost = TCP_CLIENT, TCP_CLIENT + 1
+def sends_again(clock, n):
+    """SYN and ACK, and data after a SYN that was lost, to a peer that does not acknowledge them. Whether the machine was not
+    too busy to see the intervals."""
+    syn, lost = TCP_CLIENT + 2 * n, TCP_CLIENT + 2 * n + 1
     clock.sends(lost, 0, 0, SYN)
     found = clock.segments(LAST, 2)
     check("SYN again", [place[:2] for place in found] == 2 * [(lost, SYN)], found)
@@ -74,8 +78,10 @@ def sends_again(clock):
     for what, port, flags, length, expected in (("of a SYN", syn, SYN, 0, AFTER_SYN),
                                                 ("after a lost SYN", lost, 0, len(DATA), AFTER_LOST_SYN)):
         times = [place[4] for place in found if place[:3] == (port, flags, length)]
-        check_intervals(what, times, expected, clock.factor)
+        if not check_intervals(what, times, expected, clock.factor * LATE, n + 1 < TRIES):
+            return False
         check("no connection after the last", answer_to(clock.wire, port, 1, 1, ACK)[2] == RST, what)
+    return True
 
 
 def silent_peers(pair, clock):
@@ -106,7 +112,10 @@ def silent_peers(pair, clock):
 def all_timers(device, factor):
     pair = wires(device)
     clock = Clock(pair[0], int(factor))
-    sends_again(clock)
+    for n in range(TRIES):
+        if sends_again(clock, n):
+            break
+        clock.segments(2 * sum(AFTER_LOST_SYN))  # until these connections have ended
     silent_peers(pair, clock)
 
 

@@ -40,18 +40,27 @@ TCP_CLOSE, STATE, AGREED, ALL_AGREED = 7, 0, 5, 7
 # Options of Linux, so that it recovers fast from losses, and waits for a busy machine. That of the longest time-out of
 # retransmission, in milliseconds, is new in Linux 6.15.
 TCP_RTO_MAX_MS = 44
-OPTIONS = ((socket.TCP_CONGESTION, b"reno"), (TCP_RTO_MAX_MS, 1000), (socket.TCP_USER_TIMEOUT, 200_000),
+OPTIONS = ((socket.TCP_CONGESTION, b"reno"), (TCP_RTO_MAX_MS, 1000), (socket.TCP_USER_TIMEOUT, 570_000),
            (socket.TCP_SYNCNT, 120))
 # Processes, each with its namespace and its connections, and the seconds that they have.
-PROCESSES, LATEST = 4, 280
+PROCESSES, LATEST = 4, 600
 # How many packets are lost, and how many bytes each end writes then.
-LOSSES = ((0.01, 200_000), (0.03, 200_000), (0.1, 60_000))
+LOSSES = ((0.01, 60_000), (0.03, 60_000), (0.1, 10_000))
 AFTER_TIME_WAIT = 61_000
 LETTERS = b"abcdefghijklmnopqrstuvwxyz"
 
 
 def letters(rng, count):
     return bytes(byte % 26 + 97 for byte in rng.randbytes(count))
+
+
+def losses(rng, loss):
+    """Which packets of a direction are lost: one of so many, at a random place. So none is lost again and again, each time after
+    twice the time-out."""
+    count = round(1 / loss)
+    while True:
+        lost = rng.randrange(count)
+        yield from (place == lost for place in range(count))
 
 
 class Tun:
@@ -120,6 +129,7 @@ class Talk:
         self.ours, self.theirs = OURS + number, LISTENING
         self.family = rng.choice((socket.AF_INET, socket.AF_INET6))
         self.loss, size = LOSSES[number % 3]
+        self.losses = {True: losses(rng, self.loss), False: losses(rng, self.loss)}
         self.mss = rng.choice((536, 1000, 1440 if self.family == socket.AF_INET6 else 1460))
         self.is_passive = number % 2 == 0
         self.app, self.peer = Application(rng, size), Application(rng, size)
@@ -152,7 +162,7 @@ class Talk:
         """A packet is lost, comes, or comes more than once, at once or later."""
         rng = self.rng
         self.sent += 1
-        if rng.random() < self.loss:
+        if next(self.losses[kind == self.hears]):
             self.lost += 1
             return
         for _ in range(2 if rng.random() < 0.02 else 1):

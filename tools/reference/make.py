@@ -37,7 +37,7 @@ def made(top, sources=None):
         "files": len(files), "types and modules": len(pages.reference.subjects), "calls": len(pages.calls),
         "calls with a condition": conditions, "laws": len(pages.reference.laws),
         "definitions": len(pages.reference.definitions), "lemmas": lemmas, "C pages": len(c_files),
-        "clauses in words": pages.said, "clauses only as text": pages.unsaid,
+        "clauses in words": pages.said, "clauses without words": pages.unsaid,
         "clauses too long for words": pages.long,
     }
     return files, counts

@@ -98,7 +98,7 @@ class Reference:
                     self.add(library, shown, path)
         modules = [(crate, module) for crate in self.sources.crates.values() for module in crate.modules.values()]
         self.laws = [Call(crate, module, None, item) for crate, module in modules
-                     if "laws" in module.path and not crate.is_for_tests and crate.name != "promises"
+                     if "laws" in module.path and not crate.is_for_tests and not crate.name.startswith("promises")
                      for item in module.items if item.kind == "fn" and item.visibility == "pub"]
         for law in self.laws:
             text = " ".join(clause.text for clause in law.item.clauses)

@@ -114,7 +114,7 @@ class Pages:
             others = [other.text for other in call.item.clauses if other.kind == clause.kind]
             said, notes = self.words_of(call, clause.text, others)
             is_long = len(re.sub("<[^>]+>", "", said).split()) > MOST_WORDS
-            self.said, self.unsaid, self.long = self.said + bool(said), self.unsaid + (not said), self.long + is_long
+            self.said, self.unsaid, self.long = self.said + (said != "") - is_long, self.unsaid + (not said), self.long + is_long
             said, notes = ("", "") if is_long else (said, notes)
             kind = "needs" if clause.kind == "requires" else "gives"
             label = f' <span class="n">{html.escape(clause.name)}</span>' if clause.name else ""

@@ -17,6 +17,7 @@ Calls by task; `help(ip_wire.parse_frame)` describes one call:
     write one header    emit_ethernet_header, emit_arp_packet, emit_ip_header, emit_udp_packet, emit_tcp_segment,
                         emit_icmp_message
     other headers       parse_tcp_options, raw_tcp_options, tcp_header_len, ipv6_headers, parse_ndisc
+    multicast groups    emit_mld_report, parse_mld_query
     edit a frame        set_hop_limit, set_dscp, set_addr, set_port, set_bytes, fill_checksum
     host                Host.answer
     TCP connections     Stack.listen, Stack.connect, Stack.receive, Stack.tick (over a device)
@@ -54,7 +55,7 @@ from .headers import (
     Arp, Ethernet, Headers, Icmp, Ip, Ipv6Header, RawOption, Reason, Rejected, Rejection, Tcp, TcpFlag, TcpOptions,
     ipv6_headers, parse_tcp_options, raw_tcp_options, tcp_header_len,
 )  # fmt: skip
-from .hosts import Host, Interface, Ndisc, Problem, emit_ndisc, parse_ndisc
+from .hosts import Host, Interface, Ndisc, Problem, emit_mld_report, emit_ndisc, parse_mld_query, parse_ndisc
 from .reassembly import Reassembler
 from .routing import Nat, Offload, Route, Routes, Side, clamp_mss, forward, translate
 from .writing import (
@@ -68,10 +69,10 @@ __all__ = [
     "Offload", "Problem", "RawOption", "Reason", "Reassembler", "Rejected", "Rejection", "Route", "Routes", "Segment",
     "Side", "Socket", "Stack", "Tcp", "TcpFlag", "TcpOptions", "Transport", "Verdict", "WireError", "add_seq",
     "checksum", "clamp_mss", "compare_seq", "contains", "emit_arp", "emit_arp_packet", "emit_ethernet_header",
-    "emit_icmp", "emit_icmp_message", "emit_ip_header", "emit_ndisc", "emit_tcp", "emit_tcp_segment", "emit_udp",
+    "emit_icmp", "emit_icmp_message", "emit_ip_header", "emit_mld_report", "emit_ndisc", "emit_tcp", "emit_tcp_segment", "emit_udp",
     "emit_udp_packet", "ethertype_name", "fill_checksum", "forward", "fragments", "ipv6_headers", "is_multicast",
     "is_unicast", "parse_addr", "parse_block", "parse_captured", "parse_endpoint", "parse_ethernet", "parse_frame",
-    "parse_frame_options", "parse_frames", "parse_link", "parse_linktype", "parse_ndisc", "parse_packet",
+    "parse_frame_options", "parse_frames", "parse_link", "parse_linktype", "parse_mld_query", "parse_ndisc", "parse_packet",
     "parse_tcp_options", "print_addr", "print_block", "print_ethernet", "protocol_name", "raw_tcp_options", "rebuild",
     "set_addr", "set_bytes", "set_dscp", "set_hop_limit", "set_port", "subtract_seq", "tcp_header_len", "translate",
     "update_checksum", "update_checksum_bytes", "wrap_tcp", "wrap_udp",

@@ -14,6 +14,7 @@ import ctypes
 import operator
 import struct
 from ctypes import c_int, c_int32, c_int64, c_size_t, c_uint8, c_uint16, c_uint32, c_uint64
+from enum import IntEnum
 from functools import lru_cache, partial
 from ipaddress import IPv4Address, IPv4Interface, IPv4Network, IPv6Address, IPv6Interface, IPv6Network
 from typing import Any, Callable, Dict, Iterable, List, Tuple, Type, TypeVar, Union, get_type_hints
@@ -37,6 +38,16 @@ class WireError(ValueError):
     def __init__(self, name: str) -> None:
         super().__init__(name)
         self.name = name
+
+
+class NamedInt(IntEnum):
+    """An enum that prints as its name in each version of Python. A format such as "d" prints the number."""
+
+    def __str__(self) -> str:
+        return self.name
+
+    def __format__(self, spec: str) -> str:
+        return format(self.value if spec[-1:] in set("bcdnoxX") else str(self), spec)
 
 
 def represents(struct: Any) -> Callable[[Type[T]], Type[T]]:

@@ -74,7 +74,7 @@ Mapping = _declare(
 Connection = _declare("lk_connection", memory=c_uint64 * 64)
 Segment = _declare("lk_segment", tcp=Tcp, options=TcpOptions, payload=POINTER(c_uint8), payload_len=c_size_t)
 
-VERSION = "0.4.0"
+VERSION = "0.5.0"
 DATA = (c_char_p, c_size_t)  # bytes that are read
 OUT = (c_void_p, c_size_t)  # a buffer that is written
 # Of each call the result and the parameters. A pair is a pointer with a length. A struct or array is a pointer to one.
@@ -135,6 +135,8 @@ CALLS: Dict[str, Tuple[Any, ...]] = {
     "lk_rebuild": (c_ssize_t, DATA, OUT),
     "lk_read_ndisc": (c_int, DATA, Ndisc),
     "lk_emit_ndisc_frame": (c_ssize_t, Frame, Ndisc, OUT),
+    "lk_emit_mld_report": (c_ssize_t, Frame, OUT),
+    "lk_read_mld_query": (c_int, DATA, Addr),
     "lk_answer": (c_ssize_t, Host, DATA, OUT),
     "lk_emit_icmp_error": (c_ssize_t, Interface, c_int, c_uint32, DATA, OUT),
     "lk_rejection_name": (c_char_p, c_int),

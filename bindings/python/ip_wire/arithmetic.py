@@ -14,8 +14,9 @@ def checksum(data: Data) -> int:
 def update_checksum(field: int, before: Union[int, Address], after: Union[int, Address], *, udp: bool = False) -> int:
     """The checksum field after a 16-bit word or an address that it covers changed (RFC 1624). A field that was left to
     the device is the complement of another one, and covers only the pseudo-header."""
-    name = "lk_update_udp_checksum" if udp else "lk_update_checksum"
-    return call(name if isinstance(before, int) else name + "_addr", field, before, after)
+    if isinstance(before, int):
+        return call("lk_update_udp_checksum" if udp else "lk_update_checksum", field, before, after)
+    return call("lk_update_udp_checksum_addr" if udp else "lk_update_checksum_addr", field, before, after)
 
 
 def update_checksum_bytes(field: int, offset: int, before: Data, after: Data, *, udp: bool = False) -> int:

@@ -6,13 +6,13 @@ import secrets
 import struct
 import time
 from ctypes import POINTER, c_uint8, c_uint16, c_uint32
-from dataclasses import dataclass
-from enum import IntEnum
+from dataclasses import dataclass, replace
 from typing import Any, Callable, List, Optional
 
 from . import _c as c
-from ._convert import Data, call, data_of, from_c, number_of, to_c
+from ._convert import Data, NamedInt, call, data_of, from_c, number_of, to_c
 from .addresses import Endpoint, is_unicast
+from .editing import fill_checksum
 from .frames import Frame, Network, Transport, Verdict, parse_frame_options
 from .headers import Headers, Tcp, TcpOptions, options_from_c, options_to_c
 from .hosts import Host
@@ -20,9 +20,11 @@ from .writing import emit_tcp
 
 _NEVER = (1 << 64) - 1
 _LONGEST_RING = (1 << 30) - 1
+_LEAST_MTU = {4: 576, 6: 1280}
+_HEADERS_LEN = {4: 40, 6: 60}  # of an IP and a TCP header
 
 
-class ConnectionState(IntEnum):
+class ConnectionState(NamedInt):
     """Where a TCP connection is (RFC 9293, section 3.3.2)."""
 
     CLOSED = 0
@@ -199,8 +201,23 @@ class Socket(Connection):
         """Sends this segment, and what else is to be sent at this time."""
         while segment := segment or self.tick(self.stack.clock()):
             if self.headers is not None:
-                self.stack.send(emit_tcp(self.headers, segment.tcp, segment.options, segment.payload))
+                headers = self.stack._identified(self.headers)
+                self.stack._transmit(emit_tcp(headers, segment.tcp, segment.options, segment.payload))
             segment = None
+
+    def _lower_mtu(self, seq_number: int, mtu: int) -> None:
+        """Takes the MTU that an ICMP error about the segment with this number tells. Below 576 for IPv4, as the 0 of a router
+        that tells none, packets of 576 bytes may be fragmented (RFC 1191, section 5). Below 1280 for IPv6 it is not valid
+        (RFC 8201, section 4)."""
+        if self.headers is None:
+            return
+        version = self.headers.src.addr.version
+        least, mss = _LEAST_MTU[version], max(mtu, _LEAST_MTU[version]) - _HEADERS_LEN[version]
+        if mss > 65535 or (version == 6 and mtu < least):
+            return
+        if self.too_big(seq_number, mss) and mtu < least:
+            self.headers = replace(self.headers, ip=replace(self.headers.ip, dont_fragment=False))
+        self.send(None)
 
     def is_between(self, own: Endpoint, peer: Endpoint) -> bool:
         """Whether these are its endpoints."""
@@ -223,15 +240,28 @@ class Stack:
 
     - A frame for no connection gets the answer of the host, so that ARP, neighbour discovery and pings work, and a segment
       for none gets a RST.
-    - `send` may drop the frame. It must not use the stack. Over a TUN device put an Ethernet header with zero addresses
-      before each packet that comes, and send frames without their first 14 bytes.
+    - `send` may drop the frame, also by an OSError such as ENOBUFS: TCP retransmits. `send_error` is the last such error.
+      `send` must not use the stack. Over a TUN device put an Ethernet header with zero addresses before each packet that
+      comes, and send frames without their first 14 bytes.
+    - With `partial_checksums`, `receive` computes a TCP or UDP checksum that its sender left to a device, before it is
+      checked. A packet socket (AF_PACKET) needs this for frames of programs on its own machine (checksum offload). It also
+      needs buffers of 65,589 bytes, or a device whose segmentation offload is off.
     - `clock` is in milliseconds and never goes back.
     - ICMP errors about the path MTU are taken (RFC 1191, RFC 8201). Not supported: fragments.
     """
 
-    def __init__(self, send: Callable[[bytes], Any], host: Host, clock: Callable[[], int] = lambda: _time(None)) -> None:
-        self.send, self.host, self.clock = send, host, clock
+    def __init__(
+        self,
+        send: Callable[[bytes], Any],
+        host: Host,
+        clock: Callable[[], int] = lambda: _time(None),
+        *,
+        partial_checksums: bool = False,
+    ) -> None:
+        self.send, self.host, self.clock, self.partial_checksums = send, host, clock, partial_checksums
+        self.send_error: Optional[OSError] = None
         self._sockets: List[Socket] = []
+        self._ident = 0  # of the last packet that may be fragmented
 
     def listen(self, port: int, **options: Any) -> Socket:
         """A socket that waits for one peer at this port of the host. `options` are those of `Connection`."""
@@ -253,6 +283,9 @@ class Stack:
         """Takes an Ethernet frame that came, and sends what answers it."""
         data = data_of(frame)
         parsed, options = parse_frame_options(data)
+        if self.partial_checksums and parsed.reason is None and parsed.transport_checksum == Verdict.LEFT_TO_DEVICE:
+            data = fill_checksum(data)
+            parsed, options = parse_frame_options(data)
         is_right = parsed.transport_checksum == Verdict.RIGHT  # one that is left to a device is wrong, as for the host
         if is_right and parsed.reason is None and parsed.ipv4_checksum != Verdict.WRONG:
             socket = self._found(parsed)
@@ -262,7 +295,22 @@ class Stack:
             self._learn_mtu(parsed)
         answer = self.host.answer(data)
         if answer is not None:
-            self.send(answer)
+            self._transmit(answer)
+
+    def _transmit(self, frame: bytes) -> None:
+        """Sends an Ethernet frame. If `send` raises OSError, the frame is lost, and `send_error` is this error."""
+        try:
+            self.send(frame)
+        except OSError as error:
+            self.send_error = error
+
+    def _identified(self, headers: Headers) -> Headers:
+        """The headers of the next packet: one that may be fragmented has another identification than those before, also of
+        other sockets (RFC 6864, section 4.3)."""
+        if headers.src.addr.version == 6 or headers.ip.dont_fragment:
+            return headers
+        self._ident = (self._ident + 1) % 65536
+        return replace(headers, ip=replace(headers.ip, ident=self._ident))
 
     def tick(self) -> Optional[int]:
         """Sends what is to be sent at this time. Returns when to call it again, if no frame comes and no socket is used
@@ -292,17 +340,13 @@ class Stack:
     def _learn_mtu(self, frame: Frame) -> None:
         """Takes the path MTU of an ICMP error about a segment of a socket."""
         sent, icmp = frame.parse_quoted(), frame.icmp
-        if sent is None or icmp is None or sent.src is None or sent.dst is None:
+        if sent is None or icmp is None or sent.src is None or sent.dst is None or sent.network != frame.network:
             return
-        header, mss = sent.tcp_header or sent.payload, -1
-        if frame.network == Network.IPV6 and icmp.type == 2 and icmp.word >= 1280:
-            mss = icmp.word - 60
-        elif frame.network == Network.IPV4 and (icmp.type, icmp.code) == (3, 4):
-            mss = (icmp.word & 0xFFFF) - 40
-        if sent.protocol != 6 or len(header) < 8 or not 0 <= mss < 65536:
+        is_too_big = icmp.type == 2 if frame.network == Network.IPV6 else (icmp.type, icmp.code) == (3, 4)
+        header = sent.tcp_header or sent.payload
+        if not is_too_big or sent.protocol != 6 or len(header) < 8:
             return
         own_port, peer_port, seq_number = struct.unpack_from(">HHI", header)
         for socket in self._sockets:
             if socket.is_between(Endpoint(sent.src.addr, own_port), Endpoint(sent.dst.addr, peer_port)):
-                socket.too_big(seq_number, mss)
-                socket.send(None)
+                socket._lower_mtu(seq_number, icmp.word if frame.network == Network.IPV6 else icmp.word & 0xFFFF)

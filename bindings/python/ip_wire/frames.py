@@ -3,17 +3,16 @@ from __future__ import annotations
 
 from ctypes import c_int, c_size_t, c_uint32, create_string_buffer
 from dataclasses import dataclass, field
-from enum import IntEnum
 from struct import Struct
 from typing import Any, Callable, Dict, Iterable, Iterator, Optional, Tuple, Type
 
 from . import _c as c
-from ._convert import Data, call, data_of, from_c, number_of, reader, to_c
+from ._convert import Data, NamedInt, call, data_of, from_c, number_of, reader, to_c
 from .addresses import Endpoint
 from .headers import Arp, Ethernet, Headers, Icmp, Ip, Reason, Rejected, Tcp, TcpOptions, options_from_c
 
 
-class Network(IntEnum):
+class Network(NamedInt):
     """The protocol after the Ethernet header."""
 
     ARP = 1
@@ -21,7 +20,7 @@ class Network(IntEnum):
     IPV6 = 3
 
 
-class Transport(IntEnum):
+class Transport(NamedInt):
     """The protocol after the IP header."""
 
     UDP = 1
@@ -29,7 +28,7 @@ class Transport(IntEnum):
     ICMP = 3
 
 
-class Verdict(IntEnum):
+class Verdict(NamedInt):
     """What a checksum says."""
 
     NO_CHECKSUM = 0
@@ -151,10 +150,10 @@ class Frame:
 # ---- how the values of a parsed frame are made
 
 
-def _member(name: str, enum: Type[IntEnum]) -> Callable[[Frame], Any]:
+def _member(name: str, enum: Type[NamedInt]) -> Callable[[Frame], Any]:
     """The member of an enum. It is None for 0 if the enum has no such member."""
     place = getattr(c.Frame, name).offset
-    members: Dict[int, Optional[IntEnum]] = {0: None}
+    members: Dict[int, Optional[NamedInt]] = {0: None}
     members.update((int(member), member) for member in enum)
     return lambda frame: members[frame._struct[place]]
 

@@ -2,16 +2,16 @@
 from __future__ import annotations
 
 from dataclasses import dataclass, field
-from enum import IntEnum, IntFlag
+from enum import IntFlag
 from ipaddress import IPv4Address
 from typing import Any, Dict, Iterator, NamedTuple, Optional, Tuple, Union
 
 from . import _c as c
-from ._convert import Data, WireError, call, data_of, from_c, represents, succeeded, to_c
+from ._convert import Data, NamedInt, WireError, call, data_of, from_c, represents, succeeded, to_c
 from .addresses import Endpoint
 
 
-class Reason(IntEnum):
+class Reason(NamedInt):
     """Why a header was rejected. If several reasons apply to it, it is the first of them."""
 
     TOO_SHORT = 1
@@ -27,7 +27,7 @@ class Reason(IntEnum):
     BAD_ORDER = 11
 
 
-class Rejection(IntEnum):
+class Rejection(NamedInt):
     """Why a frame is not forwarded, translated or accepted. If several reasons apply, it is the first of them."""
 
     NO_IPV4 = 1
@@ -67,6 +67,13 @@ class TcpFlag(IntFlag):
     URG = 32
     ECE = 64
     CWR = 128
+
+    def __str__(self) -> str:
+        """The names, as "SYN|ACK", or "0" without flags."""
+        return "|".join(str(flag.name) for flag in TcpFlag if flag in self) or "0"
+
+    def __format__(self, spec: str) -> str:
+        return format(self.value if spec[-1:] in set("bcdnoxX") else str(self), spec)
 
 
 @represents(c.Ethernet)

@@ -4,12 +4,11 @@ from __future__ import annotations
 import ctypes
 from ctypes import POINTER, c_uint16
 from dataclasses import dataclass
-from enum import IntEnum
 from ipaddress import IPv4Address, IPv6Address
 from typing import Any, Optional, Tuple
 
 from . import _c as c
-from ._convert import Data, call, data_of, from_c, member_of, number_of, represents, to_c, written
+from ._convert import Data, NamedInt, call, data_of, from_c, member_of, number_of, represents, to_c, written
 from .addresses import Endpoint
 from .headers import Ethernet, Headers
 
@@ -40,7 +39,21 @@ def emit_ndisc(ethernet: Ethernet, src: IPv6Address, dst: IPv6Address, ndisc: Nd
     return written(86, "lk_emit_ndisc_frame", headers, ndisc)
 
 
-class Problem(IntEnum):
+def emit_mld_report(hardware: bytes, src: IPv6Address, group: IPv6Address) -> bytes:
+    """Writes a whole frame with a report of version 1 (RFC 2710): the host with this Ethernet address listens to a multicast
+    group. Send it when an interface comes up, and after each query that `parse_mld_query` finds. `src` is a link-local
+    address, or `::` if there is none (RFC 3590, section 4). That the group is a multicast address is not checked."""
+    return written(86, "lk_emit_mld_report", Headers(Ethernet(hardware, bytes(6)), Endpoint(src, 0), Endpoint(group, 0)))
+
+
+def parse_mld_query(frame: Data, group: IPv6Address) -> Optional[int]:
+    """The maximum response delay of a query in an Ethernet frame that asks for this multicast group, in milliseconds up to
+    65,535: report the group after a random part of it (RFC 2710, section 4). None: there is no valid query for it."""
+    delay = call("lk_read_mld_query", frame, group)
+    return None if delay < 0 else delay
+
+
+class Problem(NamedInt):
     """Why a packet was dropped."""
 
     HOP_LIMIT_EXPIRED = 1

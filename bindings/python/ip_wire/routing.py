@@ -8,12 +8,11 @@ import ctypes
 import secrets
 import time
 from dataclasses import dataclass
-from enum import IntEnum
 from ipaddress import IPv4Address
 from typing import Any, Iterable, Optional, Tuple
 
 from . import _c as c
-from ._convert import Address, AnyBlock, Data, call, copied, data_of, member_of, number_of, represents, succeeded, to_c
+from ._convert import Address, AnyBlock, Data, NamedInt, call, copied, data_of, member_of, number_of, represents, succeeded, to_c
 from .addresses import Endpoint
 from .headers import Rejected, Rejection
 
@@ -31,7 +30,7 @@ def forward(frame: Data, src: bytes, dst: bytes) -> bytes:
     return bytes(out)
 
 
-class Offload(IntEnum):
+class Offload(NamedInt):
     """Whether the TCP or UDP checksum of a frame is left to the device that sends it (checksum offload). No frame says
     so, but a virtio header and a packet socket do.
 
@@ -100,7 +99,7 @@ def _route_to_c(route: Route) -> Any:
 # ---- NAT
 
 
-class Side(IntEnum):
+class Side(NamedInt):
     """The end of a packet whose address and port are replaced."""
 
     SOURCE = 0

@@ -1,12 +1,15 @@
 """Tests TCP connections: two hosts over a device in memory, which drops frames."""
+import errno
 import random
+import struct
 import unittest
 from collections import deque
 from ipaddress import ip_address
 
 import ip_wire
 from ip_wire import Connection, ConnectionState, Ethernet, Headers, Host, Interface, Problem, Segment, Stack, Tcp, TcpFlag
-from model import CLIENT, SERVER
+from ip_wire import Transport
+from model import CLIENT, SERVER, checksum, pseudo
 
 HOSTS = [Host(hardware, ip_address(ipv4), ip_address(ipv6), 1)
          for hardware, ipv4, ipv6 in ((CLIENT, "192.0.2.1", "2001:db8::1"), (SERVER, "192.0.2.2", "2001:db8::2"))]  # fmt: skip
@@ -17,23 +20,40 @@ def headers(own, peer):
     return Headers(Ethernet(CLIENT, SERVER), ip_wire.parse_endpoint(own), ip_wire.parse_endpoint(peer))
 
 
-class Network:
-    """Two hosts behind a router with an MTU, and a clock that moves when nothing else does."""
+def without_checksum(frame):
+    """A frame whose checksum is left to the device of its sender: the field has the sum of the pseudo-header."""
+    parsed = ip_wire.parse_frame(frame)
+    if parsed.transport != Transport.TCP:
+        return frame
+    start = parsed.transport_offset
+    total = checksum(pseudo(parsed.src.addr, parsed.dst.addr, 6, len(frame) - start)) ^ 0xFFFF
+    return frame[: start + 16] + struct.pack(">H", total) + frame[start + 18 :]
 
-    def __init__(self, loss):
+
+class Network:
+    """Two hosts behind a router with an MTU, and a clock that moves when nothing else does. Every other lost frame makes
+    `send` raise. `change` changes each frame. `told` is the MTU in the errors of the router."""
+
+    def __init__(self, loss, change=lambda frame: frame, mtu=1280, told=None, **options):
         rng, queues = random.Random(1), [deque(), deque()]
         router = Interface(SERVER, ip_address("192.0.2.254"), ip_address("2001:db8::fe"))
-        self.now, self.arriving = 0, queues
+        self.now, self.arriving, self.frames = 0, queues, []
 
         def sender(place):
             def send(frame):
-                error = router.emit_error(Problem.PACKET_TOO_BIG, frame, 1280)
+                error = router.emit_error(Problem.PACKET_TOO_BIG, frame, mtu)
+                if error and told is not None:
+                    error = ip_wire.fill_checksum(error[:40] + struct.pack(">H", told) + error[42:])
+                if not error:
+                    self.frames.append(frame)
                 if error or rng.random() >= loss:
-                    queues[place if error else 1 - place].append(error or frame)
+                    queues[place if error else 1 - place].append(error or change(frame))
+                elif rng.random() < 0.5:
+                    raise OSError(errno.ENOBUFS, "No buffer space available")
 
             return send
 
-        self.stacks = [Stack(sender(place), HOSTS[place], lambda: self.now) for place in (0, 1)]
+        self.stacks = [Stack(sender(place), HOSTS[place], lambda: self.now, **options) for place in (0, 1)]
 
     def run(self, work=lambda: False):
         """Until there is nothing to do."""
@@ -73,6 +93,62 @@ class Sockets(unittest.TestCase):
             self.assertEqual((server.headers.dst, server.headers.ethernet.dst), (ip_wire.parse_endpoint(own), CLIENT))
             self.assertTrue(read == written[::-1] and client.is_ended and server.is_ended)
             self.assertEqual([client.state, server.state, client.due], [ConnectionState.CLOSED, ConnectionState.CLOSED, None])
+            self.assertEqual({stack.send_error.errno for stack in network.stacks}, {errno.ENOBUFS})
+
+    def test_frames_that_are_not_sent(self):
+        """A read and a write whose frame `send` does not take: nothing is lost, and nothing is there twice."""
+        failing, network = [], Network(0)
+        for stack in network.stacks:
+
+            def send(frame, take=stack.send):
+                if failing:
+                    raise failing.pop()
+                take(frame)
+
+            stack.send = send
+        server = network.stacks[1].listen(80, incoming=2000)
+        client = network.stacks[0].connect(headers("192.0.2.1:4000", "192.0.2.2:80"))
+        network.run()
+        failing.append(OSError(errno.ENOBUFS, "No buffer space available"))
+        self.assertEqual((client.write(b"hello"), failing), (5, []))
+        network.run()
+        self.assertEqual((server.read(), client.write(b"x" * 2000)), (b"hello", 2000))
+        network.run()
+        failing.append(BlockingIOError(errno.EAGAIN, "Resource temporarily unavailable"))
+        self.assertEqual((server.read(1500), failing), (b"x" * 1500, []))
+        network.run()
+        self.assertEqual((server.read(), client.waiting), (b"x" * 500, 0))
+        self.assertEqual([stack.send_error.errno for stack in network.stacks], [errno.ENOBUFS, errno.EAGAIN])
+
+    def test_old_routers(self):
+        """An error that tells less than 576 for IPv4: packets of 576 bytes without DF, each with its own identification."""
+        for told in (0, 20, 39, 68, 300, 575):
+            network, sockets = Network(0, mtu=300, told=told), []
+            for port in (80, 81):
+                server = network.stacks[1].listen(port, max_seg_size=1460)
+                client = network.stacks[0].connect(headers(f"192.0.2.1:{port}", f"192.0.2.2:{port}"), max_seg_size=1460)
+                sockets.append((client, server))
+            network.run()
+            for client, _ in sockets:
+                self.assertEqual(client.write(b"x" * 20_000), 20_000)
+            network.run()
+            self.assertEqual([len(server.read()) for _, server in sockets], [20_000, 20_000], told)
+            parsed = [ip_wire.parse_frame(frame).ip for frame in network.frames]
+            idents = [ip.ident for ip in parsed if not ip.dont_fragment]
+            long = [(len(frame) - 14, ip.dont_fragment) for frame, ip in zip(network.frames, parsed) if len(frame) > 14 + 300]
+            self.assertEqual((len(set(idents)), max(long), {df for _, df in long}), (len(idents), (576, False), {False}))
+
+    def test_partial_checksums(self):
+        """Only a stack that computes them takes segments whose checksum is left to the device of their sender."""
+        for own, peer in (("192.0.2.1:4000", "192.0.2.2:80"), ("[2001:db8::1]:4000", "[2001:db8::2]:80")):
+            for is_taken in (False, True):
+                network = Network(0, without_checksum, partial_checksums=is_taken)
+                server, client = network.stacks[1].listen(80), network.stacks[0].connect(headers(own, peer))
+                network.run()
+                client.write(b"ping")
+                network.run()
+                came = ("ESTABLISHED", b"ping") if is_taken else ("CLOSED", b"")
+                self.assertEqual((client.state.name, server.read()), came)
 
     def test_others(self):
         """Another port gets a RST, and another address nothing."""

@@ -40,6 +40,16 @@ EXTENDED = bytes.fromhex(
     "110005020000010031324142000b4cfbf1f2f3"
 )
 
+# Linux sent them: a report, and queries of version 1 for all groups and of version 2 for one.
+REPORT, QUERY, QUERY2 = map(bytes.fromhex, (
+    "3333ff00000202000000000186dd6000000000200001fe80000000000000000000fffe000001ff0200000000000000000001ff00"
+    "00023a000502000001008300831d00000000ff0200000000000000000001ff000002",
+    "33330000000102000000000986dd6000000000200001fe80000000000000000000fffe000009ff02000000000000000000000000"
+    "00013a0005020000000082007f2b01f4000000000000000000000000000000000000",
+    "3333ff00000202000000000986dd6000000000240001fe80000000000000000000fffe000009ff0200000000000000000001ff00"
+    "00023a000502000000008200762803e80000ff0200000000000000000001ff0000020a010000",
+))  # fmt: skip
+
 
 class Reading(unittest.TestCase):
     def test_extension_headers(self):
@@ -312,6 +322,13 @@ class Writing(unittest.TestCase):
         self.assertIsNone(host.answer(b""))
         self.assertRaisesRegex(WireError, "LK_NO_VERSION", replace(host, ipv4=host.ipv6).answer, b"")
         self.assertRaises(ValueError, replace(host, open_ports=(65536,)).answer, b"")
+
+    def test_mld(self):
+        src, group, other = map(IPv6Address, ("fe80::ff:fe00:1", "ff02::1:ff00:2", "ff02::1:ff00:3"))
+        self.assertEqual(ip_wire.emit_mld_report(CLIENT, src, group), REPORT)
+        self.assertRaisesRegex(WireError, "LK_NO_VERSION", ip_wire.emit_mld_report, CLIENT, IPV4.src.addr, group)
+        asked = [[ip_wire.parse_mld_query(data, it) for it in (group, other)] for data in (QUERY, QUERY2, REPORT, QUERY[:-1])]
+        self.assertEqual(asked, [[500, 500], [1000, None], [None, None], [None, None]])
 
     def test_ndisc(self):
         own, client, server = IPV6.ethernet, IPV6.src.addr, IPV6.dst.addr

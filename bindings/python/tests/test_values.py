@@ -92,6 +92,16 @@ class Texts(unittest.TestCase):
         types = [(0x0800, "IPv4"), (0x86DD, "IPv6"), (0x88CC, "LLDP"), (0, "unknown")]
         self.assertEqual([(number, ip_wire.ethertype_name(number)) for number, _ in types], types)
 
+    def test_printed_enums(self):
+        """Each prints as its name. Python 3.11 and later print an IntEnum as its number."""
+        for enum in (ConnectionState, Network, Offload, Problem, Reason, Rejection, Side, TcpFlag, Transport, Verdict):
+            for member in enum:
+                self.assertEqual((str(member), f"{member} {member:>20}"), (member.name, f"{member.name} {member.name:>20}"))
+                self.assertEqual((f"{member:d} {member:#x}", member + 0), (f"{member.value} {member.value:#x}", member.value))
+        flags = [TcpFlag(0), TcpFlag.SYN | TcpFlag.ACK, TcpFlag(255)]
+        self.assertEqual(f"{flags[0]} {flags[1]} {flags[2]} {flags[1]:d}", "0 SYN|ACK FIN|SYN|RST|PSH|ACK|URG|ECE|CWR 18")
+        self.assertEqual(str(ip_wire.parse_frame(b"").reason), "TOO_SHORT")
+
     def test_rejected(self):
         for parse in (ip_wire.parse_addr, ip_wire.parse_endpoint, ip_wire.parse_block, ip_wire.parse_ethernet):
             for text in ("", "1.2.3", "::1%lo", "1.2.3.4\0", "\udc80", "10.0.0.0/33"):
@@ -156,6 +166,7 @@ ARGUMENTS = [
     (ip_wire.emit_tcp_segment, Tcp(), ENDPOINT, ENDPOINT, OPTIONS, b""),
     (ip_wire.emit_icmp_message, Icmp(8), ADDR, ADDR, b""), (ip_wire.wrap_udp, HEADERS, 0, bytearray(42)),
     (ip_wire.wrap_tcp, HEADERS, Tcp(), OPTIONS, 0, bytearray(114)), (ip_wire.rebuild, bytes(14)),
+    (ip_wire.emit_mld_report, HARDWARE, IPV6, IPV6), (ip_wire.parse_mld_query, b"", IPV6),
     (ip_wire.parse_ndisc, b""), (ip_wire.emit_ndisc, HEADERS.ethernet, IPV6, IPV6, Ndisc(IPV6)),
     (OWN.emit_error, Problem.ROUTE_MISSING, b"", 0), (HOST.answer, b""), (ip_wire.clamp_mss, b"", 0),
     (ROUTES.choose, ADDR), (NAT.translate_out, b""), (ip_wire.checksum, b""), (ip_wire.update_checksum, 0, 0, 0),

@@ -2,7 +2,7 @@
 
 /// The version of these declarations. Another minor version may have other structs.
 #[allow(dead_code)]
-pub const VERSION: (u32, u32) = (0, 4);
+pub const VERSION: (u32, u32) = (0, 5);
 
 structs! {
     #[derive(Default)]
@@ -307,6 +307,8 @@ calls! {
     fn lk_rebuild(ptr: *const u8, len: usize, out: *mut u8, cap: usize) -> isize;
     fn lk_read_ndisc(frame: *const u8, len: usize, ndisc: &mut Ndisc) -> c_int;
     fn lk_emit_ndisc_frame(headers: &Frame, ndisc: &Ndisc, out: *mut u8, cap: usize) -> isize;
+    fn lk_emit_mld_report(headers: &Frame, out: *mut u8, cap: usize) -> isize;
+    fn lk_read_mld_query(frame: *const u8, len: usize, group: &Addr) -> c_int;
     fn lk_answer(host: &Host, ptr: *const u8, len: usize, out: *mut u8, cap: usize) -> isize;
     fn lk_emit_icmp_error(
         own: &Interface, problem: c_int, mtu: u32, frame: *const u8, len: usize, out: *mut u8, cap: usize

@@ -45,7 +45,7 @@
 //! # Panics
 //!
 //! The library needs an x86-64-v2 processor (SSE4.2 and POPCNT). On an older one each call panics, but
-//! for [`cpu_supported`]. So it does if another version than 0.4 of the shared library was loaded.
+//! for [`cpu_supported`]. So it does if another version than 0.5 of the shared library was loaded.
 //! Nothing else panics.
 
 #![no_std]
@@ -73,6 +73,7 @@ mod icmp;
 mod ipv6;
 pub mod layer;
 mod link;
+mod mld;
 mod nat;
 mod reassembly;
 mod routes;
@@ -92,6 +93,7 @@ pub use host::Host;
 pub use icmp::{AdvertFlags, Interface, Ndisc, Problem};
 pub use ipv6::{Ipv6Header, Ipv6Headers};
 pub use link::Link;
+pub use mld::{emit_mld_report, parse_mld_query};
 pub use nat::{Mapping, Nat, NatConfig};
 pub use reassembly::{Partial, Reassembler};
 pub use routes::{InterfaceId, Route, RouteNode, RouteTable};

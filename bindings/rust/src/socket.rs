@@ -1,10 +1,11 @@
 //! TCP connections over a device.
 
 use crate::{
-    is_unicast, Connection, ConnectionConfig, ConnectionState, Error, Ethernet, Frame, Headers, Host, Ip,
-    Network, Segment, SeqNumber, TcpOptions, Verdict,
+    edit, is_unicast, Connection, ConnectionConfig, ConnectionState, Error, Ethernet, Frame, Headers, Host,
+    Ip, Network, Segment, SeqNumber, TcpOptions, Verdict,
 };
 use core::net::{IpAddr, Ipv4Addr, SocketAddr};
+use core::sync::atomic::{AtomicU16, Ordering};
 use core::time::Duration;
 
 /// What carries Ethernet frames: a TAP device, a packet socket, or the driver of a card. Over a TUN device put an
@@ -15,6 +16,13 @@ pub trait Device {
 
     /// Copies the next received frame to the beginning of the buffer, and returns its length. 0: there is none.
     fn receive(&mut self, buffer: &mut [u8]) -> usize;
+
+    /// Whether [`poll`] computes TCP and UDP checksums that the sender of a received frame left to its device, before they
+    /// are checked. A packet socket (`AF_PACKET`) needs `true` for frames of programs on its own machine (checksum
+    /// offload). It also needs buffers of 65589 bytes, or a device whose segmentation offload is off.
+    fn partial_checksums(&self) -> bool {
+        false
+    }
 }
 
 /// A TCP connection with its addresses. [`poll`] sends and receives for it.
@@ -93,9 +101,9 @@ impl<M: AsMut<[u8]>> Socket<M> {
             Some(Wish::Abort) => self.connection.abort(),
             None => None,
         };
-        link.send(&self.headers, first)?;
+        link.send(&mut self.headers, first)?;
         while let Some(segment) = self.connection.tick(now) {
-            link.send(&self.headers, Some(segment))?;
+            link.send(&mut self.headers, Some(segment))?;
         }
         Ok(())
     }
@@ -107,17 +115,27 @@ struct Link<'a, D> {
     out: &'a mut [u8],
 }
 
+/// The next identification. Packets that may be fragmented have different ones, also those of two sockets (RFC 6864,
+/// section 4.3).
+static IDENT: AtomicU16 = AtomicU16::new(1);
+
 impl<D: Device> Link<'_, D> {
-    fn send(&mut self, headers: &Headers, segment: Option<Segment>) -> Result<(), Error> {
+    fn send(&mut self, headers: &mut Headers, segment: Option<Segment>) -> Result<(), Error> {
         if let Some(Segment { tcp, options, payload }) = segment {
+            if headers.src.is_ipv4() && !headers.ip.dont_fragment {
+                headers.ip.ident = IDENT.fetch_add(1, Ordering::Relaxed).into();
+            }
             self.device.send(headers.emit_tcp(&tcp, &options, payload, self.out)?);
         }
         Ok(())
     }
 }
 
-/// Receives the frames that are there, sends what is to be sent at this time, and returns when to poll again if no frame
-/// comes and nothing is written, read or closed before. `None`: never.
+/// How many frames one [`poll`] receives. So a flood of frames does not keep the program from its timers.
+const FRAMES: usize = 64;
+
+/// Receives the frames that are there, at most 64, sends what is to be sent at this time, and returns when to poll again if
+/// no frame comes and nothing is written, read or closed before. `None`: never. After 64 frames this time is `now`.
 ///
 /// A frame for no connection gets the [answer of the host](Host::answer), so that ARP, neighbour discovery and pings work,
 /// and a segment for none gets a RST. `random` gives initial sequence numbers, which are hard to guess. The buffers are for
@@ -163,28 +181,54 @@ pub fn poll<M: AsMut<[u8]>, const FRAME: usize>(
 ) -> Result<Option<Duration>, Error> {
     let [received, out] = buffers;
     let mut link = Link { device, out };
-    loop {
+    let mut count = 0;
+    while count < FRAMES {
         let len = link.device.receive(received);
         if len == 0 {
             break;
         }
-        let bytes = &received[..len.min(FRAME)];
-        let (frame, options) = Frame::parse_with_options(bytes);
-        if let Some((socket, segment)) = find(&frame, options, host, sockets) {
-            let is_listening = socket.connection.state() == ConnectionState::Listen;
-            let fresh = SeqNumber(if is_listening { random() } else { 0 });
-            link.send(&socket.headers, socket.connection.step(now, &segment, fresh))?;
-            socket.tick(&mut link, now, &mut random)?;
-        } else if learn_mtu(&frame, sockets).is_none() {
-            if let Ok(Some(answer)) = host.answer(bytes, link.out) {
-                link.device.send(answer);
-            }
+        count += 1;
+        let bytes = &mut received[..len.min(FRAME)];
+        if link.device.partial_checksums() {
+            complete(bytes);
         }
+        take(bytes, &mut link, host, sockets, now, &mut random)?;
     }
     for socket in sockets.iter_mut() {
         socket.tick(&mut link, now, &mut random)?;
     }
-    Ok(sockets.iter().filter_map(|socket| socket.connection.due()).min())
+    let due = sockets.iter().filter_map(|socket| socket.connection.due()).min();
+    Ok(if count == FRAMES { Some(now) } else { due })
+}
+
+/// Computes a checksum that is left to a device.
+fn complete(bytes: &mut [u8]) {
+    if Frame::parse(bytes).transport_checksum() == Some(Verdict::LeftToDevice) {
+        edit::fill_checksum(bytes);
+    }
+}
+
+/// Handles a received frame.
+fn take<M: AsMut<[u8]>, D: Device>(
+    bytes: &[u8],
+    link: &mut Link<D>,
+    host: &Host,
+    sockets: &mut [Socket<M>],
+    now: Duration,
+    random: &mut impl FnMut() -> u32,
+) -> Result<(), Error> {
+    let (frame, options) = Frame::parse_with_options(bytes);
+    if let Some((socket, segment)) = find(&frame, options, host, sockets) {
+        let is_listening = socket.connection.state() == ConnectionState::Listen;
+        let fresh = SeqNumber(if is_listening { random() } else { 0 });
+        link.send(&mut socket.headers, socket.connection.step(now, &segment, fresh))?;
+        socket.tick(link, now, random)?;
+    } else if learn_mtu(&frame, sockets).is_none() {
+        if let Ok(Some(answer)) = host.answer(bytes, link.out) {
+            link.device.send(answer);
+        }
+    }
+    Ok(())
 }
 
 /// `None` unless a receiver may trust the frame. As for [`Host::answer`], a checksum that is left to a device is wrong.
@@ -215,22 +259,29 @@ fn find<'a, 's, M: AsMut<[u8]>>(
     Some((socket, segment))
 }
 
-/// Takes the path MTU of an ICMP error about a segment of a socket (RFC 1191, RFC 8201).
+/// Takes the path MTU of an ICMP error about a segment of a socket. Below 576 for IPv4, as the 0 of a router that tells none,
+/// packets of 576 bytes may be fragmented (RFC 1191, section 5). Below 1280 for IPv6 it is not valid (RFC 8201, section 4).
 fn learn_mtu<M: AsMut<[u8]>>(frame: &Frame, sockets: &mut [Socket<M>]) -> Option<()> {
     check(frame)?;
     let icmp = frame.icmp()?;
-    let mss = match (frame.network()?, icmp.icmp_type, icmp.code) {
-        (Network::Ipv4, 3, 4) => (icmp.word & 0xffff).checked_sub(40),
-        (Network::Ipv6, 2, _) if icmp.word >= 1280 => icmp.word.checked_sub(60),
-        _ => None,
+    let (mtu, least, headers_len) = match (frame.network()?, icmp.icmp_type, icmp.code) {
+        (Network::Ipv4, 3, 4) => (icmp.word & 0xffff, 576, 40),
+        (Network::Ipv6, 2, _) if icmp.word >= 1280 => (icmp.word, 1280, 60),
+        _ => return None,
     };
-    let sent = frame.parse_quoted().filter(|sent| sent.protocol() == Some(6))?;
+    let sent = frame.parse_quoted()?;
+    if sent.protocol() != Some(6) || sent.network() != frame.network() {
+        return None;
+    }
     let header = sent.tcp_header().unwrap_or(sent.payload());
     let [a, b, c, d, number @ ..] = *header.first_chunk::<8>()?;
     let own = SocketAddr::new(sent.src()?.ip(), u16::from_be_bytes([a, b]));
     let peer = SocketAddr::new(sent.dst()?.ip(), u16::from_be_bytes([c, d]));
     let socket = sockets.iter_mut().find(|socket| socket.is_between(own, peer))?;
-    let is_in_flight =
-        socket.connection.too_big(SeqNumber(u32::from_be_bytes(number)), mss?.try_into().ok()?);
-    is_in_flight.then_some(())
+    let mss = (mtu.max(least) - headers_len).try_into().ok()?;
+    if !socket.connection.too_big(SeqNumber(u32::from_be_bytes(number)), mss) {
+        return None;
+    }
+    socket.headers.ip.dont_fragment &= mtu >= least;
+    Some(())
 }

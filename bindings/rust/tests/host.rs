@@ -2,9 +2,12 @@
 
 mod worked;
 
-use ip_wire::{AdvertFlags, Ethernet, EthernetAddr, Frame, Ndisc, SeqNumber};
+use ip_wire::{
+    emit_mld_report, parse_mld_query, AdvertFlags, Ethernet, EthernetAddr, Frame, Ndisc, SeqNumber,
+};
 use ip_wire::{Error, Host, Interface, Problem};
 use std::net::Ipv6Addr;
+use std::time::Duration;
 use worked::{changed, frame};
 
 const CLIENT: EthernetAddr = EthernetAddr([2, 0, 0, 0, 0, 1]);
@@ -124,4 +127,28 @@ fn errors_are_those_of_other_programs() {
     }
     let without_ipv4 = Interface { ipv4: [0; 4].into(), ..own };
     assert_eq!(without_ipv4.emit_error(Problem::RouteMissing, &frame("last_hop"), &mut []), Ok(None));
+}
+
+/// The frames are those of Linux.
+#[test]
+fn it_listens_to_groups() {
+    let (mut out, addr) = (OUT, |text: &str| text.parse::<Ipv6Addr>().unwrap());
+    for (name, src, group) in
+        [("mld_report", "fe80::ff:fe00:1", "ff02::1:ff00:2"), ("mld_report_of_none", "::", "ff02::1:ff00:1")]
+    {
+        assert_eq!(emit_mld_report(CLIENT, addr(src), addr(group), &mut out).unwrap(), frame(name));
+    }
+    assert_eq!(emit_mld_report(CLIENT, addr("::"), addr("ff02::1"), &mut out[..85]), Err(Error::NoRoom));
+    for (name, group, delay) in [
+        ("mld_query", "ff02::fb", Some(500)),
+        ("mld_query2", "ff02::1:ff00:7", Some(500)),
+        ("mld_query_of_group", "ff02::1:ff00:7", Some(1000)),
+        ("mld_query_of_group", "ff02::1:ff00:8", None),
+        ("mld_query2_of_group", "ff02::1:ff00:2", Some(1000)),
+        ("mld_report", "ff02::1:ff00:2", None),
+    ] {
+        assert_eq!(parse_mld_query(&frame(name), addr(group)), delay.map(Duration::from_millis), "{name}");
+    }
+    assert_eq!(parse_mld_query(&changed("mld_query", &[(85, 1)]), addr("ff02::1")), None); // a wrong checksum
+    assert_eq!(parse_mld_query(&[], addr("ff02::1")), None);
 }

@@ -1,9 +1,9 @@
 //! Two hosts over a device in memory, which drops frames.
 
+use ip_wire::{checksum, edit, Frame, Interface, Ip, Problem, SeqNumber, Socket};
 use ip_wire::{poll, Connection, ConnectionConfig, ConnectionState, Device, Error, Ethernet, Headers, Host};
-use ip_wire::{Interface, Ip, Problem, SeqNumber, Socket};
 use std::cell::RefCell;
-use std::collections::VecDeque;
+use std::collections::{HashSet, VecDeque};
 use std::rc::Rc;
 use std::time::Duration;
 
@@ -36,9 +36,29 @@ struct Cable {
     every: u32,
     count: u32,
     mtu: u32,
+    told: Option<u16>, // the MTU in the errors of the router
+    fragmented: Vec<(usize, Option<Ip>)>,
+    sends_partial: bool,
+    takes_partial: bool,
+}
+
+/// The frame with a TCP checksum that is left to a device: it has the sum of the pseudo-header.
+fn with_partial_checksum(mut frame: Vec<u8>) -> Vec<u8> {
+    let parsed = Frame::parse(&frame);
+    if let Some(start) = parsed.transport_offset().filter(|_| parsed.tcp().is_some()) {
+        let addrs = if frame[14] >> 4 == 4 { 26 } else { 22 };
+        let len = u32::try_from(frame.len() - start).unwrap();
+        let sum = checksum::sum(&[&frame[addrs..start], &len.to_be_bytes(), &[0, 0, 0, 6]].concat());
+        frame[start + 16..start + 18].copy_from_slice(&sum.to_be_bytes());
+    }
+    frame
 }
 
 impl Device for Cable {
+    fn partial_checksums(&self) -> bool {
+        self.takes_partial
+    }
+
     fn send(&mut self, frame: &[u8]) {
         self.count += 1;
         let router = Interface {
@@ -48,9 +68,20 @@ impl Device for Cable {
         };
         let (problem, mut out) = (Problem::PacketTooBig(self.mtu), [0; 1294]);
         if let Some(error) = router.emit_error(problem, frame, &mut out).unwrap() {
+            if let Some(mtu) = self.told {
+                error[40..42].copy_from_slice(&mtu.to_be_bytes());
+                assert!(edit::fill_checksum(error));
+            }
             self.receives.borrow_mut().push_back(error.to_vec());
-        } else if self.count % self.every != self.count / self.every % self.every {
-            self.sends.borrow_mut().push_back(frame.to_vec());
+            return;
+        }
+        if frame.len() > 14 + usize::try_from(self.mtu).unwrap() {
+            self.fragmented.push((frame.len() - 14, Frame::parse(frame).ip()));
+        }
+        if self.count % self.every != self.count / self.every % self.every {
+            let frame = frame.to_vec();
+            let sent = if self.sends_partial { with_partial_checksum(frame) } else { frame };
+            self.sends.borrow_mut().push_back(sent);
         } else if let Some((last, rest)) = frame.split_last().filter(|_| self.count % 2 == 0) {
             self.sends.borrow_mut().push_back([rest, &[last ^ 1]].concat());
         }
@@ -79,7 +110,17 @@ impl End {
     fn new(host: Host<'static>, sends: &Queue, receives: &Queue, every: u32) -> Self {
         let config = ConnectionConfig { max_seg_size: 1440, ..ConnectionConfig::default() };
         Self {
-            cable: Cable { sends: sends.clone(), receives: receives.clone(), every, count: 0, mtu: 1280 },
+            cable: Cable {
+                sends: sends.clone(),
+                receives: receives.clone(),
+                every,
+                count: 0,
+                mtu: 1280,
+                told: None,
+                fragmented: Vec::new(),
+                sends_partial: false,
+                takes_partial: false,
+            },
             host,
             sockets: [Socket::new(&config, vec![0; 100_000], vec![0; 60_000])],
             numbers: host.seq_number.0,
@@ -203,6 +244,79 @@ fn others_get_no_connection() {
             [ends[0].state(), ends[1].state()],
             [Closed, if server == Listen { Listen } else { Closed }]
         );
+    }
+}
+
+/// After an error that tells less than 576, packets of 576 bytes go without DF, each with its own identification.
+#[test]
+fn old_routers_tell_no_mtu() {
+    for told in [0, 20, 39, 68, 300, 575] {
+        let mut ends = ends(1000);
+        (ends[0].cable.mtu, ends[0].cable.told) = (300, Some(told));
+        ends[0].written = bytes(3)[..200_000].to_vec();
+        ends[1].written = bytes(5)[..200_000].to_vec();
+        ends[0].sockets[0].connect(&headers("192.0.2.1:4000", "192.0.2.2:80"));
+        ends[1].sockets[0].listen(80);
+        run(&mut ends, Duration::from_secs(3600));
+        assert!(ends[1].read == ends[0].written && ends[0].read == ends[1].written, "{told}");
+        let fragmented = &ends[0].cable.fragmented;
+        assert_eq!(fragmented.iter().map(|it| it.0).max(), Some(576));
+        assert!(fragmented.iter().all(|it| !it.1.unwrap().dont_fragment));
+        let idents: HashSet<u32> = fragmented.iter().map(|it| it.1.unwrap().ident).collect();
+        assert_eq!(idents.len(), fragmented.len());
+    }
+}
+
+/// Only a device that says so takes segments whose checksum is left to the device of their sender.
+#[test]
+fn partial_checksums_are_computed() {
+    use ConnectionState::{Established, SynSent};
+    for (own, peer) in [("192.0.2.1:4000", "192.0.2.2:80"), ("[2001:db8::1]:4000", "[2001:db8::2]:80")] {
+        for (takes_partial, state, len) in [(false, SynSent, 0), (true, Established, 4)] {
+            let mut ends = ends(1000);
+            for end in &mut ends {
+                (end.cable.sends_partial, end.cable.takes_partial) = (true, takes_partial);
+            }
+            ends[0].sockets[0].connect(&headers(own, peer));
+            ends[1].sockets[0].listen(80);
+            poll_all(&mut ends, 3);
+            ends[0].sockets[0].connection.write(b"ping");
+            poll_all(&mut ends, 3);
+            let mut bytes = [0; 9];
+            assert_eq!(ends[1].sockets[0].connection.read(&mut bytes), len, "{own}");
+            assert_eq!((ends[0].state(), &bytes[..len]), (state, &b"ping"[..len]));
+        }
+    }
+}
+
+/// A device that always has a frame. It counts frames in both directions.
+struct Flood {
+    received: u32,
+    sent: u32,
+}
+
+impl Device for Flood {
+    fn send(&mut self, _: &[u8]) {
+        self.sent += 1;
+    }
+
+    fn receive(&mut self, buffer: &mut [u8]) -> usize {
+        self.received += 1;
+        assert!(self.received < 10_000, "poll does not return");
+        buffer[..60].fill(0);
+        60
+    }
+}
+
+#[test]
+fn poll_returns_under_a_flood() {
+    let ([mut client, _], mut flood) = (ends(1000), Flood { received: 0, sent: 0 });
+    client.sockets[0].connect(&headers("192.0.2.1:4000", "192.0.2.2:80"));
+    for (second, sent) in [(0, 1), (0, 1), (1, 2), (3, 3)] {
+        let now = Duration::from_secs(second); // the SYN goes at 0, 1 and 3 seconds
+        let host = client.host;
+        let due = poll(&mut flood, &host, &mut client.sockets, now, || 5, &mut [[0; 1514]; 2]);
+        assert_eq!((due, flood.sent), (Ok(Some(now)), sent));
     }
 }
 

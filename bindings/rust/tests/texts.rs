@@ -141,5 +141,5 @@ fn sequence_numbers_wrap() {
 fn the_library_has_this_version() {
     assert!(cpu_supported());
     let (major, minor, _) = version();
-    assert_eq!((major, minor), (0, 4));
+    assert_eq!((major, minor), (0, 5));
 }

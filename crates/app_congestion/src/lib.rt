@@ -14,6 +14,3 @@ pub use congestion::{Congestion, MAX_CWND};
 pub use fields::{CongestionFields, RtoFields};
 pub use rto::{MAX_RTO, MIN_RTO, Rto};
 pub use scoreboard::Scoreboard;
-
-#[cfg(test)]
-mod tests;

@@ -16,6 +16,3 @@ pub use fields::ConnectionFields;
 pub use segment::{Reply, Segment};
 pub use state::State;
 pub use step::Event;
-
-#[cfg(test)]
-mod tests;

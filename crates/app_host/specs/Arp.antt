@@ -1,5 +1,5 @@
 -- The reply to an ARP request (RFC 826).
--- Pinned by: `RepliesOnce`, `calls/host`, `calls/worked_replies`
+-- Pinned by: `RepliesOnce`, `tests/frames/host_lines.py`, `calls/worked_replies`
 use Rattle.std.specs.Prelude.{◌≡◌, List, ℕ, Some}
 use Rattle.ip_wire.specs.Frame.{Carried, IsReadWhole, message}
 use Rattle.ip_wire.specs.FrameValue.{carried_of}

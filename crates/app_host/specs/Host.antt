@@ -1,5 +1,5 @@
 -- The replies of a host with one interface to frames.
--- Pinned by: `HostOnce`, `calls/host`, `calls/worked_replies`
+-- Pinned by: `HostOnce`, `tests/frames/host_lines.py`, `calls/worked_replies`
 use Rattle.std.specs.Prelude.{ℕ, ◌≡◌, ◌⊎◌, Contains, List, Some, false}
 use Rattle.app_host.specs.declared.host.Host.{Host}
 use Rattle.app_host.specs.Arp.{IsArpAnswer}

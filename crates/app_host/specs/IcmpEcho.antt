@@ -1,5 +1,5 @@
 -- The reply to an echo request (RFC 792; RFC 1122, section 3.2.2.6; RFC 4443, section 4.2).
--- Pinned by: `calls/host`, `worked/hosts`, `MessagesOnce`
+-- Pinned by: `tests/frames/host_lines.py`, `worked/hosts`, `MessagesOnce`
 use Rattle.std.specs.Prelude.{ℕ, ◌≡◌, ◌≤◌, ◌==◌, if◌then◌else◌, List, Some, drop, length, true}
 use Rattle.ip_wire.specs.Frame.{Carried, IsReadWhole, other, packet, type_of}
 use Rattle.ip_wire.specs.FrameValue.{carried_of}

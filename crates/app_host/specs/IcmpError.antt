@@ -1,5 +1,5 @@
 -- ICMP errors about the packet of a frame (RFC 1122, section 3.2.2; RFC 1812, section 4.3.2; RFC 4443, section 2.4).
--- Pinned by: `worked/icmp`, `MessagesOnce`, `calls/host`
+-- Pinned by: `worked/icmp`, `MessagesOnce`, `tests/frames/host_lines.py`
 use Rattle.std.specs.Prelude.{ℕ, ◌≡◌, ◌⊎◌, Bool, List, [], drop, false, length, min, take, true}
 use Rattle.ip_wire.specs.Class.{solicited_node}
 use Rattle.ip_wire.specs.Ethernet as ethernet

@@ -1,5 +1,5 @@
 -- The packets that a host on one link may reply to.
--- Pinned by: `calls/host`
+-- Pinned by: `tests/frames/host_lines.py`
 use Rattle.std.specs.Prelude.{◌≡◌}
 use Rattle.ip_wire.specs.Hardware as hardware
 use Rattle.ip_wire.specs.Ip.{dst_addr_of, src_addr_of}

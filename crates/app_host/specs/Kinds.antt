@@ -1,5 +1,5 @@
 -- A reply that is sent or does not fit, apart from no reply.
--- Pinned by: `HostOnce`, `calls/host`, `judge`
+-- Pinned by: `HostOnce`, `tests/frames/host_lines.py`, `judge`
 use Rattle.std.specs.Prelude.{ℕ, ◌≡◌, IfSome, List, None, Option, Some}
 use Rattle.app_host.specs.Host.{RepliesBytes}
 use Rattle.app_host.specs.IcmpEcho.{KeepsDscp, reply_dscp}

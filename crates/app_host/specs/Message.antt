@@ -1,5 +1,5 @@
 -- Frames with a message of ICMP or of neighbour discovery.
--- Pinned by: `worked/hosts`, `worked/icmp`, `calls/host`
+-- Pinned by: `worked/hosts`, `worked/icmp`, `tests/frames/host_lines.py`
 use Rattle.std.specs.Prelude.{ℕ, ⊤, ◌≡◌, ◌<◌, ◌≤◌, ◌+◌, ◌/◌, ◌%◌, ◌++◌, List, Option, Some, None, drop, length, true}
 use Rattle.ip_wire.specs.Ethernet as ethernet
 use Rattle.ip_wire.specs.Field.{field}

@@ -1,5 +1,5 @@
 -- The reply to a neighbour solicitation (RFC 4861, section 7.2.4).
--- Pinned by: `worked/hosts`, `MessagesOnce`, `calls/host`
+-- Pinned by: `worked/hosts`, `MessagesOnce`, `tests/frames/host_lines.py`
 use Rattle.std.specs.Prelude.{ℕ, ◌≡◌, ◌⊎◌, Bool, true, false, List, [], ◌∷◌, Option, Some, None, drop, length}
 use Rattle.ip_wire.specs.Class.{ipv6_unspecified, solicited_node}
 use Rattle.ip_wire.specs.Frame.{Carried, other, packet}

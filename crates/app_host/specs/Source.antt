@@ -1,5 +1,5 @@
 -- Source addresses that no packet of another host has.
--- Pinned by: `calls/host`
+-- Pinned by: `tests/frames/host_lines.py`
 use Rattle.std.specs.Prelude.{ℕ, ◌≡◌, ◌⊎◌, List, [], ◌∷◌}
 use Rattle.ip_wire.specs.Block.{Block, IsIn}
 use Rattle.ip_wire.specs.Class.{ipv4_loopback, ipv4_multicast, ipv4_unspecified, ipv6_block, ipv6_loopback, ipv6_multicast, ipv6_unspecified}

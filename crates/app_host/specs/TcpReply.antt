@@ -1,5 +1,5 @@
 -- The replies of TCP to a segment without a connection (RFC 9293, section 3.10.7).
--- Pinned by: `calls/host`, `RepliesOnce`, `calls/worked_replies`
+-- Pinned by: `tests/frames/host_lines.py`, `RepliesOnce`, `calls/worked_replies`
 use Rattle.std.specs.Prelude.{ℕ, ◌≡◌, ◌≢◌, ◌+◌, ◌%◌, ◌^◌, ◌⊎◌, Contains, List, [], Option, Some, None, false, length, min}
 use Rattle.std.specs.Option.{option_map}
 use Rattle.ip_wire.specs.Frame.{Carried, IsReadWhole, packet, segment, type_of}

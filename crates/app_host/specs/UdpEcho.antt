@@ -1,5 +1,5 @@
 -- The echo service of UDP (RFC 862).
--- Pinned by: `calls/worked_replies`, `RepliesOnce`, `calls/host`
+-- Pinned by: `calls/worked_replies`, `RepliesOnce`, `tests/frames/host_lines.py`
 use Rattle.std.specs.Prelude.{ℕ, ◌≡◌, ◌<◌, ◌≤◌, ◌+◌, List, Some, length}
 use Rattle.ip_wire.specs.Frame.{Carried, IsReadWhole, datagram, packet, type_of}
 use Rattle.ip_wire.specs.FrameValue.{carried_of}

@@ -19,7 +19,7 @@ is_before s t = nat_lt 0 (ahead t s) && nat_lt (ahead t s) 2147483648
 abbrev pub is_outdated : Recent → ℕ → Bool
 is_outdated recent now = nat_lt (recent.heard_at + 2073600000) now
 
--- a timestamp shows an old duplicate (section 5.3, R1)
+-- a timestamp shows an old duplicate (section 5.3, the first rule)
 abbrev pub is_old : Recent → ℕ → ℕ → Bool
 is_old recent tsval now = not (is_outdated recent now) && is_before tsval recent.value
 

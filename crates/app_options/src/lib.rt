@@ -14,6 +14,3 @@ pub use agreed::Agreed;
 pub use fields::AgreedFields;
 pub use mss::peer_mss;
 pub use scale::{scale_of, syn_window};
-
-#[cfg(test)]
-mod tests;

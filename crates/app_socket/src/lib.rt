@@ -19,6 +19,3 @@ pub use fields::SocketFields;
 pub use options::Options;
 pub use socket::{Header, Socket};
 pub use step::Event;
-
-#[cfg(test)]
-mod tests;

@@ -9,6 +9,3 @@ mod sending;
 
 pub use receiving::Receiving;
 pub use sending::{Segment, Sending};
-
-#[cfg(test)]
-mod tests;

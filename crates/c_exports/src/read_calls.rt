@@ -17,14 +17,14 @@ use c_structs::{FrameFields, Ipv6HeaderPlace, TcpOptionPlace, TcpOptions, usable
 
 const VERSION_MAJOR: u32 = 0;
 
-const VERSION_MINOR: u32 = 4;
+const VERSION_MINOR: u32 = 5;
 
 const VERSION_PATCH: u32 = 0;
 
 /// The version of the library: major * 65536 + minor * 256 + patch.
 #[unsafe(no_mangle)]
 pub extern "C" fn lk_version() -> u32
-    ensures { result ≡ 1024 }
+    ensures { result ≡ 1280 }
 {
     VERSION_MAJOR * 65536 + VERSION_MINOR * 256 + VERSION_PATCH
 }

@@ -6,9 +6,6 @@ ghost use Rattle.hex.specs.Hex.{decode_sized, encode_lower, hex_digit_value, low
 
 use hex::FromHexError;
 
-#[cfg(test)]
-mod tests;
-
 /// The values of the digits. The crate `hex` is asked for each once, so `decode` only looks them up.
 #[derive(Debug, Drop)]
 pub struct Digits {

@@ -1,5 +1,5 @@
 -- Whole frames as values: parsed, emitted and printed.
--- Pinned by: `wire/frame`, `FrameOnce`, `calls/again`, `apps/uses`, `UnreadWorked`
+-- Pinned by: `wire/frame`, `FrameOnce`, `tests/frames/again_lines.py`, `apps/uses`, `UnreadWorked`
 use Rattle.std.specs.Prelude.{List, ℕ, [], ⊤, ◌≡◌, ◌≤◌, ◌++◌, ◌+◌, Option, Some, None, Result, Ok, Err, MatchOption, drop, length, true}
 use Rattle.std.specs.Option.{option_and_then, option_map, option_map_or}
 use Rattle.ip_wire.specs.Frame as frame

@@ -1,5 +1,5 @@
 -- Replies to frames, as values without borrows and as bytes.
--- Pinned by: `RepliesOnce`, `calls/host`
+-- Pinned by: `RepliesOnce`, `tests/frames/host_lines.py`
 use Rattle.std.specs.Prelude.{ℕ, ◌≡◌, ◌<◌, ◌≤◌, ◌+◌, ◌-◌, ◌*◌, ◌++◌, List, Option, Some, None, drop, length}
 use Rattle.wire_arp.specs.Arp as arp
 use Rattle.wire_checksum.specs.WordSum.{sum_of_bytes}

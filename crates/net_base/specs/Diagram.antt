@@ -1,5 +1,5 @@
 -- A header as the list of its fields, by their widths in the RFC's diagram, in order.
--- Pinned by: `calls/set`, `calls/get`
+-- Pinned by: `tests/frames/field_lines.py`
 use Rattle.std.specs.Prelude.{ℕ, ◌+◌, ◌/◌, Bool, if◌then◌else◌, List, slice_index, sum, take}
 use Rattle.net_base.specs.Field.{field, with_field}
 

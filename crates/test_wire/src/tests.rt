@@ -7,6 +7,7 @@ mod ethernet;
 mod ethernet_address;
 mod frame;
 mod hardware_address;
+mod hex_digits;
 mod icmp;
 mod icmp_repr;
 mod ip;

@@ -1,5 +1,5 @@
 -- Classes of addresses: multicast, link-local, and so on.
--- Pinned by: `calls/class`, `wire/ipv6_address`, `ClassWorked`
+-- Pinned by: `tests/frames/class_lines.py`, `wire/ipv6_address`, `ClassWorked`
 use Rattle.std.specs.Prelude.{ℕ, ◌≡◌, ◌≢◌, ◌⊎◌, ◌%◌, ◌==◌, if◌then◌else◌, Option, Some, None, List, [], ◌∷◌, ◌++◌, drop, replicate, slice_index, take}
 use Rattle.wire_addr.specs.Block.{Block, IsIn}
 use Rattle.wire_addr.specs.Hardware.{eui_64}

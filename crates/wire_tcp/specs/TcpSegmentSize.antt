@@ -1,5 +1,5 @@
 -- The maximum segment size in the options of a segment (RFC 9293, section 3.7.1).
--- Pinned by: `calls/set`
+-- Pinned by: `tests/frames/field_lines.py`
 use Rattle.std.specs.Prelude.{ℕ, ◌+◌, List, Option}
 use Rattle.std.specs.Option.{option_and_then, option_map, option_map_or}
 use Rattle.byteorder.specs.Endian.{big_bytes}

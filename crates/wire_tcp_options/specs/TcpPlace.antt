@@ -1,5 +1,5 @@
 -- Where a value is in the options of a header.
--- Pinned by: `calls/set`
+-- Pinned by: `tests/frames/field_lines.py`
 use Rattle.std.specs.Prelude.{ℕ, ◌+◌, if◌then◌else◌, List, [], ◌∷◌, length, Option, Some, None}
 use Rattle.std.specs.Option.{option_map, option_or}
 use Rattle.wire_tcp_options.specs.TcpItems.{Item, is_of, text}

@@ -1,5 +1,5 @@
 -- Sequence numbers, modulo 2 ^ 32 (RFC 9293, section 3.4).
--- Pinned by: `wire/tcp`, `calls/get`
+-- Pinned by: `wire/tcp`, `tests/frames/field_lines.py`
 use Rattle.std.specs.Prelude.{ℕ, ◌+◌, ◌-◌, ◌%◌, ◌^◌, ◌<◌, ◌≤◌}
 use Rattle.std.specs.Int.{cast_unsigned, w32}
 use Rattle.wire_tcp_options.specs.declared.tcp.control.TcpControl.{TcpControl}

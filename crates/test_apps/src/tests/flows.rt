@@ -1,4 +1,4 @@
-//! The ports of a NAT. `tests/judge/worked_mappings.c` follows packets through its table.
+//! The ports and time-outs of a NAT. `tests/judge/worked_mappings.c` follows packets through its table.
 
 use app_nat::{Mapping, Nat, mappings_for};
 use ip_wire::Ipv4Address;
@@ -17,4 +17,14 @@ fn has_the_ports_of_its_mappings(rt: HostRuntime) {
     }
     assert!(rt; Nat::new([7, 11], outside, 1024).ports(&mappings[1..]) == 127);
     assert!(rt; mappings_for(128) == 384 && mappings_for(0) == 0);
+}
+
+/// 5 minutes for UDP (RFC 4787, REQ-5), 2 hours and 4 minutes for TCP, 4 minutes while a connection opens or
+/// closes (RFC 5382, REQ-5), 60 seconds for ICMP (RFC 5508, REQ-2).
+#[test]
+fn has_the_usual_time_outs(rt: HostRuntime) {
+    let nat = Nat::new([7, 11], Ipv4Address::new(203, 0, 113, 9), 1024);
+    let tcp = [nat.tcp_timeout, nat.tcp_transitory_timeout];
+    assert_eq!(rt; tcp, [7_440_000, 240_000]);
+    assert_eq!(rt; [nat.udp_timeout, nat.icmp_timeout], [300_000, 60_000]);
 }

@@ -310,8 +310,7 @@ const TOO_FULL: TcpRepr<'static> = TcpRepr {
     ..FULL
 };
 
-/// What a frame over IPv4 of this protocol is to hold, and whether it can. The longest payloads are in
-/// `tests/judge/worked_write.c`.
+/// What a frame over IPv4 of this protocol is to hold, and whether it can.
 const HELD: &[(IpProtocol, Transport<'static>, bool)] = &[
     (IpProtocol::Udp, Transport::Udp(FROM_NO_PORT, &[]), true),
     (IpProtocol::Udp, Transport::Udp(TO_NO_PORT, &[]), false),
@@ -332,6 +331,40 @@ fn rejects_what_a_frame_cannot_hold(rt: HostRuntime) {
         assert!(rt;
             Frame::packet(SRC, DST, header, *transport).is_ok() == *want,
             "{protocol}"
+        );
+    }
+}
+
+/// The longest payload of each protocol by the version of IP. The total length of IPv4, the payload length of IPv6 and the
+/// length of UDP have 16 bits (RFC 791, section 3.1; RFC 8200, section 3; RFC 768). The TCP header has 60 bytes.
+const LONGEST: [(IpVersion, IpProtocol, usize); 6] = [
+    (IpVersion::Ipv4, IpProtocol::Udp, 65_507),
+    (IpVersion::Ipv6, IpProtocol::Udp, 65_527),
+    (IpVersion::Ipv4, IpProtocol::Tcp, 65_455),
+    (IpVersion::Ipv6, IpProtocol::Tcp, 65_475),
+    (IpVersion::Ipv4, IpProtocol::Icmp, 65_515),
+    (IpVersion::Ipv6, IpProtocol::Icmpv6, 65_535),
+];
+
+/// Whether a frame holds this payload.
+fn is_held(version: IpVersion, protocol: IpProtocol, payload: &[u8]) -> bool {
+    let transport = match protocol {
+        IpProtocol::Udp => Transport::Udp(PORTS, payload),
+        IpProtocol::Tcp => Transport::Tcp(TcpRepr { payload, ..FULL }),
+        _ => Transport::Other(payload),
+    };
+    Frame::packet(SRC, DST, header(version, protocol, 0), transport).is_ok()
+}
+
+#[test]
+fn holds_the_longest_payloads(rt: HostRuntime) {
+    let zeros = [0; 65_536];
+    for (version, protocol, len) in LONGEST {
+        let len = len.min(65_535);
+        assert!(rt;
+            is_held(version, protocol, &zeros[..len])
+                && !is_held(version, protocol, &zeros[..len + 1]),
+            "{version} {protocol}"
         );
     }
 }

@@ -1,3 +1,0 @@
-mod NatsOnce
-mod RouterOnce
-mod ShortOnce

@@ -1,5 +1,0 @@
-use Rattle.needs_apps.proofs.RouterOnce.{one_error}
-use Rattle.needs_apps.proofs.router.routes.error_once.Goals as goal
-
-pub returns : goal.returns
-returns c = one_error c.args.ours.now c.args.frame.now c.args.problem c.error.result c.error-2.result c.error.ensures.error c.error-2.ensures.error

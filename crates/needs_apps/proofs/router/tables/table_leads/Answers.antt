@@ -1,8 +1,0 @@
-use Rattle.std.proofs.Common.{map}
-use Rattle.app_router.specs.Index.{block_of}
-use Rattle.needs_apps.proofs.RouterOnce.{one_route}
-use Rattle.needs_apps.proofs.router.tables.table_leads.Goals as goal
-
-pub returns : goal.returns
-returns c = one_route c.args.routes.now c.args.addr.now c.choose.result c.choose-2.result
-    (c.choose.ensures c.index.ensures.index (c.fill.ensures.table (map block_of c.args.routes.now) c.index.ensures.index)) c.choose-2.ensures

@@ -1,7 +1,0 @@
-use Rattle.std.proofs.Common.{ap, of_z, to_z, w64}
-use Rattle.needs_c.proofs.RoutesOnce.{chooses_once}
-use Rattle.needs_c.proofs.calls.routes.choose_route.Goals as goal
-
-pub returns : goal.returns
-returns c = ap (λ r. to_z w64 (of_z w64 r))
-    (chooses_once c.args.routes.now c.args.addr.now _ _ (c.lk_choose_route.ensures c.args.routes.now c.requires.first) (c.lk_choose_route-2.ensures c.args.routes.now c.requires.second))

@@ -1,0 +1,41 @@
+"""Waiting, for the scripts of tests/kernel: for an event, and not for a time within which it should have happened."""
+import time
+
+# Seconds, until what has not happened counts as missing. On a quiet machine nothing takes a tenth of this.
+LATEST = 60
+PF_EXITING = 4
+
+
+def until(holds, seconds=LATEST):
+    """Waits until this holds. Whether it does."""
+    end = time.monotonic() + seconds
+    while not holds():
+        if time.monotonic() > end:
+            return bool(holds())
+        time.sleep(0.005)
+    return True
+
+
+def state_of(process):
+    """The letter of a process's state, as S for one that waits, or nothing if there is none."""
+    try:
+        with open(f"/proc/{process}/stat", encoding="utf-8") as file:
+            return file.read().rpartition(")")[2].split()[0]
+    except (FileNotFoundError, ProcessLookupError):
+        return ""
+
+
+def is_idle(process):
+    """Whether a program waits, is stopped or has ended. One that got a signal or a frame is not idle before it has taken
+    them."""
+    return state_of(process) in "STtZX"
+
+
+def ends(process):
+    """Whether there is no such process, or it has ended but for what the kernel still releases: a busy device takes long."""
+    try:
+        with open(f"/proc/{process}/stat", encoding="utf-8") as file:
+            fields = file.read().rpartition(")")[2].split()
+    except (FileNotFoundError, ProcessLookupError):
+        return True
+    return fields[0] in "ZX" or int(fields[6]) & PF_EXITING != 0
