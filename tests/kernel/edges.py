@@ -30,6 +30,11 @@ def errors_at(side, kind, hardware):
     return [frame for frame in side.came_out if frame[6:12] == hardware and icmp.is_error(frame) and (frame[34], frame[35]) == kind]
 
 
+def told(side):
+    """The hosts that are told that a packet was too big."""
+    return [frame[30:34] for frame in errors_at(side, (3, 4), HARDWARE["left"])]
+
+
 def one_ethernet_address(program, clock):
     """Both interfaces have one Ethernet address: an error about fragments leaves by that of the fragments."""
     room, there = Namespace(), Namespace()
@@ -72,20 +77,19 @@ def too_big_beside_others(program):
     short = packets.packet(packets.udp(b"", src=FAR_LEFT, dst=FAR_RIGHT), protocol=UDP, src=FAR_LEFT, dst=FAR_RIGHT, hop_limit=1)
     for _ in range(20 * MOST_ERRORS):
         side.sock.send(HARDWARE["left"] + ELSEWHERE + short[12:])
-    side.sock.send(wide)
-    until(lambda: errors_at(side, (3, 4), HARDWARE["left"]))
+    # A busy kernel loses frames of a flood.
+    is_told = until(lambda: side.sock.send(wide) and errors_at(side, (3, 4), HARDWARE["left"]))
     expired = len(errors_at(side, (11, 0), HARDWARE["left"]))
-    check("too big beside other errors", len(errors_at(side, (3, 4), HARDWARE["left"])) == 1 and MOST_ERRORS <= expired < 20 * MOST_ERRORS, expired)
+    check("too big beside other errors", is_told and MOST_ERRORS <= expired < 20 * MOST_ERRORS, expired)
     time.sleep(2)
     side.forget()
     other = FAR_LEFT[:3] + bytes([FAR_LEFT[3] + 1])
     last = packets.packet(packets.udp(bytes(LENGTH), src=other, dst=FAR_RIGHT), protocol=UDP, src=other, dst=FAR_RIGHT)
     for _ in range(20 * MOST_ERRORS):
         side.sock.send(wide)
-    side.sock.send(HARDWARE["left"] + ELSEWHERE + last[12:])
-    until(lambda: any(frame[30:34] == other for frame in errors_at(side, (3, 4), HARDWARE["left"])))
-    found = [frame[30:34] for frame in errors_at(side, (3, 4), HARDWARE["left"])]
-    check("too big beside that of another host", found.count(other) == 1 and OF_ONE <= found.count(FAR_LEFT) < 20 * MOST_ERRORS, len(found))
+    is_told = until(lambda: side.sock.send(HARDWARE["left"] + ELSEWHERE + last[12:]) and other in told(side))
+    found = told(side).count(FAR_LEFT)
+    check("too big beside that of another host", is_told and OF_ONE <= found < 20 * MOST_ERRORS, found)
     router.ends("with errors above the limit")
 
 

@@ -33,6 +33,8 @@ UDP, MORE, FRAGMENT = 17, 0x2000, 44
 # The kernel at most so many bytes, and one of another MTU.
 CUTS = (1480, 552, 8)
 SILENCE = 0.3  # seconds
+# From here on: the kernel chooses ports above 32767, so the NAT keeps these.
+OWN_PORTS = 20000
 FAR_LEFT, FAR_RIGHT = bytes([203, 0, 113, 7]), bytes([198, 18, 0, 7])
 
 
@@ -270,7 +272,7 @@ def send_cut(side, src, dst, body, most, hardware, src_hardware=ELSEWHERE):
 
 def translated_both_ways(sides):
     """A packet in fragments leaves with the outside address, and the answer comes in with the inside one."""
-    outside, port = socket.inet_aton(OUTSIDE), 40000
+    outside, port = socket.inet_aton(OUTSIDE), OWN_PORTS
     for length in (1480, 1806, 8000, 65_507):
         for most in CUTS[: 3 if length < 8000 else 2]:
             for side in sides.values():
@@ -294,7 +296,7 @@ def own_identifications(sides):
     for n in range(2):
         src = FAR_LEFT[:3] + bytes([20 + n])
         header = packets.header(0, protocol=UDP, src=src, dst=FAR_RIGHT, ident=77, flags=0)
-        for frame in framed(cut(header, udp_packet(src, FAR_RIGHT, 41000 + n, 53, bytes(3000)), 1480), HARDWARE["left"]):
+        for frame in framed(cut(header, udp_packet(src, FAR_RIGHT, OWN_PORTS + 1000 + n, 53, bytes(3000)), 1480), HARDWARE["left"]):
             sides["left"].sock.send(frame)
     wholes = came_to_elsewhere(sides["right"], lambda found: len(found) == 2)
     idents = {key[2] for key in wholes}
@@ -306,11 +308,11 @@ def whole_packets(sides):
     5.3.1). The checksum of the header stays right."""
     for side in sides.values():
         side.forget()
-    outside, sent = socket.inet_aton(OUTSIDE), []
+    outside, ports, sent = socket.inet_aton(OUTSIDE), OWN_PORTS + 2000, []
     for n, flags in enumerate((0, 0, 0x4000, 0x4000)):
         src = FAR_LEFT[:3] + bytes([30 + n])
         header = packets.header(12, protocol=UDP, src=src, dst=FAR_RIGHT, ident=77, flags=flags, options=bytes([1, 1, 1, 0] * n))
-        sent += framed([header + udp_packet(src, FAR_RIGHT, 42000 + n, 53, b"data")], HARDWARE["left"])
+        sent += framed([header + udp_packet(src, FAR_RIGHT, ports + n, 53, b"data")], HARDWARE["left"])
         sides["left"].sock.send(sent[-1])
     found = {}
 
@@ -318,7 +320,7 @@ def whole_packets(sides):
         sides["right"].take(0.02)
         for frame in sides["right"].came_out:
             if frame.startswith(ELSEWHERE) and frame[12:14] == b"\x08\0" and frame[26:30] == outside:
-                found[number(frame[14 + 4 * (frame[14] & 15) :][:2]) - 42000] = frame
+                found[number(frame[14 + 4 * (frame[14] & 15) :][:2]) - ports] = frame
         return len(found) == len(sent)
 
     until(is_done)

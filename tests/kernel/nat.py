@@ -1,15 +1,17 @@
 #!/usr/bin/env python3
 """The kernel's side of tests/kernel, for examples/nat.c.
 
-tests/kernel/nat.py taps PROGRAM     exchanges packets through a NAT on TAP devices, and compares all frames
-tests/kernel/nat.py sockets PROGRAM  through a NAT on packet sockets, with the offloads of the kernel
+tests/kernel/nat.py taps PROGRAM CLOCK  exchanges packets through a NAT on TAP devices, and compares all frames
+tests/kernel/nat.py sockets PROGRAM     through a NAT on packet sockets, with the offloads of the kernel
 
-This process is two hosts inside, and a namespace of its own is two servers outside. Over IPv4 the packets are translated,
-over IPv6 only routed. Prints how many exchanges were right. The status is 1 if one was wrong, or if a kernel counted an error.
+CLOCK is a slow clock to be preloaded. This process is two hosts inside, and a namespace of its own is two servers outside.
+Over IPv4 the packets are translated, over IPv6 only routed. Prints how many exchanges were right. The status is 1 if one was
+wrong, or if a kernel counted an error.
 """
 import ast
 import copy
 import ipaddress
+import os
 import socket
 import sys
 
@@ -421,9 +423,11 @@ def not_translated(nat):
     compare_counters(nat, before, ["LK_OTHER_PROTOCOL"] * 5)
 
 
-def on_taps(program):
+def on_taps(program, clock):
     room, there, model = Namespace(), Namespace(), Nat()
-    nat = start_on_taps(room, there, program)
+    # With a slow clock no mapping expires while a busy machine compares frames.
+    slow = {**os.environ, "LD_PRELOAD": clock, "FAST_CLOCK": "0.05"}
+    nat = start_on_taps(room, there, program, env=slow)
     server = there.serve(*SERVERS, "fd02::2")
     sides = {"left": WideSide(SELF, "left"), "right": WideSide(there.process, "right")}
     udp(sides, model)
@@ -437,14 +441,14 @@ def on_taps(program):
     not_translated(nat)
     no_errors(there)
     nat.ends("of a NAT")
-    clamps(room, there, program)
-    only_ipv4(room, there, program)
+    clamps(room, there, program, slow)
+    only_ipv4(room, there, program, slow)
     server.kill()
 
 
-def clamps(room, there, program):
+def clamps(room, there, program, env):
     """Hosts with a longer MTU exchange segments that fit the outside link."""
-    nat, model = start_on_taps(room, there, program, CLAMP), Nat().but(clamps={"right": 1500})
+    nat, model = start_on_taps(room, there, program, CLAMP, env=env), Nat().but(clamps={"right": 1500})
     sides = {"left": WideSide(SELF, "left"), "right": WideSide(there.process, "right")}
     longer_hosts(there)
     data = random.randbytes(300_000)
@@ -456,9 +460,10 @@ def clamps(room, there, program):
     nat.ends("of a NAT that clamps")
 
 
-def only_ipv4(room, there, program):
+def only_ipv4(room, there, program, env):
     """Without addresses over IPv6 none of its packets passes."""
-    nat = start_on_taps(room, there, program, config="".join(line for line in OF_TAPS.splitlines(True) if "::" not in line))
+    config = "".join(line for line in OF_TAPS.splitlines(True) if "::" not in line)
+    nat = start_on_taps(room, there, program, config=config, env=env)
     sides, model = {"left": WideSide(SELF, "left"), "right": WideSide(there.process, "right")}, Nat()
     model.own, model.routes = {addr for addr in model.own if addr.version == 4}, {
         block: route for block, route in model.routes.items() if block.version == 4}

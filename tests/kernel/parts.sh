@@ -168,7 +168,7 @@ part_faulty_bridges() {
 
 part_router_taps() { tests/kernel/router.py taps "$programs/router"; }
 part_icmp_router() { tests/kernel/icmp_tests.py router "$programs/router"; }
-part_nat_taps() { tests/kernel/nat.py taps "$programs/nat"; }
+part_nat_taps() { tests/kernel/nat.py taps "$programs/nat" "$clock"; }
 part_fragments_router() { tests/kernel/fragments.py router "$programs/router" "$clock"; }
 part_fragments_nat() { tests/kernel/fragments.py nat "$programs/nat"; }
 part_faults_taps() { tests/kernel/faults.py taps "$checked/router"; }
