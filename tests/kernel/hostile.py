@@ -274,14 +274,12 @@ def ends_in_a_flood(wire, process):
     for _ in range(2):
         senders.append(os.fork())
         if senders[-1] == 0:
-            end = time.monotonic() + 10
-            while time.monotonic() < end:
+            while True:
                 send_all(wire, [frame] * 1000)
-            os._exit(0)
     time.sleep(0.1)
     os.kill(int(process), signal.SIGTERM)
     os.kill(int(process), signal.SIGCONT)
-    check("SIGTERM in a flood", until(lambda: ends(process)))
+    check("SIGTERM in a flood", until(lambda: ends(process), 10))
     for sender in senders:
         os.kill(sender, signal.SIGKILL)
         os.waitpid(sender, 0)

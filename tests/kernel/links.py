@@ -42,6 +42,11 @@ class Namespace:
     def run(self, script):
         subprocess.run(["nsenter", "--target", self.process, "--net", "sh", "-ec", script], check=True)
 
+    def waits_for_neighbours(self, device):
+        """The kernel looks for one for a minute, and not for 3 s, before a packet to it is lost. In a user namespace it has no
+        such setting."""
+        self.run(f"sysctl -q net.ipv4.neigh.{device}.mcast_solicit=60 net.ipv6.neigh.{device}.mcast_solicit=60 2> /dev/null || true")
+
     def serve(self, *addresses):
         server = in_namespace(self.process, f"{TOP}/tests/kernel/echo_server.py", *addresses)
         server.stdout.readline()

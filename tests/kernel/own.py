@@ -160,8 +160,6 @@ def families(addr):
 
 def pings(side, addr, what):
     family = families(addr)
-    # Who looks for a neighbour that is late gives up after 3 s, and the packet is lost.
-    until(lambda: ping(family, addr, b"", 1, wait=1))
     found = counted(side, is_echo, lambda: ping(family, addr, b"data", 7))
     check(f"ping of {what}", found == (True, 1), (addr, found))
     for length in LENGTHS:
@@ -283,14 +281,14 @@ def behind_snooping(program, hosts):
         running.append(in_namespace(switch.process, host, f"tap{number}", f"02:00:00:00:aa:0{number}", "0.0.0.0", f"fd01::{number}"))
         running[-1].stdout.readline()
         switch.run(f"ip link set dev tap{number} master switch up")
+    far.waits_for_neighbours("far")
     for version in (2, 1):
         switch.run(f"ip link set switch type bridge mcast_mld_version {version}")
         time.sleep(SNOOPS)
         far.run("ip neighbour flush all")
         for number, port in ((1, "left"), (2, "right"), (4, "tap4"), (5, "tap5")):
             with far.entered():
-                is_there = until(lambda: ping(socket.AF_INET6, f"fd01::{number}", b"data", 1, wait=1))
-                check("ping behind a bridge that snoops", is_there, (version, port))
+                check("ping behind a bridge that snoops", ping(socket.AF_INET6, f"fd01::{number}", b"data", 1), (version, port))
             is_member = until(lambda: f"port {port} grp ff02::1:ff00:{number} " in groups_of(switch))
             check("groups", is_member, (version, port, groups_of(switch)))
     for router in routers:

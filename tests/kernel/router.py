@@ -60,6 +60,7 @@ ARP = b"\x08\x06"
 
 def set_host(namespace, name):
     namespace.run(HOST.format(name=name, n=1 + (name == "right"), hardware=HOSTS[name].hex(":")))
+    namespace.waits_for_neighbours(name)
 
 
 def start_on_taps(room, there, program, config=OF_TAPS, **words):
