@@ -51,7 +51,8 @@ int lk_cpu_supported(void);
 /* The longest input or output of a call, in bytes: 2^40 - 1. */
 #define LK_MAX_LEN (((size_t)1 << 40) - 1)
 
-/* Why a call wrote nothing. If several failures apply to a call, it is the first of them in this order.
+/* Why a call wrote nothing. If several failures apply to a call, it is the first of them in this order; of lk_fragment
+ * and lk_reassemble the first in their tables.
  *
  * The sum of a failure and lengths is negative too, if these lengths are together at most LK_MAX_LEN. As a `size_t`
  * the failure and the sum are above LK_MAX_LEN, so no call uses them as a length. lk_failure_name needs the failure
@@ -1051,28 +1052,43 @@ struct lk_partial {
  * - Fragments belong to one packet if they agree in version, addresses and identification, over IPv4 also in protocol.
  * - If all `partials` are in use, one that has expired makes room for a new packet, else the one that expires first; of
  *   several the first.
- * - A packet that is not fragmented is returned at once: of IPv4 each, of IPv6 one with an atomic fragment header (RFC
- *   6946). Neither `partials` nor `memory` are used.
- * - The packet has the header of the fragment with offset 0, with a new length, and over IPv4 with MF clear and a new
- *   checksum. Over IPv6 the fragment header is left out. If a fragment has the codepoint CE, the packet has it (RFC
- *   3168, section 5.3). The Ethernet header is that of `frame`. Padding is left out.
- * - IPv6: the fragment header must follow the fixed header directly. Messages of neighbour discovery must not come in
- *   fragments (RFC 6980): drop a whole packet with one.
+ * - Messages of neighbour discovery must not come in fragments (RFC 6980): drop a whole packet with one.
  *
- * Fails with one of these:
+ * The first row that is true has the result. The rows with a star leave `partials` and `memory` unchanged:
  *
- * - LK_PAYLOAD_TOO_LONG: the fragment ends after what the memory of its packet can keep, or `count` is 0.
- * - LK_NO_HEADER: there is no valid fragment. A length, the version or the IPv4 header checksum is wrong, an IPv6 packet
- *   has no fragment header, or the fragment has no payload, or one of no multiple of 8 bytes though more fragments
- *   follow.
- * - LK_NO_ROOM: the packet is complete, but does not fit in `out`. Its fragments are kept, so that any of them gives it
- *   again.
- * - LK_DROPPED: two fragments of the packet overlap, but not with all of the same bytes (RFC 5722; RFC 8200, section
- *   4.5), or contradict each other about its end; one has CE and one Not-ECT (RFC 3168, section 5.3); or its end and its
- *   header make more bytes than a length field can say. This fragment and those that come until the packet expires
- *   are dropped.
+ *   frame                                                                         result
+ *   no IPv4 or IPv6 header; a wrong version, length or IPv4 header checksum       LK_NO_HEADER *
+ *   IPv6: no whole fragment header directly after the IPv6 header                 LK_NO_HEADER *
+ *   a whole packet: offset 0, and no more fragments (IPv6: atomic, RFC 6946)      the packet, or LK_NO_ROOM *
+ *   no payload                                                                    LK_NO_HEADER *
+ *   more fragments follow, and the payload is no multiple of 8 bytes              LK_NO_HEADER *
+ *   `count` is 0                                                                  LK_PAYLOAD_TOO_LONG *
+ *   it ends after byte 65536 or 8 * (memory_len / count / 9) of the payload       LK_PAYLOAD_TOO_LONG *
+ *   its packet was dropped and has not expired, or is dropped now                 LK_DROPPED
+ *   another part of the packet is missing                                         0
+ *   the packet is longer than `cap`: it is kept, and any of its fragments gives   LK_NO_ROOM
+ *     it again
+ *   all others                                                                    the packet
  *
- * After LK_PAYLOAD_TOO_LONG and LK_NO_HEADER `partials` and `memory` are unchanged too. */
+ * A fragment drops its packet in these cases. Then the packet takes no fragment until it expires:
+ *
+ *   fragment                                                                      by
+ *   some of its bytes came before, but not all, or some had another value         RFC 5722; RFC 8200, section 4.5
+ *   it is the last one, and another one ends after it
+ *   it ends after the last one, or is another last one with another end
+ *   it has the codepoint CE and another one Not-ECT, or the other way round       RFC 3168, section 5.3
+ *   the last one came, and the payload has more than 65535 bytes, over IPv4 with  RFC 791, section 3.1; RFC 8200,
+ *     the header of the one with offset 0 if that came                              section 4.5
+ *
+ * The whole packet has these parts:
+ *
+ *   part                                       value
+ *   Ethernet header                            that of `frame`
+ *   IP header, with options, TTL, DSCP and DF  that of the fragment with offset 0, of copies that of the first
+ *   ECN                                        CE if a fragment has CE (RFC 3168, section 5.3), else as the header
+ *   MF, offset, lengths, IPv4 header checksum  those of a packet that is not fragmented
+ *   IPv6 fragment header                       left out; its next header is in the IPv6 header
+ *   padding                                    left out */
 ptrdiff_t lk_reassemble(struct lk_partial *partials, size_t count, uint8_t *memory, size_t memory_len, uint64_t now,
                         const uint8_t *frame, size_t len, uint8_t *out, size_t cap);
 

@@ -103,6 +103,10 @@ static const struct step {
     {0, 0, begin8, 0, 0, 0},
     {0, 0, middle8, 0, 0, 0},
     {0, 0, plain1, 0, plain, 0},
+    {2, 0, begin8, 0, 0, 0}, /* a copy of two fragments */
+    {0, 0, middle8, 0, 0, 0},
+    {0, 0, plain0, 0, 0, 0},
+    {0, 0, plain1, 0, plain, 0},
     {2, 0, plain1, 0, 0, 0}, /* three fragments */
     {0, 0, begin8, 0, 0, 0},
     {0, 0, middle8, 0, plain, 0},
@@ -136,6 +140,9 @@ static const struct step {
     {2, 0, plain1, 0, 0, 0}, /* another byte */
     {0, 0, changed1, LK_DROPPED, 0, 0},
     {0, 0, plain0, LK_DROPPED, 0, 0},
+    {0, 0, odd, LK_NO_HEADER, 0, 0}, /* what is no fragment, or too long for the memory, is told first */
+    {0, 0, far, LK_PAYLOAD_TOO_LONG, 0, 0},
+    {0, 0, plain, 0, plain, 0},
     {0, 60000, 0, 0, 0, 0}, /* no error about it */
     {2, 0, plain1, 0, 0, 0}, /* another end */
     {0, 0, early_end, LK_DROPPED, 0, 0},
@@ -291,6 +298,9 @@ void worked_reassembly(void)
     WRITES(whole, both_reassemble(partials, 0, memory, 0, 0, whole.at, whole.len, out, cap));
     frame = changed(frame, 24, 0); /* a wrong header checksum */
     FAILS(LK_NO_HEADER, both_reassemble(partials, MOST, memory, sizeof memory, 0, frame.at, frame.len, out, ROOM));
+    FAILS(LK_NO_HEADER, both_reassemble(partials, 0, memory, sizeof memory, 0, frame.at, frame.len, out, ROOM));
+    frame = frame_of(odd, 0);
+    FAILS(LK_NO_HEADER, both_reassemble(partials, 0, memory, sizeof memory, 0, frame.at, frame.len, out, ROOM));
     FAILS(LK_NO_HEADER, both_reassemble(partials, MOST, memory, sizeof memory, 0, arp4.at, arp4.len, out, ROOM));
     FAILS(LK_NO_HEADER, both_reassemble(partials, MOST, memory, sizeof memory, 0, ping6.at, ping6.len, out, ROOM));
 }
