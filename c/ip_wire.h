@@ -982,29 +982,38 @@ int lk_clamp_mss_as(uint8_t *frame, size_t len, uint16_t max_seg_size, int offlo
  *     for (size_t i = 0; (n = lk_fragment(frame, len, mtu, LK_FORWARDED, i, out, sizeof out)) > 0; i++)
  *         send(out, (size_t)n);
  *
- * A packet that fits is its only fragment. Padding is left out.
+ * A packet that fits is its only fragment. A router passes LK_FORWARDED as `ident`, and a sender an identification. No
+ * other packet between these addresses, over IPv4 of the same protocol, may have the same one for two minutes (RFC 6864;
+ * RFC 8200, section 4.5). Complete a checksum that is left to the device before the call (lk_fill_checksum).
  *
- * - A router passes LK_FORWARDED as `ident`. An IPv4 packet keeps its identification, and may be cut only if DF is clear.
- *   A fragment is cut into fragments of its packet. An IPv6 packet is never cut.
- * - A sender passes an identification: up to 65535 over IPv4, up to 4294967295 over IPv6. DF of an IPv4 packet is
- *   cleared, as lk_emit_.. sets it. No other packet between these addresses, over IPv4 of the same protocol, may have
- *   the same identification for two minutes (RFC 6864; RFC 8200, section 4.5).
+ *   part of a fragment                         value
+ *   payload                                    in all but the last as many bytes as fit, a multiple of 8; no padding
+ *   IPv4 identification                        of a router that of the packet, of a sender `ident`, also if it fits
+ *   DF                                         of a router that of the packet, of a sender 0, also if it fits
+ *   MF                                         1, in the last one that of the packet, which may be a fragment itself
+ *   IPv4 options without the copied flag       after the first fragment no-operations (RFC 791, section 3.1), but not
+ *                                              after an end mark or a malformed option
+ *   lengths, offset, IPv4 header checksum      those of the fragment
+ *   IPv6 fragment header                       8 bytes directly after the IPv6 header; none if the packet fits
+ *   all others                                 as in the packet
  *
- * IPv4 options that only the first fragment may have are no-operations in the others (RFC 791, section 3.1), so that all
- * headers have one length. Each IPv6 fragment gets a fragment header of 8 bytes. An IPv6 packet that fits stays as it is,
- * without one. Complete a checksum that is left to the device before the call (lk_fill_checksum).
+ * The first row that is true has the result:
  *
- * Not supported: an IPv6 packet that has to be cut, and has hop-by-hop options, a routing header or destination options
- * directly after the IPv6 header.
- *
- * Fails with one of these:
- *
- * - LK_BAD_FIELD: `ident` is below -1, or above the limit for the packet's version. Or the packet does not fit, and the
- *   MTU is less than its header and 8 bytes, over IPv6 less than 56 bytes.
- * - LK_PAYLOAD_TOO_LONG: an IPv4 fragment ends after byte 65535 of its packet.
- * - LK_NO_HEADER: the frame has no IP packet with a valid header. Or `ident` is not LK_FORWARDED, and the packet is an
- *   IPv4 fragment, or an IPv6 packet that does not fit and is a fragment or not supported.
- * - LK_DONT_FRAGMENT, LK_NO_ROOM. */
+ *   call                                                                          result
+ *   `ident` is below -1 or above 4294967295, with or without a packet             LK_BAD_FIELD
+ *   no IPv4 or IPv6 header; a wrong version, length or IPv4 header checksum       LK_NO_HEADER
+ *   IPv4: `ident` is above 65535, also if the packet fits                         LK_BAD_FIELD
+ *   IPv4: the packet does not fit, and the MTU is less than its header + 8        LK_BAD_FIELD
+ *   IPv4: the packet is a fragment that ends after byte 65535 of the payload      LK_PAYLOAD_TOO_LONG
+ *   IPv4: a sender passes a fragment, also one that fits                          LK_NO_HEADER
+ *   IPv4: a router passes a packet with DF that does not fit                      LK_DONT_FRAGMENT
+ *   IPv6: the packet does not fit, and the MTU is less than 56                    LK_BAD_FIELD
+ *   IPv6: a router passes a packet that does not fit                              LK_DONT_FRAGMENT
+ *   IPv6: the packet does not fit, and after the IPv6 header comes another        LK_NO_HEADER
+ *     header of number 0, 43, 44 or 60: not supported
+ *   `number` is that of no fragment                                               0
+ *   the fragment is longer than `cap`                                             LK_NO_ROOM
+ *   all others                                                                    the length of the frame */
 ptrdiff_t lk_fragment(const uint8_t *frame, size_t len, size_t mtu, int64_t ident, size_t number, uint8_t *out,
                       size_t cap);
 

@@ -117,6 +117,9 @@ static const struct row {
     {plain, 32, -2, LK_BAD_FIELD, {0}},
     {plain, 32, 4294967296, LK_BAD_FIELD, {0}},
     {frag, 100, 1, LK_NO_HEADER, {0}}, /* a fragment of one's own */
+    {frag, 27, 1, LK_BAD_FIELD, {0}}, /* the first row of the header's table that is true */
+    {far, 36, 1, LK_PAYLOAD_TOO_LONG, {0}},
+    {df, 27, LK_FORWARDED, LK_BAD_FIELD, {0}},
     {marks6, 56, 0x89abcdef, 0, {marks60, marks61, marks62}}, /* traffic class and flow label */
     {marks6, 63, 0x89abcdef, 0, {marks60, marks61, marks62}}, /* it would fit without the fragment header */
     {marks6, 64, 0x89abcdef, 0, {marks6}}, /* no atomic fragment (RFC 8021) */
@@ -134,6 +137,8 @@ static const struct row {
     {hop6, 63, 1, LK_NO_HEADER, {0}},
     {route6, 71, 1, LK_NO_HEADER, {0}},
     {dest6, 63, 1, LK_NO_HEADER, {0}},
+    {dest6, 55, 1, LK_BAD_FIELD, {0}},
+    {dest6, 63, LK_FORWARDED, LK_DONT_FRAGMENT, {0}},
     {esp6, 55, 1, LK_BAD_FIELD, {0}},
     {esp6, 55, LK_FORWARDED, LK_BAD_FIELD, {0}},
     {esp6, 63, 4294967296, LK_BAD_FIELD, {0}},
@@ -159,6 +164,7 @@ static void fragments_of(size_t row, const struct octets *frame)
     clear();
     CHECK_ROW(row, both_fragment(frame->at, frame->len, one->mtu, one->ident, n, out, ROOM) == 0);
     CHECK_ROW(row, both_fragment(frame->at, frame->len, one->mtu, one->ident, (size_t)-1, out, ROOM) == 0);
+    CHECK_ROW(row, both_fragment(frame->at, frame->len, one->mtu, one->ident, n, out, 0) == 0);
     CHECK_ROW(row, holds(&nothing, 0));
 }
 
@@ -184,4 +190,7 @@ void worked_fragment(void)
     frame = changed(frame, 14, 0x50); /* another version */
     FAILS(LK_NO_HEADER, both_fragment(frame.at, frame.len, 1500, LK_FORWARDED, 0, out, ROOM));
     FAILS(LK_NO_HEADER, both_fragment(arp4.at, arp4.len, 1500, 0, 0, out, ROOM));
+    FAILS(LK_NO_HEADER, both_fragment(arp4.at, arp4.len, 1500, 4294967295, 0, out, ROOM)); /* without a packet */
+    FAILS(LK_BAD_FIELD, both_fragment(arp4.at, arp4.len, 1500, 4294967296, 0, out, ROOM));
+    FAILS(LK_BAD_FIELD, both_fragment(arp4.at, 0, 1500, -2, 0, out, ROOM));
 }
