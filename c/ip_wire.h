@@ -848,44 +848,62 @@ struct lk_interface {
     uint8_t hardware[6]; /* an Ethernet address */
 };
 
-/* Why a packet was dropped, and the ICMP error about it: its type and code over IPv4, and over IPv6. */
+/* Why a packet was dropped. */
 enum lk_problem {
     LK_NO_PROBLEM,
-    LK_HOP_LIMIT_EXPIRED, /* 11, 0 and 3, 0: only if the hop limit is 0 or 1 */
-    LK_PACKET_TOO_BIG,    /* 3, 4 and 2, 0: only if the packet is longer than `mtu`, and over IPv4 has DF */
-    LK_ROUTE_MISSING,     /* 3, 0 and 1, 0 */
-    LK_NEIGHBOUR_MISSING, /* 3, 1 and 1, 3: the next hop has no hardware address */
-    LK_PORT_CLOSED,       /* 3, 3 and 1, 4 */
-    LK_PROHIBITED,        /* 3, 13 and 1, 1: a filter rejects it */
-    LK_FRAGMENT_MISSING   /* 11, 1 and 3, 1: about a first fragment, whose packet is not complete in time (lk_expire) */
+    LK_HOP_LIMIT_EXPIRED,
+    LK_PACKET_TOO_BIG,
+    LK_ROUTE_MISSING,
+    LK_NEIGHBOUR_MISSING, /* the next hop has no hardware address */
+    LK_PORT_CLOSED,
+    LK_PROHIBITED,        /* a filter rejects it */
+    LK_FRAGMENT_MISSING   /* its packet was not complete in time (lk_expire) */
 };
 
 /* Writes an Ethernet frame with an ICMP error about a frame that came in by an interface, to its sender. `frame` is as
  * it came in. Returns the length of the error, or 0 if the frame may get none. Fails with LK_NO_VERSION if `ipv4` is no
- * IPv4 address or `ipv6` no IPv6 address, with LK_NO_HEADER if `len` is above LK_MAX_LEN, and with LK_NO_ROOM. `mtu` is
- * used for LK_PACKET_TOO_BIG only: the length of the longest packet that the next link takes. Any other `problem` than
- * those above counts as LK_NO_PROBLEM, which returns 0.
+ * IPv4 address or `ipv6` no IPv6 address, with LK_NO_HEADER if `len` is above LK_MAX_LEN, and with LK_NO_ROOM. A `cap` of
+ * 1294 always suffices.
  *
- * The frame goes from `hardware` to the Ethernet source of the other frame. Its IP packet goes from the address of the
- * interface to the source of the other packet, with hop limit 64 and DSCP 0.
+ *   problem                    IPv4    IPv6   tested; else the result is 0
+ *   LK_HOP_LIMIT_EXPIRED       11, 0   3, 0   the hop limit is 0 or 1
+ *   LK_PACKET_TOO_BIG          3, 4    2, 0   the packet is longer than `mtu`, and over IPv4 has DF
+ *   LK_ROUTE_MISSING           3, 0    1, 0   nothing
+ *   LK_NEIGHBOUR_MISSING       3, 1    1, 3   nothing
+ *   LK_PORT_CLOSED             3, 3    1, 4   nothing, not even that it is UDP or TCP
+ *   LK_PROHIBITED              3, 13   1, 1   nothing
+ *   LK_FRAGMENT_MISSING        11, 1   3, 1   nothing: give the first fragment, from lk_expire
+ *   LK_NO_PROBLEM, any other                  the result is 0
  *
- * The error quotes as much of the packet as fits into 576 bytes over IPv4, 1280 over IPv6 (RFC 1812, section 4.3.2.3;
- * RFC 4443, section 2.4 c), so a `cap` of 1294 always suffices. No error is sent in these cases (RFC 1122, section
- * 3.2.2; RFC 4443, section 2.4 e).
+ *   part of the error          value
+ *   Ethernet addresses         from `hardware` to the Ethernet source of `frame`
+ *   IP addresses               from the address of the interface to the source of the packet
+ *   IP header                  hop limit 64, over IPv4 DF; DSCP, ECN, identification and flow label are 0
+ *   type and code              as above
+ *   bytes 4 to 7               of LK_PACKET_TOO_BIG `mtu`, over IPv4 at most 65535; of others 0
+ *   quoted packet              its first bytes: as many as fit into an error of 576 bytes over IPv4, 1280 over IPv6
+ *                              (RFC 1812, section 4.3.2.3; RFC 4443, section 2.4 c), without padding
  *
- * - The frame is not for `hardware`, or not from a unicast hardware address.
- * - The version, the lengths or the IPv4 header checksum of the packet are wrong.
- * - It is from a source that lk_check_source calls LK_MARTIAN, or from an address of the interface.
- * - It is for a multicast or broadcast address, or for another that no host has.
- * - It is an IPv4 fragment other than the first.
- * - An IPv6 extension header, of number 0, 43, 44, 51, 60, 135, 139 or 140, does not end within the packet.
- * - It is an IPv6 fragment other than the first, and the next header is ICMPv6 or an extension header: it may be part of
- *   an ICMP error. Other IPv6 fragments get an error, so their sender learns the MTU.
- * - It carries ICMP over IPv4 of another type than 0, 8 and 13 to 18, which are queries and their replies.
- * - It carries ICMPv6, also after extension headers, of a type below 128, which are errors, or of type 137, a redirect.
- *   Other types from 128 on get an error, even unknown ones (RFC 4443, section 2.1).
- * - It carries ICMP without a type, since its payload is empty.
- * - The interface has no address of its version.
+ * `mtu` is the length of the longest packet that the next link takes. No error is sent in these cases (RFC 1122, section
+ * 3.2.2; RFC 4443, section 2.4 e):
+ *
+ *   part of the frame                        no error
+ *   Ethernet destination                     another than `hardware`
+ *   Ethernet source                          a group: the lowest bit of its first byte is 1
+ *   IP header                                none; a wrong version, length or IPv4 header checksum
+ *   IP source                                LK_MARTIAN for lk_check_source, or one of the two addresses of the interface
+ *   IP destination                           LK_MARTIAN for lk_check_source: also each multicast address, and broadcast
+ *   address of the interface, same version   LK_MARTIAN for lk_check_source: also 0.0.0.0 and `::`
+ *   IPv4 fragment offset                     above 0
+ *   IPv4 type, of protocol 1                 another than 0, 8 and 13 to 18, queries and their replies; none, as the
+ *                                            payload is empty
+ *   IPv6 extension header: 0, 43, 44, 51,    does not end within the packet
+ *     60, 135, 139 or 140
+ *   IPv6 fragment offset above 0             next header 58 or an extension header: it may be part of an ICMP error
+ *   ICMPv6 type, also after such headers     below 128, an error; 137, a redirect; none, as the payload is empty
+ *
+ * Other IPv6 fragments get an error, so their sender learns the MTU. Other types of ICMPv6 get one, even unknown ones (RFC
+ * 4443, section 2.1).
  *
  * The caller limits the rate (RFC 1812, section 4.3.2.8; RFC 4443, section 2.4 f). */
 ptrdiff_t lk_emit_icmp_error(const struct lk_interface *own, int problem, uint32_t mtu, const uint8_t *frame,

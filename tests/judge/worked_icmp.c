@@ -198,6 +198,8 @@ static void write_errors(void)
     ERROR(port_closed6, LK_PORT_CLOSED, 0, last_hop6);
     ERROR(prohibited6, LK_PROHIBITED, 0, last_hop6);
     ERROR(no_others6, LK_FRAGMENT_MISSING, 0, first_part6);
+    /* about a whole packet: type 11 with code 1, so that the checksum is one less */
+    ERROR(changed(changed(expired, 35, 1), 37, (uint8_t)(expired.at[37] - 1)), LK_FRAGMENT_MISSING, 0, last_hop);
 }
 
 static void write_no_errors(void)
@@ -224,6 +226,10 @@ static void write_no_errors(void)
     NO_ERROR(LK_PACKET_TOO_BIG, 53, last_hop6);
     for (size_t i = 0; i < sizeof frames / sizeof frames[0]; i++)
         NO_ERROR(LK_ROUTE_MISSING, 0, frames[i]);
+    own.ipv4 = addr("127.0.0.1"); /* no address of an interface */
+    own.ipv6 = addr("::1");
+    NO_ERROR(LK_ROUTE_MISSING, 0, last_hop);
+    NO_ERROR(LK_ROUTE_MISSING, 0, last_hop6);
 }
 
 /* Whether an error about the frame with another byte is written. */
