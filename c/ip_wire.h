@@ -1336,9 +1336,16 @@ struct lk_mapping {
  *   are not among them.
  * - A mapping belongs to one inside endpoint, whatever the remote endpoints are (RFC 4787, REQ-1). What any remote
  *   endpoint sends to its outside port comes in (REQ-8).
- * - An endpoint without a live mapping gets a new one. Its port is its own port if free, else the first free one in
- *   rows of 63 to 66 ports. A row is spread evenly over all outside ports, and the next one begins a port after it. A
- *   keyed hash of the endpoint chooses where the first row begins and its step. LK_NO_FREE_PORT: no port is free.
+ * - An endpoint without a live mapping gets a new one. Its port is its own port if free, else the first free one of its
+ *   rows. A row is spread evenly over all outside ports, and the next one begins a port after it. A keyed hash of the
+ *   endpoint chooses where the first row begins and its step. LK_NO_FREE_PORT: no port is free.
+ *
+ *   outside ports     ports of a row
+ *   up to 125         all
+ *   126 to 629        63 to 94
+ *   630 to 6299       63 to 70
+ *   6300 and more     63 to 66
+ *
  * - A call reads one row for an endpoint that has a mapping, and at most two for a new one. If all ports of its first
  *   row are taken, it gets one of a later row. From then on a call for a new endpoint whose first row begins at the
  *   same port reads as many rows: `reach` of the mapping there says how many. It only grows, until the caller fills all

@@ -89,6 +89,7 @@ void make_worked_calls(const char *folder)
     worked_route();
     worked_nat();
     worked_mappings();
+    worked_rows();
     worked_icmp();
     worked_mld();
     worked_edit();
