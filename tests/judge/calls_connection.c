@@ -229,6 +229,8 @@ static void begin_end(struct end *end)
     struct lk_connection *connection = room(&end->connection, sizeof *connection);
     lk_connection_init(connection, (uint16_t)below(MOST_SIZE + 1), (uint32_t)(one_in(2) ? 0 : below(200)), one_in(2));
     end->connection = *connection;
+    look(end);
+    same_number("a SYN that waits", 1, (ptrdiff_t)end->waiting);
 }
 
 /* Reads, writes, closes, or a segment arrives. */
@@ -282,8 +284,10 @@ void connect_ends(void)
     else
         meet(CONNECT, &ends[1], ends[1].outgoing_len, ends[1].incoming_len, 0);
     meet(CONNECT, &ends[0], ends[0].outgoing_len, ends[0].incoming_len, 0);
-    look(&ends[0]);
-    look(&ends[1]);
+    for (int i = 0; i < 2; i++) {
+        look(&ends[i]);
+        same_number("a SYN that waits, also in LK_LISTEN", 1, (ptrdiff_t)ends[i].waiting);
+    }
     for (size_t steps = 0; steps < (is_hostile ? 400 : STEPS); steps++) {
         act(&ends[below(2)]);
         if (is_over(&ends[0]) && is_over(&ends[1]))
