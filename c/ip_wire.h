@@ -454,9 +454,19 @@ int lk_read_linktype(uint32_t link_type, const uint8_t *ptr, size_t captured, si
  *     ARP 192.0.2.1 > 192.0.2.2 op=1 hardware=02-00-00-00-00-01 len=0
  *     Ethernet 02-00-00-00-00-01 > 02-00-00-00-00-02 type=0x0800 len=19 (too short)
  *
+ * The line begins by what was read:
+ *
+ *   `network`       link-layer header               the line begins with
+ *   LK_ARP                                          ARP, and the IPv4 addresses
+ *   LK_IPV4                                         IPv4, and the addresses
+ *   LK_IPV6                                         IPv6, and the addresses
+ *   LK_NO_NETWORK   of Ethernet                     Ethernet, its addresses and its type
+ *   LK_NO_NETWORK   another of lk_read_linktype     Ethernet, addresses of zeros, and the type of lk_read_link
+ *   LK_NO_NETWORK   none, as of lk_read_packet      Ethernet 00-00-00-00-00-00 > 00-00-00-00-00-00 type=0x0000
+ *   LK_NO_NETWORK   unknown, or rejected            the same: a program prints the link type, which no field has
+ *
  * - The sender is before the receiver. There are ports if a UDP or TCP header is stored, also a rejected one, and none of
- *   a fragment. If no ARP or IP header was read, the line has `ethernet`: the addresses, which are 0 for other links, and
- *   the type.
+ *   a fragment.
  * - A UDP or TCP header that is rejected, but is stored, is printed as one that was read. Another protocol, a fragment and
  *   a header that is not stored have `proto`, which is `protocol`.
  * - Of the TCP flags `syn`, `fin`, `rst`, `psh`, `ece` and `cwr` are printed. If ACK is set, `ack` follows `seq`; if URG

@@ -60,6 +60,8 @@ static int prints(const struct lk_frame *frame, const char *line)
 
 static void print_lines(void)
 {
+    /* www.tcpdump.org/linktypes/LINKTYPE_LINUX_SLL.html: type, ARPHRD 1, 6 bytes of an address, the protocol */
+    const struct octets cooked = octets("00000001000602b1b2b3b4b5000088b50102");
     struct lk_frame frame;
     for (size_t i = 0; i < sizeof lines / sizeof lines[0]; i++) {
         struct octets octets = cut(lines[i].frame, lines[i].frame->len, lines[i].changes);
@@ -72,6 +74,14 @@ static void print_lines(void)
     CHECK(prints(&frame, "IPv4 26.27.28.29 > 42.43.44.45 proto=17 len=11 (header cut)"));
     both_read_linktype(147, udp4.at, udp4.len, udp4.len, &frame);
     CHECK(prints(&frame, "Ethernet 00-00-00-00-00-00 > 00-00-00-00-00-00 type=0x0000 len=54 (unknown link)"));
+    both_read_linktype(1, udp4.at, 13, 13, &frame);
+    CHECK(prints(&frame, "Ethernet 00-00-00-00-00-00 > 00-00-00-00-00-00 type=0x0000 len=13 (too short)"));
+    both_read_linktype(113, cooked.at, cooked.len, cooked.len, &frame);
+    CHECK(prints(&frame, "Ethernet 00-00-00-00-00-00 > 00-00-00-00-00-00 type=0x88b5 len=2"));
+    both_read_linktype(101, (const uint8_t *)"P", 1, 1, &frame); /* version 5 */
+    CHECK(prints(&frame, "Ethernet 00-00-00-00-00-00 > 00-00-00-00-00-00 type=0x0000 len=1 (bad version)"));
+    both_read_packet((const uint8_t *)"P", 1, &frame);
+    CHECK(prints(&frame, "Ethernet 00-00-00-00-00-00 > 00-00-00-00-00-00 type=0x0000 len=1 (bad version)"));
 }
 
 /* The longest line. */
