@@ -516,10 +516,17 @@ int lk_next_ipv6_header(const uint8_t *ptr, size_t len, struct lk_ipv6_header *h
 /* Stores the options of a TCP header and returns 1. `ptr` is its first byte and `len` its length: in a frame that
  * was read, `frame + f.transport_offset` and `f.tcp.header_len`. Returns 0 and stores nothing if an option
  * before the end mark is malformed, or the header is shorter than 20 bytes or than it says. Of each
- * kind the last option counts.
+ * kind the last option counts. An option is malformed if it passes the header, or has another length than these:
  *
- * An option is malformed if its length is below 2 or passes the header, or is wrong for the maximum segment size,
- * window scale, SACK permitted or SACK. Timestamps of another length than 10 are as options of other kinds. */
+ *   kind     option                 length                stored
+ *   0        end mark               1, without a length   nothing; what follows does not count
+ *   1        no operation           1, without a length   nothing
+ *   2        maximum segment size   4                     `max_seg_size`
+ *   3        window scale           3                     `window_scale`; 14 for numbers above 14
+ *   4        SACK permitted         2                     `sack_permitted`
+ *   5        SACK                   10, 18, 26 or 34      `sack_ranges`, those of this option only
+ *   8        timestamps             2 or more             `tsval` and `tsecr` if the length is 10, else nothing
+ *   others                          2 or more             nothing */
 int lk_read_tcp_options(const uint8_t *ptr, size_t len, struct lk_tcp_options *options);
 
 /* Parses an Ethernet frame as lk_read_frame does, with the same result, and stores the options of its TCP header in
@@ -618,8 +625,16 @@ ptrdiff_t lk_emit_udp(const struct lk_endpoint *src, const struct lk_endpoint *d
                       size_t len, int computed, uint8_t *out, size_t cap);
 
 /* Writes a TCP header with its options and the `len` bytes at `ptr`, together at most 65535. `ack_number` and
- * `urgent_at` are written whatever the flags are, and `window_scale` whatever it is. SACK ranges beside
- * `sack_permitted` are not written; zeros are written instead. */
+ * `urgent_at` are written whatever the flags are. The options are written in this order:
+ *
+ *   kind   bytes                        written
+ *   2      4                            if `has_max_seg_size` is not 0
+ *   3      3                            if `has_window_scale` is not 0; `window_scale` whatever it is
+ *   4      2                            if `sack_permitted` is not 0
+ *   5      2 + 8 * `sack_range_count`   if `sack_range_count` is not 0 and `sack_permitted` is 0, whatever the flags are
+ *   8      10                           if `has_timestamp` is not 0
+ *   0      the rest                     zeros up to a multiple of 4; beside `sack_permitted` the header is as long as
+ *                                       with the SACK ranges, which become zeros at its end */
 ptrdiff_t lk_emit_tcp(const struct lk_tcp *header, const struct lk_tcp_options *options,
                       const struct lk_endpoint *src, const struct lk_endpoint *dst, const uint8_t *ptr,
                       size_t len, int computed, uint8_t *out, size_t cap);

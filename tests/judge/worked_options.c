@@ -106,6 +106,65 @@ static void steps_through_options(void)
     }
 }
 
+/* The rows of the header's table: an option of each kind, with accepted and other lengths. */
+static void accepts_lengths(void)
+{
+    static const struct {
+        const char *options;
+        int is_accepted, has_timestamp;
+    } rows[] = {
+        {"02040218", 1, 0},
+        {"02020101", 0, 0},
+        {"0205021801010101", 0, 0},
+        {"03030701", 1, 0},
+        {"03020101", 0, 0},
+        {"03040701", 0, 0},
+        {"04020101", 1, 0},
+        {"04030101", 0, 0},
+        {"05020101", 0, 0},
+        {"050a00000001000000020101", 1, 0},
+        {"050c00000001000000020000", 0, 0},
+        {"05120000000100000002000000030000000401010000", 1, 0},
+        {"05220000000100000002000000030000000400000005000000060000000700000008010100000000", 1, 0},
+        {"08020101", 1, 0},
+        {"080a00000001000000020101", 1, 1},
+        {"080b00000001000000020001", 1, 0},
+        {"1e020101", 1, 0},
+        {"1e010101", 0, 0},
+        {"1e000101", 0, 0},
+        {"1e050101", 0, 0}, /* it passes the header */
+        {"0101011e", 0, 0},
+        {"0000021e", 1, 0},
+    };
+    for (size_t i = 0; i < sizeof rows / sizeof rows[0]; i++) {
+        struct octets header = header_with(rows[i].options);
+        struct lk_tcp_options found;
+        memset(&found, OLD, sizeof found);
+        CHECK_ROW(i, both_read_tcp_options(header.at, header.len, &found) == rows[i].is_accepted);
+        CHECK_ROW(i, !rows[i].is_accepted || found.has_timestamp == rows[i].has_timestamp);
+    }
+}
+
+/* The order of the options, and zeros instead of ranges beside SACK permitted. */
+static void writes_in_order(void)
+{
+    static const char permitted[] = "020405b40303c80402080a8182838491929394" "00000000000000000000000000",
+                      others[] = "020405b40303c8050a1020304050607080080a8182838491929394" "00";
+    struct lk_tcp_options options = each_option();
+    const struct lk_endpoint src = endpoint("192.0.2.1:1"), dst = endpoint("192.0.2.2:2");
+    const struct lk_tcp header = {0};
+    struct octets wanted = header_with(permitted);
+    options.window_scale = 200;
+    options.sack_range_count = 1;
+    options.sack_ranges[0] = ranges(1).sack_ranges[0];
+    wanted.at[1] = 1, wanted.at[3] = 2;
+    WRITES(wanted, both_emit_tcp(&header, &options, &src, &dst, 0, 0, 0, out, cap));
+    options.sack_permitted = 0;
+    wanted = header_with(others);
+    wanted.at[1] = 1, wanted.at[3] = 2;
+    WRITES(wanted, both_emit_tcp(&header, &options, &src, &dst, 0, 0, 0, out, cap));
+}
+
 /* A SYN of Linux, and frames without options or with a TCP header that is rejected. */
 static void reads_options_of_frames(void)
 {
@@ -138,6 +197,8 @@ static void reads_options_of_frames(void)
 void worked_options(void)
 {
     reads_all_options();
+    accepts_lengths();
+    writes_in_order();
     reads_options_of_frames();
     steps_through_options();
 }
