@@ -598,8 +598,14 @@ ptrdiff_t lk_tcp_header_len(const struct lk_tcp_options *options);
  * unless both are IPv4 addresses, and with LK_NO_ROOM. */
 ptrdiff_t lk_emit_arp_frame(const struct lk_frame *headers, uint8_t *out, size_t cap);
 
-/* The layers one by one. Each writes one header, or a header with its payload, at `out[0]`. A checksum is
- * computed unless `computed` is 0; then it is 0. The failures are those of lk_emit_.._frame. */
+/* The layers one by one. Each writes one header, or a header with its payload, at `out[0]`. The failures are those of
+ * lk_emit_.._frame. If `computed` is 0, the checksum is 0. Else it is the complement of the sum:
+ *
+ *   checksum    of                                                         if it is 0
+ *   IPv4        the header                                                 0
+ *   UDP         pseudo-header, header and payload                          0xffff (RFC 768)
+ *   TCP         pseudo-header, header and payload                          0
+ *   ICMP        header and payload, over IPv6 with the pseudo-header       0 */
 
 /* Writes an Ethernet header, 14 bytes. */
 ptrdiff_t lk_emit_ethernet(const struct lk_ethernet *header, uint8_t *out, size_t cap);
@@ -652,11 +658,15 @@ uint16_t lk_checksum(const uint8_t *ptr, size_t len);
 
 /* Return the checksum field after a part of what it covers changed from `before` to `after` (RFC 1624): a 16-bit
  * word at an even offset, as a port, or an address of the pseudo-header or of the IPv4 header, which counts as the sum
- * of its words. Call once for each changed part. For other parts there is lk_update_checksum_bytes.
+ * of its words (lk_checksum). Call once for each changed part. For other parts there is lk_update_checksum_bytes.
  *
- * UDP has calls of its own: a field of 0, which means that there is no checksum, stays 0, and a computed 0 becomes
- * 0xffff (RFC 768). The first two calls are for IPv4, TCP and ICMP. An ICMP message whose other bytes are all 0, an
- * echo reply over IPv4, verifies only with 0xffff: in ICMP write 0xffff instead of 0.
+ *   call               field    result: `sum` is ~checksum + ~before + after in one's complement (RFC 1624, equation 3)
+ *   of IPv4, TCP, ICMP any      ~sum: 0xffff only if its terms are 0; 0xffff becomes 0 if nothing changes
+ *   of UDP             0        0: there is no checksum
+ *   of UDP             others   ~sum, but 0xffff instead of 0 (RFC 768)
+ *
+ * An ICMP message whose other bytes are all 0, an echo reply over IPv4, verifies only with 0xffff: in ICMP write 0xffff
+ * instead of 0.
  *
  * A field of LK_LEFT_TO_DEVICE is the sum of the pseudo-header, and not its complement. After an address changed it is
  * `(uint16_t)~lk_update_checksum_addr((uint16_t)~field, &before, &after)`. Ports and payload are not in it. The calls

@@ -141,6 +141,9 @@ static void numbers(void)
     CHECK(both_update_checksum(0x8fe6, 0x3f11, 0x3e11) == 0x90e6);
     CHECK(both_update_udp_checksum(0xdd2f, 0x5555, 0x3285) == 0xffff &&
           both_update_udp_checksum(0, 0x5555, 0x3285) == 0);
+    /* the header's table, by RFC 1624, equation 3 */
+    CHECK(both_update_checksum(0xffff, 5, 5) == 0 && both_update_checksum(0, 7, 7) == 0);
+    CHECK(both_update_checksum(0xffff, 0xffff, 0) == 0xffff && both_update_udp_checksum(0xffff, 5, 5) == 0xffff);
     struct lk_addr inside = addr("192.0.2.1"), outside = addr("198.51.100.7"), old6 = addr("2001:db8::1"),
                    new6 = addr("fe80::ff");
     CHECK(both_update_checksum_addr(0xb1e6, &inside, &outside) == 0x49ad);
@@ -158,8 +161,25 @@ static void numbers(void)
     CHECK(both_compare_seq(0, 0x80000000) == -1 && both_compare_seq(0x80000000, 0) == -1);
 }
 
+/* A payload of the checksum makes the next one 0: RFC 768 for UDP, RFC 9293, section 3.1, for TCP. */
+static void computed_zeros(void)
+{
+    const struct lk_endpoint src = endpoint("192.0.2.1:7000"), dst = endpoint("192.0.2.2:7001");
+    const struct lk_tcp header = {0};
+    const struct lk_tcp_options options = {0};
+    uint8_t payload[2] = {0, 0};
+    CHECK(both_emit_udp(&src, &dst, payload, 2, 1, clear(), ROOM) == 10);
+    memcpy(payload, out + 6, 2);
+    CHECK(both_emit_udp(&src, &dst, payload, 2, 1, clear(), ROOM) == 10 && get_word(out + 6) == 0xffff);
+    memset(payload, 0, 2);
+    CHECK(both_emit_tcp(&header, &options, &src, &dst, payload, 2, 1, clear(), ROOM) == 22);
+    memcpy(payload, out + 16, 2);
+    CHECK(both_emit_tcp(&header, &options, &src, &dst, payload, 2, 1, clear(), ROOM) == 22 && get_word(out + 16) == 0);
+}
+
 void worked_values(void)
 {
+    computed_zeros();
     texts();
     rejected_texts();
     classes();
