@@ -134,8 +134,19 @@ struct lk_block {
  * stores nothing if the text does not parse.
  *
  * Hex digits may have either case. Leading zeros are accepted and are decimal. The scope of an IPv6
- * address (%eth0) is rejected. Dotted decimal is accepted only at the end of an IPv4-mapped address, as in
- * ::ffff:192.168.1.1 and 0:0:0:0:0:ffff:192.168.1.1. If such an address has a `::`, `ffff` must follow it directly.
+ * address (%eth0) is rejected. Dotted decimal is accepted only at the end of an IPv4-mapped address. If such an address
+ * has a `::`, `ffff` must follow it directly.
+ *
+ *   part of a text               accepted                                  rejected
+ *   number of dotted decimal     1 to 3 digits: 01.002.3.4                 0001.2.3.4, 256.1.1.1
+ *   group of IPv6                1 to 4 digits: 0001::                     00001::
+ *   `::` of IPv6                 one, of 1 to 8 groups: 1:2:3:4:5:6:7::    1:2:3:4::5:6:7:8, 1::2::3
+ *   dotted decimal in IPv6       ::ffff:1.2.3.4, 0::ffff:1.2.3.4,          ::0:ffff:1.2.3.4, ::0ffff:1.2.3.4, ::1.2.3.4,
+ *                                0:0:0:0:0:ffff:1.2.3.4                    64:ff9b::1.2.3.4, 1:2:3:4:5:6:1.2.3.4
+ *   prefix length                1 or 2 digits, of IPv6 1 to 3: ::/000     1.2.3.4/024, ::/0000, 1.2.3.4/33, 1.2.3.4/
+ *   port                         1 to 5 digits: 1.2.3.4:00080              1.2.3.4:000080, 1.2.3.4:65536, 1.2.3.4:
+ *   brackets                     an IPv6 address with a port: [::1]:80     [::1], [1.2.3.4]:80
+ *   group of Ethernet            1 or 2 digits: 1-2-3-4-5-6                001-2-3-4-5-6, 1:2-3:4:5:6
  *
  * lk_print_.. writes a text and returns its length, without a terminating null. It writes the null too if
  * `cap` is more than the length. A buffer of LK_.._TEXT bytes always has room for both. */

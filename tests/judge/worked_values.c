@@ -53,6 +53,62 @@ static void texts(void)
     CHECK(both_print_ethernet(octets, text, 17) == 17 && memcmp(text, "ab-cd-ef-00-00-01", 17) == 0);
 }
 
+/* The texts of the header's table, and the calls that parse them: addresses, endpoints, blocks and Ethernet addresses. */
+static void table_of_texts(void)
+{
+    static const struct {
+        const char *text;
+        int is_addr, is_endpoint, is_block, is_ethernet;
+    } rows[] = {
+        {"01.002.3.4", 1, 1, 0, 0},
+        {"0001.2.3.4", 0, 0, 0, 0},
+        {"256.1.1.1", 0, 0, 0, 0},
+        {"0001::", 1, 1, 0, 0},
+        {"00001::", 0, 0, 0, 0},
+        {"1:2:3:4:5:6:7::", 1, 1, 0, 0},
+        {"::2:3:4:5:6:7:8", 1, 1, 0, 0},
+        {"1:2:3:4::5:6:7:8", 0, 0, 0, 0},
+        {"1::2::3", 0, 0, 0, 0},
+        {"::ffff:1.2.3.4", 1, 1, 0, 0},
+        {"0::ffff:1.2.3.4", 1, 1, 0, 0},
+        {"0:0:0:0:0:ffff:1.2.3.4", 1, 1, 0, 0},
+        {"::0:ffff:1.2.3.4", 0, 0, 0, 0},
+        {"::1.2.3.4", 0, 0, 0, 0},
+        {"64:ff9b::1.2.3.4", 0, 0, 0, 0},
+        {"::0ffff:1.2.3.4", 0, 0, 0, 0},
+        {"1:2:3:4:5:6:1.2.3.4", 0, 0, 0, 0},
+        {"fe80::1%eth0", 0, 0, 0, 0},
+        {"1.2.3.4/00", 0, 0, 1, 0},
+        {"::/000", 0, 0, 1, 0},
+        {"1.2.3.4/024", 0, 0, 0, 0},
+        {"::/0000", 0, 0, 0, 0},
+        {"1.2.3.4/33", 0, 0, 0, 0},
+        {"1.2.3.4/", 0, 0, 0, 0},
+        {"1.2.3.4:00080", 0, 1, 0, 0},
+        {"1.2.3.4:000080", 0, 0, 0, 0},
+        {"1.2.3.4:65536", 0, 0, 0, 0},
+        {"1.2.3.4:", 0, 0, 0, 0},
+        {"[::1]:80", 0, 1, 0, 0},
+        {"[::1]", 0, 0, 0, 0},
+        {"[1.2.3.4]:80", 0, 0, 0, 0},
+        {"1-2-3-4-5-6", 0, 0, 0, 1},
+        {"001-2-3-4-5-6", 0, 0, 0, 0},
+        {"1:2-3:4:5:6", 0, 0, 0, 0},
+    };
+    struct lk_addr a;
+    struct lk_endpoint e;
+    struct lk_block b;
+    uint8_t octets[6];
+    for (size_t i = 0; i < sizeof rows / sizeof rows[0]; i++) {
+        const char *text = rows[i].text;
+        size_t len = strlen(text);
+        CHECK_ROW(i, both_parse_addr(text, len, &a) == rows[i].is_addr);
+        CHECK_ROW(i, both_parse_endpoint(text, len, &e) == rows[i].is_endpoint);
+        CHECK_ROW(i, both_parse_block(text, len, &b) == rows[i].is_block);
+        CHECK_ROW(i, both_parse_ethernet(text, len, octets) == rows[i].is_ethernet);
+    }
+}
+
 /* Texts that no call parses: too large a number, white space, a missing part, a scope, wrong brackets, no text. */
 static const struct {
     const char *text;
@@ -181,6 +237,7 @@ void worked_values(void)
 {
     computed_zeros();
     texts();
+    table_of_texts();
     rejected_texts();
     classes();
     replaced_bytes();
