@@ -804,8 +804,9 @@ ptrdiff_t lk_emit_mld_report(const struct lk_frame *headers, uint8_t *out, size_
  * 0 to 65535: report the group after a random part of it (RFC 2710, section 4). Returns -1 if the frame is no valid query
  * (section 5) of version 1 or 2 for all groups or for this one:
  *
- * - The IPv6 source must be a link-local address.
- * - The ICMPv6 message may follow extension headers. It must have 24 bytes or more, and a valid checksum.
+ * - The IPv6 source must be a link-local address, in fe80::/10, and the hop limit 1 (RFC 3810, section 6.2).
+ * - The ICMPv6 message may follow extension headers. The router alert option is not required.
+ * - The message must have 24 bytes, or 28 or more (RFC 3810, section 8.1), and a valid checksum.
  * - A delay of version 2 above 32767 has an exponent (RFC 3810, section 5.1.3). It is returned as in version 1, which is
  *   not longer. */
 int lk_read_mld_query(const uint8_t *frame, size_t len, const struct lk_addr *group);

@@ -35,22 +35,22 @@ static size_t put_query(const struct lk_addr *group, uint8_t *out)
     struct lk_ip ip = {0};
     struct lk_icmp icmp = {(uint32_t)any(), (uint8_t)(one_in(12) ? 128 + below(4) : 130), (uint8_t)below(2)};
     uint8_t options[32], body[64], next_header;
-    const size_t options_len = put_extension(options, &next_header), len = one_in(6) ? below(20) : 16 + 4 * below(6);
+    const size_t options_len = put_extension(options, &next_header), len = one_in(4) ? below(22) : 16 + 4 * below(6);
     const int from_link = !one_in(6), asks_all = one_in(2);
     size_t at = 14;
     fill(&link, sizeof link);
     fill(body, sizeof body);
     if (from_link)
         memcpy(src.octets, "\xfe\x80\0\0\0\0\0", 8);
-    if (one_in(16))
-        src.octets[below(8)] ^= 1;
+    if (one_in(8))
+        src.octets[below(3)] ^= (uint8_t)(1u << below(8));
     if (asks_all)
         memset(body, 0, 16);
     else
         memcpy(body, group->octets, 16);
     if (one_in(8))
         body[below(16)] ^= (uint8_t)(1u << below(8));
-    ip.hop_limit = (uint8_t)(1 + below(2));
+    ip.hop_limit = one_in(8) ? (uint8_t)below(3) : 1;
     put_ethernet(&link, one_in(24) ? 0x0800 : 0x86dd, out);
     at += put_ip(&ip, &src, &dst, next_header, options_len + 8 + len, 1, out + at);
     memcpy(out + at, options, options_len);

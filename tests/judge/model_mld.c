@@ -1,4 +1,4 @@
-/* The model of multicast listener discovery (RFC 2710). */
+/* The model of multicast listener discovery (RFC 2710; of queries RFC 3810, sections 6.2 and 8.1). */
 #include <string.h>
 #include "model.h"
 
@@ -31,11 +31,15 @@ int model_read_mld_query(const uint8_t *octets, size_t len, const struct lk_addr
     static const uint8_t all_groups[16];
     struct lk_frame frame;
     const uint8_t *message;
+    size_t message_len;
     model_read_frame(octets, len, &frame);
     if (group->version != 6 || frame.network != LK_IPV6 || frame.transport != LK_ICMP || frame.icmp.type != 130 ||
-        frame.transport_checksum != LK_RIGHT || !is_in(&frame.src.addr, "fe80::/64") || frame.payload_len < 16)
+        frame.transport_checksum != LK_RIGHT || !is_in(&frame.src.addr, "fe80::/10") || frame.ip.hop_limit != 1)
         return -1;
     message = octets + frame.transport_offset;
+    message_len = 8 + frame.payload_len;
+    if (message_len != 24 && message_len < 28)
+        return -1;
     if (memcmp(message + 8, all_groups, 16) != 0 && memcmp(message + 8, group->octets, 16) != 0)
         return -1;
     return (int)get_word(message + 4);

@@ -2,7 +2,6 @@
 use Rattle.std.proofs.Common.{ℕ, ◌≡◌, ◌∙◌, ◌↔◌, Bor, List, Option, Some, None, ap, drop, length, refl, subst, subst₂, sym}
 use Rattle.std.proofs.lemmas.Option.{same_Some}
 use Rattle.ip_wire.specs.Block.{IsIn}
-use Rattle.ip_wire.specs.Class.{ipv6_link_local}
 use Rattle.ip_wire.specs.Protocol.{number_of}
 use Rattle.ip_wire.specs.Frame.{ReadsFrame, Transport, all_checked, datagram, other, packet, segment}
 use Rattle.ip_wire.specs.FrameValue.{transport_of}
@@ -12,14 +11,15 @@ use Rattle.ip_wire.specs.declared.Transport as transport
 use Rattle.ip_wire.specs.declared.Transport.TheVariants.{Udp, Tcp, Other, Unread}
 use Rattle.wire_extensions.specs.Chain.{chain_of}
 use Rattle.wire_extensions.specs.declared.chain.Chain.{Chain}
-use Rattle.app_mld.specs.Mld.{CarriesQuery, Delays, IsQuery, IsQueryMessage}
+use Rattle.app_mld.specs.Mld.{CarriesQuery, Delays, IsQuery, IsQueryMessage, link_local_prefix}
 
 -- the message that the extension headers lead to
 pub carried : (ip : Ipv6Repr) (group payload : List ℕ) (c : Chain) (result : Option ℕ) → c ≡ chain_of (number_of ip.next_header) (length payload) payload
-    → IsIn ipv6_link_local ip.src_addr → c.protocol ≡ 58 → Delays (IsQueryMessage ip group (drop c.len payload)) result → Delays (CarriesQuery ip group payload) result
+    → (ip.hop_limit ≡ 1) × IsIn link_local_prefix ip.src_addr → c.protocol ≡ 58 → Delays (IsQueryMessage ip group (drop c.len payload)) result → Delays (CarriesQuery ip group payload) result
 carried ip group payload c None is link icmp none = λ d k. none d (subst (λ (m : Chain). IsQueryMessage ip group (drop m.len payload) d) (sym is) k.message)
 carried ip group payload c (Some d) is link icmp asks = record {
-  from_link = link;
+  hop_limit = link.0;
+  from_link = link.1;
   protocol = ap (λ (m : Chain). m.protocol) (sym is) ∙ icmp;
   message = subst (λ (m : Chain). IsQueryMessage ip group (drop m.len payload) d) is asks;
 }

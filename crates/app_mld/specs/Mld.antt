@@ -1,8 +1,8 @@
 -- Multicast listener discovery, version 1 (RFC 2710): the report of a group, and the queries that ask for it.
 -- Pinned by: `worked/mld`, `judge`
 use Rattle.std.specs.Prelude.{ℕ, ◌≡◌, ◌≤◌, ◌⊎◌, ◌++◌, List, [], ◌∷◌, MatchOption, Option, drop, length, slice_range, true}
-use Rattle.ip_wire.specs.Block.{IsIn}
-use Rattle.ip_wire.specs.Class.{ipv6_link_local, ipv6_unspecified}
+use Rattle.ip_wire.specs.Block.{Block, IsIn}
+use Rattle.ip_wire.specs.Class.{ipv6_block, ipv6_unspecified}
 use Rattle.ip_wire.specs.Ethernet as ethernet
 use Rattle.ip_wire.specs.Field.{field}
 use Rattle.ip_wire.specs.Frame.{Carried, IsReadWhole, other, packet}
@@ -51,20 +51,26 @@ report_bytes hardware src group =
 
 -- ---- queries
 
+-- the prefix of the link-local addresses, fe80::/10 (RFC 4291, section 2.4)
+abbrev pub link_local_prefix : Block
+link_local_prefix = ipv6_block (0xfe80 ∷ 0 ∷ 0 ∷ 0 ∷ 0 ∷ 0 ∷ 0 ∷ 0 ∷ []) 10
+
 -- The message is a valid query that asks for the group, or for all groups, in a packet with this header (RFC 2710,
--- sections 3 and 5). The delay is in milliseconds. The code and the bytes after the first 24 are ignored: a query of
--- version 2 begins as one of version 1 (RFC 3810, section 5.1).
+-- sections 3 and 5). It has 24 bytes in version 1, and at least 28 in version 2 (RFC 3810, section 8.1). The delay is in
+-- milliseconds. The code and the bytes after the first 24 are ignored: a query of version 2 begins as one of version 1
+-- (RFC 3810, section 5.1).
 pub record IsQueryMessage (ip : Ipv6Repr) (group message : List ℕ) (delay : ℕ) : Type 0 where
-  pub least : 24 ≤ length message
+  pub len : (length message ≡ 24) ⊎ (28 ≤ length message)
   pub type : msg_type_of message ≡ 130
   pub checksum : Verifies (address.Ipv6 ip.src_addr) (address.Ipv6 ip.dst_addr) message
   pub asks : (slice_range message 8 24 ≡ ipv6_unspecified) ⊎ (slice_range message 8 24 ≡ group)
   pub value : delay ≡ field message 32 16
 
--- the payload of a packet with this header is a query: its source is a link-local address, and whole extension headers
--- lead to the message
+-- the payload of a packet with this header is a query: its hop limit is 1 (RFC 2710, section 3; RFC 3810, section 6.2), its
+-- source is a link-local address, and whole extension headers lead to the message
 pub record CarriesQuery (ip : Ipv6Repr) (group payload : List ℕ) (delay : ℕ) : Type 0 where
-  pub from_link : IsIn ipv6_link_local ip.src_addr
+  pub hop_limit : ip.hop_limit ≡ 1
+  pub from_link : IsIn link_local_prefix ip.src_addr
   pub protocol : (chain_of (number_of ip.next_header) (length payload) payload).protocol ≡ 58
   pub message : IsQueryMessage ip group (drop (chain_of (number_of ip.next_header) (length payload) payload).len payload) delay
 
