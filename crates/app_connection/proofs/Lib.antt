@@ -2,3 +2,8 @@ pub mod Agreement
 pub mod Going
 pub mod Quiet
 pub mod Telling
+pub mod Phases
+pub mod Stepping
+pub mod Moving
+pub mod Pair
+pub mod Delivery

@@ -1,13 +1,15 @@
 -- The events of a connection.
 -- Pinned by: `connection/figures`
-use Rattle.std.specs.Prelude.{ℕ, ◌≡◌, ◌⊎◌, ◌<◌, length, Bool, false, not, if◌then◌else◌}
+use Rattle.std.specs.Prelude.{ℕ, ◌≡◌, ◌⊎◌, ◌+◌, ◌<◌, List, length, Bool, true, false, not, if◌then◌else◌, IfSome}
+use Rattle.tcp_model.specs.Endpoint.{distance}
 use Rattle.tcp_model.specs.Network.{World, Close, happens}
 use Rattle.app_tcp.specs.Waits.{from_of}
 use Rattle.app_tcp.specs.declared.sending.Sending.{Sending}
-use Rattle.app_connection.specs.Endpoints.{control_of, has_items, is_bare, answers_bare}
+use Rattle.app_connection.specs.Endpoints.{TakesAck, control_of, has_items, is_bare, is_of_unsent, len_of, next_of, answers_bare}
 use Rattle.app_connection.specs.declared.connection.Connection.{Connection}
 use Rattle.app_connection.specs.SetUp.{Endpoint, In_closed, In_listen, In_syn_sent, hears}
-use Rattle.app_connection.specs.Worlds.{Arrives}
+use Rattle.app_connection.specs.Worlds.{Arrives, HearsAck}
+use Rattle.app_connection.specs.Sequence.{is_of_sent, is_taken_at}
 use Rattle.app_connection.specs.declared.step.Event.{Event}
 use Rattle.app_connection.specs.declared.step.Event.TheVariants as event
 
@@ -20,10 +22,10 @@ IsShort (event.Send offset count) = Unit {0}
 IsShort event.Close = Unit {0}
 IsShort event.Abort = Unit {0}
 
--- Events that go on with these histories: a segment is one of them. An active open begins others.
+-- events that go on with these histories: a segment is one of them
 abbrev pub ComesBy : Event → World → World → Type 0
 ComesBy event.Listen there back = Unit {0}
-ComesBy (event.Open iss) there back = ⊥
+ComesBy (event.Open iss) there back = Unit {0}
 ComesBy (event.Arrives segment iss) there back = Arrives there back segment.now
 ComesBy (event.Send offset count) there back = Unit {0}
 ComesBy event.Close there back = Unit {0}
@@ -100,3 +102,35 @@ is_answered (event.Arrives segment iss) c window = answers_bare c window segment
 is_answered (event.Send offset count) c window = false
 is_answered event.Close c window = false
 is_answered event.Abort c window = false
+
+-- The acknowledgement of a segment is taken (section 3.10.7.4): the segment is in the window, and acknowledges nothing that was
+-- not sent.
+abbrev pub TakesBy : Event → Connection → ℕ → Connection → Type 0
+TakesBy event.Listen old window new = Unit {0}
+TakesBy (event.Open iss) old window new = Unit {0}
+TakesBy (event.Arrives segment iss) old window new =
+    segment.now.rst ≡ false → segment.now.syn ≡ false → is_taken_at old.receiving.next window segment.now.number (len_of segment.now) ≡ true → is_of_unsent old segment.now.ack ≡ false
+    → IfSome segment.now.ack (λ ack. TakesAck old new segment.now.number segment.now.window ack)
+TakesBy (event.Send offset count) old window new = Unit {0}
+TakesBy event.Close old window new = Unit {0}
+TakesBy event.Abort old window new = Unit {0}
+
+-- The acknowledgement of a segment moves SND.UNA only: SND.NXT stays.
+abbrev pub KeepsNext : Event → Sending → Sending → Type 0
+KeepsNext event.Listen old new = Unit {0}
+KeepsNext (event.Open iss) old new = Unit {0}
+KeepsNext (event.Arrives segment iss) old new = new.flight + distance new.una old.una ≡ old.flight
+KeepsNext (event.Send offset count) old new = Unit {0}
+KeepsNext event.Close old new = new.flight ≡ old.flight
+KeepsNext event.Abort old new = Unit {0}
+
+-- The same in the histories.
+abbrev pub HearsBy : Event → Connection → ℕ → Connection → List ℕ → Type 0
+HearsBy event.Listen old window new outgoing = Unit {0}
+HearsBy (event.Open iss) old window new outgoing = Unit {0}
+HearsBy (event.Arrives segment iss) old window new outgoing =
+    segment.now.rst ≡ false → segment.now.syn ≡ false → is_taken_at old.receiving.next window segment.now.number (len_of segment.now) ≡ true → is_of_unsent old segment.now.ack ≡ false
+    → IfSome segment.now.ack (λ ack. is_of_sent old.sending.una (next_of old) ack ≡ true → HearsAck old.sending new.sending outgoing ack)
+HearsBy (event.Send offset count) old window new outgoing = Unit {0}
+HearsBy event.Close old window new outgoing = Unit {0}
+HearsBy event.Abort old window new outgoing = Unit {0}

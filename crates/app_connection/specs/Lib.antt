@@ -5,3 +5,5 @@ pub mod States
 pub mod Worlds
 pub mod Events
 pub mod Fields
+pub mod Steps
+pub mod Runs

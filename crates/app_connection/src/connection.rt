@@ -1,15 +1,18 @@
 //! The connection, and the calls of its application (RFC 9293, sections 3.10.1 to 3.10.5).
 
-ghost use Rattle.std.specs.Prelude.{◌≡◌, nat_lt, ◌+◌, ◌%◌, ◌≤◌, ◌<◌, ◌++◌, ◌⊎◌, ℕ, List, [], length, true, false, IfSome, Some, None, max, take};
-ghost use Rattle.tcp_model.specs.Network.{World, Event, Close, Write, Send, happens, run, start, IsPrefixOf};
+ghost use Rattle.std.specs.Prelude.{◌≡◌, ◌==◌, ◌&&◌, ◌∷◌, nat_lt, ◌+◌, ◌%◌, ◌≤◌, ◌<◌, ◌++◌, ◌⊎◌, ℕ, List, [], length, true, false, IfSome, Some, None, max, take, option_map, MatchOption};
+ghost use Rattle.tcp_model.specs.Endpoint.{Syn};
+ghost use Rattle.tcp_model.specs.Network.{World, Event, Close, happens, run, start, IsPrefixOf, Send};
 ghost use Rattle.app_tcp.specs.Stands.{Stands, reach, room_of, IsAnswer};
-ghost use Rattle.app_tcp.specs.Waits.{Waits, IsSend, from_of, unsent_of};
+ghost use Rattle.app_tcp.specs.Waits.{Waits, IsSend, from_of, unsent_of, count_of};
 ghost use Rattle.app_tcp.specs.Items.{items_of};
-ghost use Rattle.app_connection.specs.declared.state.Phase.TheVariants.{Open};
+ghost use Rattle.app_connection.specs.declared.state.Phase.TheVariants.{Closed, SynSent, Open, SynReceived};
 ghost use Rattle.app_connection.specs.SetUp.{In_closed, In_listen, In_syn_sent};
-ghost use Rattle.app_connection.specs.Endpoints.{endpoint_of, len_of, OutFits, InFits, IsLegal, acknowledgement_of, edge_of};
+ghost use Rattle.app_connection.specs.Endpoints.{endpoint_of, len_of, spoken, OutFits, InFits, IsLegal, acknowledgement_of, edge_of};
+ghost use Rattle.app_connection.specs.Sequence.{after};
 ghost use Rattle.app_connection.specs.States.{state_from, state_closed, may_close, has_peer};
-ghost use Rattle.app_connection.specs.Worlds.{Stand, TellsState, WaitsLater};
+ghost use Rattle.app_connection.specs.Steps.{IsFresh, Reads, Writes, first};
+ghost use Rattle.app_connection.specs.Worlds.{Goes, IsOut, Stand, TellsState, replied, said};
 
 use crate::segment::{Reply, Segment};
 use crate::state::{Phase, State, state_of};
@@ -40,6 +43,7 @@ impl Connection {
         ensures endpoint { endpoint_of result ≡ In_closed }
         ensures out { (size : ℕ) → 0 < size → size < 1073741824 → OutFits result.sending size }
         ensures rings { (size : ℕ) → 0 < size → size < 1073741824 → InFits result.receiving size }
+        ensures stands { (buffer : List ℕ) → Stands (start 0) [] result.receiving buffer }
     {
         Connection {
             phase: Phase::Closed,
@@ -148,8 +152,7 @@ impl Connection {
         ensures syn { has_peer (state_from self.old) ≡ false → result ≡ Some (record { number = iss; ack = None; syn = true; rst = false }) }
         ensures out { has_peer (state_from self.old) ≡ false → OutFits self.new.sending (length outgoing.now) }
         ensures rings { has_peer (state_from self.old) ≡ false → (size : ℕ) → 0 < size → size < 1073741824 → InFits self.new.receiving size }
-        ensures waits { has_peer (state_from self.old) ≡ false → Waits (happens (start iss) (Send 0 1)) self.new.sending outgoing.now }
-        ensures stands { has_peer (state_from self.old) ≡ false → (initial : ℕ) (buffer : List ℕ) → Stands (start initial) [] self.new.receiving buffer }
+        ensures begins { has_peer (state_from self.old) ≡ false → (back : World) (buffer : List ℕ) → IsFresh back → Goes (first iss) back [] self.new outgoing.now buffer (option_map replied result) }
         ensures stays { has_peer (state_from self.old) ≡ true → self.new ≡ self.old }
         ensures none { has_peer (state_from self.old) ≡ true → result ≡ None }
     {
@@ -176,9 +179,9 @@ impl Connection {
         ensures out { OutFits self.new.sending (length outgoing.old) }
         ensures receiving { self.new.receiving ≡ self.old.receiving }
         ensures endpoint { endpoint_of self.new ≡ endpoint_of self.old }
-        ensures waits { has_peer (state_from self.old) ≡ true → (w : World) → Waits w self.old.sending outgoing.old → Waits (happens w (Write (take result bytes.now))) self.new.sending outgoing.new }
+        ensures writes { Writes self.old self.new outgoing.old outgoing.new (take result bytes.now) }
         ensures none { has_peer (state_from self.old) ≡ false → result ≡ 0 }
-        ensures stays { has_peer (state_from self.old) ≡ false → outgoing.new ≡ outgoing.old }
+        ensures flight { self.new.sending.flight ≡ self.old.sending.flight }
     {
         match self.state() {
             State::Closed | State::Listen => 0,
@@ -195,7 +198,7 @@ impl Connection {
         ensures endpoint { endpoint_of self.new ≡ endpoint_of self.old }
         ensures few { length result.now ≤ count }
         ensures edge { self.old.receiving.has_fin ≡ false → edge_of self.new.receiving (length incoming.now) ≡ (edge_of self.old.receiving (length incoming.now) + length result.now) % 4294967296 }
-        ensures stands { (back : World) (consumed : List ℕ) → Stands back consumed self.old.receiving incoming.now → Stands back (consumed ++ result.now) self.new.receiving incoming.now }
+        ensures reads { Reads self.old self.new incoming.now result.now }
         ensures delivers { (initial : ℕ) (events : List Event) (consumed : List ℕ) → let back : World = run events (start initial) in Stands back consumed self.old.receiving incoming.now → IsPrefixOf (consumed ++ result.now) back.written }
     {
         let count = self.readable(count);
@@ -215,7 +218,8 @@ impl Connection {
 
     /// Whether the application has read all that the peer wrote, and the peer has closed.
     pub fn is_ended(&self) -> bool
-        ensures { (initial : ℕ) (events : List Event) (consumed buffer : List ℕ) → result ≡ true → let back : World = run events (start initial) in Stands back consumed self.now.receiving buffer → (back.closed ≡ true) × (consumed ≡ back.written) }
+        ensures value { result ≡ (self.now.receiving.has_fin && self.now.receiving.len == 0) }
+        ensures whole { (initial : ℕ) (events : List Event) (consumed buffer : List ℕ) → result ≡ true → let back : World = run events (start initial) in Stands back consumed self.now.receiving buffer → (back.closed ≡ true) × (consumed ≡ back.written) }
     {
         self.receiving.is_ended()
     }
@@ -227,6 +231,9 @@ impl Connection {
         ensures out { (size : ℕ) → OutFits self.old.sending size → OutFits self.new.sending size }
         ensures state { state_from self.new ≡ state_closed (state_from self.old) }
         ensures moves { (endpoint_of self.new ≡ endpoint_of self.old) ⊎ (endpoint_of self.new ≡ In_closed) }
+        ensures same { self.new ≡ record self.old { phase = self.new.phase; sending = self.new.sending; is_peer_first = self.new.is_peer_first } }
+        ensures phase { (self.new.phase ≡ Closed → ⊥) → (self.new.phase ≡ self.old.phase) × (self.new.phase ≡ SynSent → ⊥) }
+        ensures flight { self.new.sending.flight ≡ self.old.sending.flight }
         ensures waits { may_close (state_from self.old) ≡ true → (there : World) (outgoing : List ℕ) → Waits there self.old.sending outgoing → Waits (happens there Close) self.new.sending outgoing }
         ensures stays { may_close (state_from self.old) ≡ false → self.new.sending ≡ self.old.sending }
     {
@@ -279,8 +286,20 @@ impl Connection {
         ensures text { (self.old.phase ≡ Open → ⊥) → IfSome result (λ s. (s.payload.now ≡ []) × (s.fin ≡ false)) }
         ensures after { self.old.phase ≡ Open → self.old.sending.flight < offset → (result ≡ None) × (self.new ≡ self.old) }
         ensures sends { self.old.phase ≡ Open → IfSome result (λ s. (there : World) → Waits there self.old.sending outgoing.now → IsSend there (from_of self.old.sending offset) s.number (items_of s.syn s.payload.now s.fin)) }
-        ensures waits { (there : World) → Waits there self.old.sending outgoing.now → WaitsLater there self.new.sending outgoing.now }
+        ensures alone { has_peer (state_from self.old) ≡ false → (result ≡ None) × (self.new ≡ self.old) }
+        ensures goes { (there back : World) (consumed buffer : List ℕ) → Stand there back consumed self.old outgoing.now buffer → Goes there back consumed self.new outgoing.now buffer (option_map said result) }
         ensures answers { self.old.phase ≡ Open → IfSome result (λ s. (back : World) (consumed buffer : List ℕ) → Stands back consumed self.old.receiving buffer → IfSome s.ack (λ number. IsAnswer back number)) }
+        ensures same { self.new ≡ record self.old { sending = record self.old.sending { flight = self.new.sending.flight } } }
+        ensures syn { self.old.phase ≡ SynSent → spoken result ≡ Some (record { number = self.old.iss; ack = None; syn = true; rst = false }) }
+        ensures syn_ack { self.old.phase ≡ SynReceived → spoken result ≡ Some (record { number = self.old.iss; ack = Some (after self.old.irs); syn = true; rst = false }) }
+        ensures some { self.old.phase ≡ Open → has_peer (state_from self.old) ≡ true → 0 < count → offset ≤ self.old.sending.flight → offset < count_of self.old.sending → MatchOption result ⊥ (λ s. 0 < len_of s) }
+        ensures at_una { self.old.phase ≡ Open → offset ≡ 0 → IfSome result (λ s. s.number ≡ self.old.sending.una) }
+        ensures sent { self.old.phase ≡ Open → IfSome result (λ s. (there : World) → Waits there self.old.sending outgoing.now → Waits (happens there (Send (from_of self.old.sending offset) (length (items_of s.syn s.payload.now s.fin)))) self.new.sending outgoing.now) }
+        ensures none { result ≡ None → self.new ≡ self.old }
+        ensures nothing { self.old.phase ≡ Open → count_of self.old.sending ≡ 0 → result ≡ None }
+        ensures items { self.old.phase ≡ Open → IfSome result (λ s. 0 < len_of s) }
+        ensures inner { self.old.phase ≡ Open → IfSome result (λ s. length s.payload.now ≤ length outgoing.now) }
+        ensures flight { self.old.phase ≡ Open → IfSome result (λ s. self.new.sending.flight ≡ max self.old.sending.flight (from_of self.old.sending offset + length (items_of s.syn s.payload.now s.fin))) }
         ensures reach { self.old.phase ≡ Open → IfSome result (λ s. (s.number ≡ (self.old.sending.una + from_of self.old.sending offset) % 4294967296) × (len_of s ≤ max 1 count)) }
     {
         match self.state() {
@@ -334,8 +353,16 @@ impl Connection {
         ensures receiving { self.new.receiving ≡ self.old.receiving }
         ensures endpoint { endpoint_of self.new ≡ endpoint_of self.old }
         ensures sends { IfSome result (λ s. (there : World) → Waits there self.old.sending outgoing.now → IsSend there (from_of self.old.sending offset) s.number (items_of s.syn s.payload.now s.fin)) }
-        ensures waits { (there : World) → Waits there self.old.sending outgoing.now → WaitsLater there self.new.sending outgoing.now }
+        ensures goes { self.old.phase ≡ Open → (there back : World) (consumed buffer : List ℕ) → Stand there back consumed self.old outgoing.now buffer → Goes there back consumed self.new outgoing.now buffer (option_map said result) }
         ensures answers { IfSome result (λ s. (back : World) (consumed buffer : List ℕ) → Stands back consumed self.old.receiving buffer → IfSome s.ack (λ number. IsAnswer back number)) }
+        ensures same { self.new ≡ record self.old { sending = record self.old.sending { flight = self.new.sending.flight } } }
+        ensures some { 0 < count → offset < count_of self.old.sending → MatchOption result ⊥ (λ s. 0 < len_of s) }
+        ensures at_una { offset ≡ 0 → IfSome result (λ s. s.number ≡ self.old.sending.una) }
+        ensures sent { IfSome result (λ s. (there : World) → Waits there self.old.sending outgoing.now → Waits (happens there (Send (from_of self.old.sending offset) (length (items_of s.syn s.payload.now s.fin)))) self.new.sending outgoing.now) }
+        ensures none { result ≡ None → self.new ≡ self.old }
+        ensures items { IfSome result (λ s. 0 < len_of s) }
+        ensures inner { IfSome result (λ s. length s.payload.now ≤ length outgoing.now) }
+        ensures flight { IfSome result (λ s. self.new.sending.flight ≡ max self.old.sending.flight (from_of self.old.sending offset + length (items_of s.syn s.payload.now s.fin))) }
         ensures reach { IfSome result (λ s. (s.number ≡ (self.old.sending.una + from_of self.old.sending offset) % 4294967296) × (len_of s ≤ max 1 count)) }
     {
         let part = self.sending.segment(outgoing, offset, count);
@@ -402,8 +429,10 @@ impl Connection {
         ensures iss { self.new.iss ≡ iss }
         ensures out { OutFits self.new.sending (length outgoing.now) }
         ensures rings { (size : ℕ) → 0 < size → size < 1073741824 → InFits self.new.receiving size }
-        ensures waits { Waits (happens (start iss) (Send 0 1)) self.new.sending outgoing.now }
-        ensures stands { (initial : ℕ) (buffer : List ℕ) → Stands (start initial) [] self.new.receiving buffer }
+        ensures waits { Waits (first iss) self.new.sending outgoing.now }
+        ensures sent { IsOut (first iss) iss (Syn ∷ []) }
+        ensures begins { (back : World) (buffer : List ℕ) → IsFresh back → Stands back [] self.new.receiving buffer }
+        ensures shut { self.new.receiving.is_open ≡ false }
     {
         self.iss = iss;
         self.is_peer_first = false;

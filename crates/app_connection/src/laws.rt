@@ -1,17 +1,20 @@
 //! Laws of the set-up, and of acknowledgements.
 
-ghost use Rattle.std.specs.Prelude.{◌≡◌, ◌+◌, ◌<◌, ◌≤◌, ℕ, List, length, true, IfSome, None};
+ghost use Rattle.std.specs.Prelude.{◌≡◌, ◌+◌, ◌<◌, ◌≤◌, ℕ, List, [], length, Bool, true, false, IfSome, None, option_map};
 ghost use Rattle.tcp_model.specs.Network.{World, Event, run};
 ghost use Rattle.app_tcp.specs.Stands.{room_of};
 ghost use Rattle.app_connection.specs.declared.state.Phase.TheVariants.{Open};
 ghost use Rattle.app_connection.specs.Endpoints.{OutFits, InFits, TakesAck, acknowledgement_of};
+ghost use Rattle.app_connection.specs.Events.{IsShort};
+ghost use Rattle.app_connection.specs.Runs.{BothRead, Calls, End, Ends, IsNew, MayCome, OpensOnce, Runs, Sent, stepped};
 ghost use Rattle.app_connection.specs.SetUp.{Turn, BothAgree, run_ends, both_idle, In_established, three_ways};
 ghost use Rattle.app_connection.specs.States.{state_from};
-ghost use Rattle.app_connection.specs.Worlds.{Stand, ComesNext};
+ghost use Rattle.app_connection.specs.Worlds.{Stand, ComesNext, said};
 
 use crate::connection::Connection;
 use crate::segment::{Reply, Segment};
 use crate::state::State;
+use crate::step;
 
 /// Whatever the network loses, repeats or reorders, and whatever segments of other connections come: an endpoint that is
 /// established has the number of its peer, and the peer was in an attempt with both numbers.
@@ -23,6 +26,14 @@ pub fn both_agree()
 pub fn both_are_established()
     ensures here { (run_ends three_ways both_idle).here.me ≡ In_established 100 300 }
     ensures there { (run_ends three_ways both_idle).there.me ≡ In_established 300 100 }
+{}
+
+/// What one program reads from a connection is a prefix of what the other one wrote, and all of it once `is_ended` returns true.
+/// This holds for all calls of both programs in any order, over a network that loses, repeats, reorders and delays segments. Each
+/// end opens once. Each segment that comes was returned by a call of the other end, and since then each program wrote less than
+/// 2^30 - 1 bytes.
+pub fn two_connections_deliver()
+    ensures { (p : Ends) → Runs p → BothRead p }
 {}
 
 /// The peer does not answer an acknowledgement, unless it has by then received something that was sent after it. So
@@ -54,4 +65,28 @@ pub fn an_acknowledgement_ends(
         payload: &outgoing[..0],
     };
     receiver.on_segment(outgoing, incoming, &segment, fresh)
+}
+
+/// A new connection is an end before its first call.
+pub fn a_new_connection_is_new(outgoing: &[u8], incoming: &[u8]) -> Connection
+    requires some { 0 < length outgoing.now }
+    requires small { length outgoing.now < 1073741824 }
+    ensures { IsNew (record { connection = result; outgoing = outgoing.now; incoming = incoming.now; was_opened = false; wrote = []; read = []; sent = [] }) }
+{
+    Connection::new()
+}
+
+/// Each step is a call of a run, if a segment that comes is from the other end, and no end opens twice.
+pub fn a_step_is_a_call<'a>(
+    here: &mut Connection,
+    outgoing: &'a [u8],
+    incoming: &mut [u8],
+    event: step::Event,
+) -> Option<Segment<'a>>
+    requires text { IsShort event }
+    requires out { OutFits here.old.sending (length outgoing.now) }
+    requires rings { InFits here.old.receiving (length incoming.old) }
+    ensures { (b : End) (was_opened : Bool) (wrote read : List ℕ) (sent : List Sent) → let a : End = record { connection = here.old; outgoing = outgoing.now; incoming = incoming.old; was_opened = was_opened; wrote = wrote; read = read; sent = sent } in MayCome event.entry a b → OpensOnce a here.new → Calls a b (stepped a b here.new incoming.new (option_map said result)) }
+{
+    here.step(outgoing, incoming, event)
 }

@@ -1,6 +1,6 @@
 //! One call for everything that can happen to a connection.
 
-ghost use Rattle.std.specs.Prelude.{◌≡◌, ◌<◌, ◌⊎◌, ℕ, List, [], length, true, false, if◌then◌else◌, IfSome, Some, None};
+ghost use Rattle.std.specs.Prelude.{◌≡◌, ◌<◌, ◌⊎◌, ℕ, List, [], length, true, false, if◌then◌else◌, IfSome, Some, None, option_map};
 ghost use Rattle.tcp_model.specs.Network.{World};
 ghost use Rattle.app_tcp.specs.Items.{items_of};
 ghost use Rattle.app_tcp.specs.Stands.{Stands, room_of, IsAnswer};
@@ -8,9 +8,10 @@ ghost use Rattle.app_tcp.specs.Waits.{Waits, IsSend};
 ghost use Rattle.app_connection.specs.declared.state.Phase.TheVariants.{Listen, Open};
 ghost use Rattle.app_connection.specs.declared.state.State.TheVariants as state;
 ghost use Rattle.app_connection.specs.Endpoints.{endpoint_of, len_of, spoken, acknowledgement_of, IsLegal, OutFits, InFits, edge_of};
-ghost use Rattle.app_connection.specs.Worlds.{Stand, Went};
-ghost use Rattle.app_connection.specs.Events.{IsShort, ComesBy, IsMove, IsSending, begins, brings_bare, brings_items, called, cut_from, is_answered};
-ghost use Rattle.app_connection.specs.States.{has_peer, may_close, state_from};
+ghost use Rattle.app_connection.specs.Steps.{Steps};
+ghost use Rattle.app_connection.specs.Worlds.{said};
+ghost use Rattle.app_connection.specs.Events.{IsShort, IsMove, IsSending, begins, brings_bare, brings_items, cut_from, is_answered, HearsBy, KeepsNext, TakesBy};
+ghost use Rattle.app_connection.specs.States.{has_peer, state_from};
 
 use crate::connection::Connection;
 use crate::segment::{Reply, Segment};
@@ -45,8 +46,11 @@ impl Connection {
         requires rings { InFits self.old.receiving (length incoming.old) }
         ensures out { OutFits self.new.sending (length outgoing.now) }
         ensures rings { InFits self.new.receiving (length incoming.old) }
-        ensures goes { (there back : World) (consumed : List ℕ) → (self.old.phase ≡ Listen → ⊥) → ComesBy event.entry there back → Stand there back consumed self.old outgoing.now incoming.old → Went (called event.entry (may_close (state_from self.old)) there) back consumed self.new outgoing.now incoming.new }
+        ensures steps { Steps self.old self.new outgoing.now incoming.old incoming.new event.entry (option_map said result) }
         ensures moves { IsMove event.entry (room_of self.old.receiving (length incoming.old)) (endpoint_of self.old) (endpoint_of self.new) }
+        ensures takes { self.old.phase ≡ Open → (state_from self.old ≡ state.Closed → ⊥) → self.old.receiving.is_open ≡ true → TakesBy event.entry self.old (room_of self.old.receiving (length incoming.old)) self.new }
+        ensures hears { self.old.phase ≡ Open → (state_from self.old ≡ state.Closed → ⊥) → self.old.receiving.is_open ≡ true → HearsBy event.entry self.old (room_of self.old.receiving (length incoming.old)) self.new outgoing.now }
+        ensures next { self.old.phase ≡ Open → KeepsNext event.entry self.old.sending self.new.sending }
         ensures edge { self.old.phase ≡ Open → self.old.receiving.has_fin ≡ false → self.new.receiving.has_fin ≡ false → edge_of self.new.receiving (length incoming.old) ≡ edge_of self.old.receiving (length incoming.old) }
         ensures legal { (self.old.phase ≡ Open → ⊥) → IfSome (spoken result) (λ r. IsLegal (endpoint_of self.new) r) }
         ensures text { (self.old.phase ≡ Open → IsSending event.entry → ⊥) → IfSome result (λ s. (s.payload.now ≡ []) × (s.fin ≡ false)) }

@@ -1,1 +1,4 @@
 pub mod Opened
+pub mod Stepping
+pub mod Delivery
+pub mod Rounds

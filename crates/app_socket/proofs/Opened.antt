@@ -1,5 +1,5 @@
 -- What holds of a connection that is set up.
-use Rattle.std.proofs.Common.{◌≡◌, ◌⊎◌, inr, refl, sym, ◌∙◌, ap, subst, ℕ, ◌<◌, List, Bool, true, false, arith}
+use Rattle.std.proofs.Common.{◌≡◌, ◌⊎◌, inr, refl, ◌∙◌, ap, subst, ℕ, ◌<◌, List, Bool, true, false, arith}
 use Rattle.std.specs.Prelude.{Option, Some, None, IfSome, is_some, ◌&&◌, if◌then◌else◌}
 use Rattle.tcp_model.specs.Network.{World}
 use Rattle.app_tcp.specs.Stands.{Stands, IsAnswer}
@@ -11,8 +11,7 @@ use Rattle.app_connection.specs.declared.state.Phase.TheVariants as phase
 use Rattle.app_connection.specs.declared.state.State.{State}
 use Rattle.app_connection.specs.declared.state.State.TheVariants as state
 use Rattle.app_connection.specs.Endpoints.{len_of, spoken}
-use Rattle.app_connection.specs.States.{state_from, state_in}
-use Rattle.app_connection.specs.Worlds.{Arrives, Stand, Went}
+use Rattle.app_connection.specs.States.{state_from, state_in, has_peer}
 use Rattle.app_connection.specs.declared.segment.Reply.{Reply}
 use Rattle.app_socket.specs.Times.{is_open}
 
@@ -27,6 +26,23 @@ open_in phase.Open s is = refl
 pub open_phase : (c : Connection) → is_open (state_from c) ≡ true → c.phase ≡ phase.Open
 open_phase c is = open_in c.phase _ is
 
+has_of_open : (s : State) → is_open s ≡ true → has_peer s ≡ true
+has_of_open state.Closed is = absurd (cc)
+has_of_open state.Listen is = absurd (cc)
+has_of_open state.SynSent is = refl
+has_of_open state.SynReceived is = refl
+has_of_open state.Established is = refl
+has_of_open state.FinWait1 is = refl
+has_of_open state.FinWait2 is = refl
+has_of_open state.CloseWait is = refl
+has_of_open state.Closing is = refl
+has_of_open state.LastAck is = refl
+has_of_open state.TimeWait is = refl
+
+-- it has a peer
+pub open_has_peer : (c : Connection) → is_open (state_from c) ≡ true → has_peer (state_from c) ≡ true
+open_has_peer c is = has_of_open _ is
+
 -- it is not in CLOSED
 pub open_not_shut : (c : Connection) → is_open (state_from c) ≡ true → state_from c ≡ state.Closed → ⊥
 open_not_shut c is shut = let h : false ≡ true = subst (λ (x : State). is_open x ≡ true) shut is in absurd (cc)
@@ -35,19 +51,6 @@ open_not_shut c is shut = let h : false ≡ true = subst (λ (x : State). is_ope
 pub no_items : (P : Segment → Type 0) (o : Option Segment) → IfSome o (λ s. len_of s ≡ 0) → IfSome o (λ s. 0 < len_of s → P s)
 no_items P None bare = tt
 no_items P (Some s) bare = λ some. absurd (omega (arith, some, bare))
-
--- a segment with another window comes with the same items and acknowledgement
-arrives_as : (there back : World) (s t : Segment) (window : ℕ) → t ≡ record s { window = window } → Arrives there back s → Arrives there back t
-arrives_as there back s t window is comes =
-    let scaled : Arrives there back (record s { window = window }) = record { which = comes.which; text = comes.text; ack = comes.ack } in
-    subst (λ (x : Segment). Arrives there back x) (sym is) scaled
-
-pub goes_scaled : (there back : World) (consumed : List ℕ) (c d new : Connection) (s t : Segment) (window : ℕ) (outgoing incoming brought : List ℕ) → d ≡ c → t ≡ record s { window = window }
-    → ((d.phase ≡ phase.Listen → ⊥) → Arrives there back t → Stand there back consumed d outgoing incoming → Went there back consumed new outgoing brought)
-    → (c.phase ≡ phase.Listen → ⊥) → Arrives there back s → Stand there back consumed c outgoing incoming → Went there back consumed new outgoing brought
-goes_scaled there back consumed c d new s t window outgoing incoming brought same is goes other comes stand =
-    goes (λ listens. other (sym (ap (λ (x : Connection). x.phase) same) ∙ listens)) (arrives_as there back s t window is comes)
-    (subst (λ (x : Connection). Stand there back consumed x outgoing incoming) (sym same) stand)
 
 -- what holds of the acknowledgement of a segment holds of the receiving half as it is after it
 pub answers_as : (o : Option Segment) (r t : Receiving) (incoming : List ℕ) → t ≡ r

@@ -13,6 +13,8 @@ use Rattle.wire_tcp_options.specs.TcpSummary.{summary_of}
 use Rattle.app_connection.specs.declared.connection.Connection.{Connection}
 use Rattle.app_connection.specs.declared.segment.Segment.{Segment}
 use Rattle.app_connection.specs.States.{state_from}
+use Rattle.app_connection.specs.declared.step.Event.{Event as Move}
+use Rattle.app_connection.specs.declared.step.Event.TheVariants as move
 use Rattle.app_options.specs.Options.{of_syn, of_segment, text_limit, window_out}
 use Rattle.app_options.specs.Timestamps.{is_old, takes}
 use Rattle.app_options.specs.declared.timestamps.Recent.{Recent}
@@ -36,6 +38,15 @@ is_stale s now (event.Arrives segment options fresh) = rejects s now segment.now
 is_stale s now event.Close = false
 is_stale s now event.Abort = false
 is_stale s now event.Tick = false
+
+-- What the connection meets: for a segment that is rejected by its timestamp time passes.
+abbrev pub taken_of : Socket → ℕ → Event → Move
+taken_of s now event.Listen = move.Listen
+taken_of s now (event.Open iss) = move.Open iss
+taken_of s now (event.Arrives segment options fresh) = if rejects s now segment.now options.now then move.Send 0 0 else move.Arrives segment fresh
+taken_of s now event.Close = move.Close
+taken_of s now event.Abort = move.Abort
+taken_of s now event.Tick = move.Send 0 0
 
 -- whether an event is a segment with a timestamp
 abbrev pub has_timestamp : Event → Bool

@@ -1,12 +1,15 @@
 //! A segment arrives.
 
-ghost use Rattle.std.specs.Prelude.{[], false, ◌≤◌, None, max, ◌≡◌, ◌<◌, ◌⊎◌, ℕ, List, is_some, length, true, IfSome, MatchOption};
+ghost use Rattle.std.specs.Prelude.{[], false, ◌≤◌, None, max, ◌≡◌, ◌<◌, ◌⊎◌, ℕ, List, is_some, length, true, IfSome, MatchOption, if◌then◌else◌, option_map, ◌+◌, ◌-◌, ◌%◌, ◌&&◌, not, nat_le, min, Option};
 ghost use Rattle.tcp_model.specs.Network.{World};
-ghost use Rattle.app_connection.specs.declared.state.Phase.TheVariants.{Listen};
 ghost use Rattle.app_tcp.specs.Stands.{Stands, IsAnswer, room_of};
 ghost use Rattle.app_connection.specs.Endpoints.{OutFits, InFits, answers_bare, has_items, is_bare, len_of};
 ghost use Rattle.app_connection.specs.States.{state_from};
-ghost use Rattle.app_connection.specs.Worlds.{Arrives, Stand, Went};
+ghost use Rattle.app_connection.specs.Steps.{Steps};
+ghost use Rattle.app_connection.specs.Worlds.{GoesOut, said};
+ghost use Rattle.tcp_model.specs.Endpoint.{distance};
+ghost use Rattle.app_congestion.specs.Congestion.{is_in_recovery, is_partial, is_past};
+ghost use Rattle.app_socket.specs.Resends.{IsArmed, IsDuplicate, IsSound, Learns, restarted_at, scaled_by};
 ghost use Rattle.app_socket.specs.Segments.{GoesForward, rejects};
 ghost use Rattle.app_socket.specs.Times.{is_open, later, patience_of};
 ghost use Rattle.app_socket.specs.Window.{HasRoom, Tells};
@@ -39,7 +42,9 @@ pub(crate) struct Before {
 
 impl Before {
     // Whether the segment is near what is expected.
-    fn is_near(&self, segment: &Segment) -> bool {
+    fn is_near(&self, segment: &Segment) -> bool
+        ensures { result ≡ (not segment.now.rst && nat_le (distance segment.now.number self.now.next) (min 4294967295 (self.now.room + 1))) }
+    {
         !segment.rst && segment.number.wrapping_sub(self.next) <= self.room.saturating_add(1)
     }
 
@@ -53,7 +58,9 @@ impl Before {
 
     // Whether it is a duplicate acknowledgement (RFC 5681, section 2), or has a SACK block, also with text (RFC 6675, section 2).
     // One with a closed window answers a probe.
-    fn is_duplicate(&self, segment: &Segment, has_sack: bool) -> bool {
+    fn is_duplicate(&self, segment: &Segment, has_sack: bool) -> bool
+        ensures { IsDuplicate self.now.una self.now.flight self.now.window self.now.next self.now.room segment.now → result ≡ true }
+    {
         let is_bare = segment.payload.is_empty() && !segment.fin && segment.window == self.window;
         self.flight > 0
             && self.window > 0
@@ -90,9 +97,11 @@ impl Socket {
         ensures owes { is_open (state_from self.old.connection) ≡ true → is_open (state_from self.new.connection) ≡ true → self.old.connection.receiving.is_open ≡ true → rejects self.old now segment.now options.now ≡ false → has_items segment.now ≡ true → result ≡ None → MatchOption self.new.timers.ack_at ⊥ (λ t. t ≤ later now 40) }
         ensures to_bare { is_open (state_from self.old.connection) ≡ true → is_open (state_from self.new.connection) ≡ true → rejects self.old now segment.now options.now ≡ false → is_bare segment.now ≡ true → is_some result ≡ answers_bare self.old.connection (room_of self.old.connection.receiving (length incoming.old)) segment.now.number segment.now.ack }
         ensures recent { is_open (state_from self.old.connection) ≡ true → GoesForward self.old.agreed.recent self.new.agreed.recent now }
+        ensures begins { is_open (state_from self.old.connection) ≡ false → is_open (state_from self.new.connection) ≡ true → IsSound self.new.flow self.new.connection.sending.flight }
+        ensures learns { is_open (state_from self.old.connection) ≡ true → is_open (state_from self.new.connection) ≡ true → rejects self.old now segment.now options.now ≡ false → Learns self.old self.new outgoing.now (length incoming.old) now (scaled_by self.old.agreed segment.now) }
         ensures stale { rejects self.old now segment.now options.now ≡ true → self.new ≡ record self.old { timers = record self.old.timers { ack_at = self.new.timers.ack_at }; edge = self.new.edge } }
         ensures answered { rejects self.old now segment.now options.now ≡ true → is_some result ≡ is_some options.now.timestamp }
-        ensures goes { (there back : World) (consumed : List ℕ) → (self.old.connection.phase ≡ Listen → ⊥) → (rejects self.old now segment.now options.now ≡ false → Arrives there back segment.now) → Stand there back consumed self.old.connection outgoing.now incoming.old → Went there back consumed self.new.connection outgoing.now incoming.new }
+        ensures steps { Steps self.old.connection self.new.connection outgoing.now incoming.old incoming.new (if rejects self.old now segment.now options.now then Move.Send 0 0 else Move.Arrives segment.entry fresh) (option_map said result) }
     {
         if self.is_stale(segment, options, now) {
             return self.on_stale(outgoing, incoming.len(), options);
@@ -132,6 +141,7 @@ impl Socket {
         ensures text { IfSome result (λ s. (s.payload.now ≡ []) × (s.fin ≡ false)) }
         ensures bare { IfSome result (λ s. len_of s ≡ 0) }
         ensures answers { IfSome result (λ s. (back : World) (consumed buffer : List ℕ) → Stands back consumed self.old.connection.receiving buffer → IfSome s.ack (λ number. IsAnswer back number)) }
+        ensures goes_out { (there back : World) (consumed buffer : List ℕ) → Stands back consumed self.old.connection.receiving buffer → IfSome (option_map said result) (GoesOut there back) }
     {
         if options.timestamp.is_none() {
             return None;
@@ -178,7 +188,8 @@ impl Socket {
 
     // The segment with the window of the peer in bytes. That of a SYN is not scaled (RFC 7323, section 2.2).
     fn scaled<'s>(&self, segment: &Segment<'s>) -> Segment<'s>
-        ensures { result ≡ record segment.now { window = result.window } }
+        ensures same { result ≡ record segment.now { window = result.window } }
+        ensures value { result ≡ scaled_by self.now.agreed segment.now }
     {
         Segment {
             number: segment.number,
@@ -220,7 +231,9 @@ impl Socket {
         ensures owes { is_open (state_from self.old.connection) ≡ true → is_open (state_from self.new.connection) ≡ true → self.old.connection.receiving.is_open ≡ true → has_items segment.now ≡ true → result ≡ None → MatchOption self.new.timers.ack_at ⊥ (λ t. t ≤ later now 40) }
         ensures to_bare { is_open (state_from self.old.connection) ≡ true → is_open (state_from self.new.connection) ≡ true → is_bare segment.now ≡ true → is_some result ≡ answers_bare self.old.connection (room_of self.old.connection.receiving (length incoming.old)) segment.now.number segment.now.ack }
         ensures agreed { self.new.agreed ≡ self.old.agreed }
-        ensures goes { (there back : World) (consumed : List ℕ) → (self.old.connection.phase ≡ Listen → ⊥) → Arrives there back segment.now → Stand there back consumed self.old.connection outgoing.now incoming.old → Went there back consumed self.new.connection outgoing.now incoming.new }
+        ensures steps { Steps self.old.connection self.new.connection outgoing.now incoming.old incoming.new (Move.Arrives segment.entry fresh) (option_map said result) }
+        ensures begins { is_open (state_from self.old.connection) ≡ false → is_open (state_from self.new.connection) ≡ true → IsSound self.new.flow self.new.connection.sending.flight }
+        ensures learns { is_open (state_from self.old.connection) ≡ true → is_open (state_from self.new.connection) ≡ true → Learns self.old self.new outgoing.now (length incoming.old) now segment.now }
     {
         let before = self.before(incoming.len());
         let reply = self
@@ -243,6 +256,10 @@ impl Socket {
         requires { InFits self.now.connection.receiving incoming }
         ensures state { result.state ≡ state_from self.now.connection }
         ensures next { self.now.connection.receiving.is_open ≡ true → result.next ≡ self.now.connection.receiving.next }
+        ensures una { result.una ≡ self.now.connection.sending.una }
+        ensures flight { result.flight ≡ self.now.connection.sending.flight }
+        ensures window { result.window ≡ self.now.connection.wnd }
+        ensures room { result.room ≡ room_of self.now.connection.receiving incoming }
     {
         Before {
             state: self.connection.state(),
@@ -283,6 +300,14 @@ impl Socket {
     fn learn(&mut self, before: &Before, now: u64, segment: &Segment, options: &TcpOptionSummary)
         ensures same { self.new ≡ record self.old { timers = self.new.timers; flow = self.new.flow } }
         ensures patience { self.new.timers.ends_at ≤ max self.old.timers.ends_at (later now (patience_of self.old.options)) }
+        ensures restarts { is_open before.now.state ≡ true → (size : ℕ) → OutFits self.old.connection.sending size → 0 < distance self.old.connection.sending.una before.now.una → self.new.timers.resend_at ≡ restarted_at self.new now }
+        ensures keeps { is_open before.now.state ≡ true → distance self.old.connection.sending.una before.now.una ≡ 0 → (earlier : Option ℕ) → IsArmed earlier self.old.timers.resend_at now → IsArmed earlier self.new.timers.resend_at now }
+        ensures partial { is_open before.now.state ≡ true → 0 < distance self.old.connection.sending.una before.now.una → is_partial self.old.flow.congestion.phase self.old.connection.sending.una ≡ true → self.old.flow.rescued ≤ distance self.old.connection.sending.una before.now.una → self.new.flow.resend ≡ true }
+        ensures counted { is_open before.now.state ≡ true → distance self.old.connection.sending.una before.now.una ≡ 0 → IsDuplicate before.now.una before.now.flight before.now.window before.now.next before.now.room segment.now → is_in_recovery self.old.flow.congestion.phase ≡ false → is_past self.old.flow.congestion.phase self.old.connection.sending.una ≡ true → self.old.flow.congestion.duplicates < 3 → (self.new.flow.resend ≡ true) ⊎ (self.old.flow.congestion.duplicates < self.new.flow.congestion.duplicates) }
+        ensures third { is_open before.now.state ≡ true → distance self.old.connection.sending.una before.now.una ≡ 0 → IsDuplicate before.now.una before.now.flight before.now.window before.now.next before.now.room segment.now → is_in_recovery self.old.flow.congestion.phase ≡ false → is_past self.old.flow.congestion.phase self.old.connection.sending.una ≡ true → self.old.flow.congestion.duplicates ≡ 2 → self.new.flow.resend ≡ true }
+        ensures off { is_open before.now.state ≡ false → self.new.timers.resend_at ≡ None }
+        ensures sound { is_open before.now.state ≡ true → IsSound self.old.flow (self.old.connection.sending.flight + distance self.old.connection.sending.una before.now.una) → IsSound self.new.flow self.old.connection.sending.flight }
+        ensures begins { is_open before.now.state ≡ false → IsSound self.new.flow self.old.connection.sending.flight }
     {
         let window = self.connection.window();
         if !is_open(before.state) {
@@ -303,6 +328,7 @@ impl Socket {
     // The peer lives.
     fn hear(&mut self, now: u64)
         ensures same { self.new ≡ record self.old { timers = self.new.timers } }
+        ensures resend_at { self.new.timers.resend_at ≡ self.old.timers.resend_at }
         ensures patience { self.new.timers.ends_at ≤ later now (patience_of self.old.options) }
     {
         let waits = self.waits();
@@ -312,6 +338,7 @@ impl Socket {
     // Whether the segment shows that the peer lives.
     fn learn_life(&mut self, before: &Before, now: u64, segment: &Segment)
         ensures same { self.new ≡ record self.old { timers = self.new.timers } }
+        ensures resend_at { self.new.timers.resend_at ≡ self.old.timers.resend_at }
         ensures patience { self.new.timers.ends_at ≤ max self.old.timers.ends_at (later now (patience_of self.old.options)) }
     {
         if self.connection.state() == State::TimeWait {
@@ -338,15 +365,49 @@ impl Socket {
     )
         ensures same { self.new ≡ record self.old { timers = self.new.timers; flow = self.new.flow } }
         ensures patience { self.new.timers.ends_at ≤ max self.old.timers.ends_at (later now (patience_of self.old.options)) }
+        ensures restarts { (size : ℕ) → OutFits self.old.connection.sending size → 0 < distance self.old.connection.sending.una before.now.una → self.new.timers.resend_at ≡ restarted_at self.new now }
+        ensures sound { IsSound self.old.flow (self.old.connection.sending.flight + distance self.old.connection.sending.una before.now.una) → IsSound self.new.flow self.old.connection.sending.flight }
+        ensures still { distance self.old.connection.sending.una before.now.una ≡ 0 → self.new.timers ≡ self.old.timers }
+        ensures partial { 0 < distance self.old.connection.sending.una before.now.una → is_partial self.old.flow.congestion.phase self.old.connection.sending.una ≡ true → self.old.flow.rescued ≤ distance self.old.connection.sending.una before.now.una → self.new.flow.resend ≡ true }
+        ensures counted { distance self.old.connection.sending.una before.now.una ≡ 0 → IsDuplicate before.now.una before.now.flight before.now.window before.now.next before.now.room segment.now → is_in_recovery self.old.flow.congestion.phase ≡ false → is_past self.old.flow.congestion.phase self.old.connection.sending.una ≡ true → self.old.flow.congestion.duplicates < 3 → (self.new.flow.resend ≡ true) ⊎ (self.old.flow.congestion.duplicates < self.new.flow.congestion.duplicates) }
+        ensures third { distance self.old.connection.sending.una before.now.una ≡ 0 → IsDuplicate before.now.una before.now.flight before.now.window before.now.next before.now.room segment.now → is_in_recovery self.old.flow.congestion.phase ≡ false → is_past self.old.flow.congestion.phase self.old.connection.sending.una ≡ true → self.old.flow.congestion.duplicates ≡ 2 → self.new.flow.resend ≡ true }
+    {
+        let newly = self.connection.una().wrapping_sub(before.una);
+        if newly > 0 {
+            self.learn_newly(before.una, newly, now, options);
+        }
+        self.learn_duplicates(before, newly, segment, options);
+    }
+
+    // So many numbers after `una` were newly acknowledged: the timer starts anew (RFC 6298, section 5.3).
+    fn learn_newly(&mut self, una: u32, newly: u32, now: u64, options: &TcpOptionSummary)
+        ensures same { self.new ≡ record self.old { timers = record self.old.timers { resend_at = self.new.timers.resend_at }; flow = self.new.flow } }
+        ensures sound { (flight : ℕ) → newly ≤ flight → IsSound self.old.flow flight → IsSound self.new.flow (flight - newly) }
+        ensures restarts { (size : ℕ) → OutFits self.old.connection.sending size → self.new.timers.resend_at ≡ restarted_at self.new now }
+        ensures partial { 0 < newly → is_partial self.old.flow.congestion.phase ((una + newly) % 4294967296) ≡ true → self.old.flow.rescued ≤ newly → self.new.flow.resend ≡ true }
+    {
+        let flight = self.connection.flight();
+        let round_trip = self.agreed.round_trip(options.timestamp, now);
+        self.flow.on_ack(una, newly, flight, round_trip, now);
+        let waits = self.waits();
+        self.timers.restart(now, self.flow.timer(), waits);
+    }
+
+    // Duplicate acknowledgements, and what the peer has after a gap.
+    fn learn_duplicates(
+        &mut self,
+        before: &Before,
+        newly: u32,
+        segment: &Segment,
+        options: &TcpOptionSummary,
+    )
+        ensures same { self.new ≡ record self.old { flow = record self.old.flow { congestion = self.new.flow.congestion; resend = self.new.flow.resend; scoreboard = self.new.flow.scoreboard; rescued = self.new.flow.rescued } } }
+        ensures still { self.old.flow.resend ≡ true → self.new.flow.resend ≡ true }
+        ensures sound { IsSound self.old.flow self.old.connection.sending.flight → IsSound self.new.flow self.old.connection.sending.flight }
+        ensures counted { newly ≡ 0 → IsDuplicate before.now.una before.now.flight before.now.window before.now.next before.now.room segment.now → is_in_recovery self.old.flow.congestion.phase ≡ false → is_past self.old.flow.congestion.phase self.old.connection.sending.una ≡ true → self.old.flow.congestion.duplicates < 3 → (self.new.flow.resend ≡ true) ⊎ (self.old.flow.congestion.duplicates < self.new.flow.congestion.duplicates) }
+        ensures third { newly ≡ 0 → IsDuplicate before.now.una before.now.flight before.now.window before.now.next before.now.room segment.now → is_in_recovery self.old.flow.congestion.phase ≡ false → is_past self.old.flow.congestion.phase self.old.connection.sending.una ≡ true → self.old.flow.congestion.duplicates ≡ 2 → self.new.flow.resend ≡ true }
     {
         let (una, flight) = (self.connection.una(), self.connection.flight());
-        let newly = una.wrapping_sub(before.una);
-        if newly > 0 {
-            let round_trip = self.agreed.round_trip(options.timestamp, now);
-            self.flow.on_ack(before.una, newly, flight, round_trip, now);
-            let waits = self.waits();
-            self.timers.restart(now, self.flow.timer(), waits);
-        }
         let has_sack = self.agreed.has_sack() && before.has_sack(segment, options);
         let segments = if has_sack {
             self.learn_sack(options)
@@ -363,7 +424,8 @@ impl Socket {
     // What the peer has after a gap. Returns how many segments that is more than it told before (RFC 6675, section 5): receivers
     // answer several segments with one acknowledgement.
     fn learn_sack(&mut self, options: &TcpOptionSummary) -> u32
-        ensures same { self.new ≡ record self.old { flow = self.new.flow } }
+        ensures same { self.new ≡ record self.old { flow = record self.old.flow { scoreboard = self.new.flow.scoreboard } } }
+        ensures sound { IsSound self.old.flow self.old.connection.sending.flight → IsSound self.new.flow self.old.connection.sending.flight }
     {
         let (una, flight) = (self.connection.una(), self.connection.flight());
         let known = self.flow.sacked();
@@ -389,11 +451,13 @@ impl Socket {
         ensures same { self.new ≡ record self.old { timers = self.new.timers; edge = self.new.edge } }
         ensures text { IfSome result (λ s. (s.payload.now ≡ []) × (s.fin ≡ false)) }
         ensures bare { is_open before.now.state ≡ true → IfSome result (λ s. len_of s ≡ 0) }
+        ensures goes_out { (there back : World) (consumed buffer : List ℕ) → Stands back consumed self.old.connection.receiving buffer → IfSome (option_map said reply.entry) (GoesOut there back) → IfSome (option_map said result) (GoesOut there back) }
         ensures answers { is_open before.now.state ≡ true → IfSome result (λ s. (back : World) (consumed buffer : List ℕ) → Stands back consumed self.old.connection.receiving buffer → IfSome s.ack (λ number. IsAnswer back number)) }
         ensures tells { is_open before.now.state ≡ true → IfSome result (λ s. IfSome s.ack (λ ack. Tells self.old.edge self.new.edge self.old.connection.receiving incoming ack s.window)) }
         ensures keeps { is_open before.now.state ≡ true → HasRoom self.old.edge self.old.connection.receiving incoming → HasRoom self.new.edge self.old.connection.receiving incoming }
         ensures acks { is_open before.now.state ≡ true → IfSome result (λ s. self.new.timers.ack_at ≡ None) }
         ensures ends_at { self.new.timers.ends_at ≡ self.old.timers.ends_at }
+        ensures resend_at { self.new.timers.resend_at ≡ self.old.timers.resend_at }
         ensures owes { is_open before.now.state ≡ true → is_some reply.entry ≡ true → result ≡ None → MatchOption self.new.timers.ack_at ⊥ (λ t. t ≤ later now 40) }
         ensures none { is_open before.now.state ≡ true → is_some reply.entry ≡ false → result ≡ None }
         ensures some { is_open before.now.state ≡ true → self.old.connection.receiving.is_open ≡ true → before.now.next ≡ self.old.connection.receiving.next → is_some result ≡ is_some reply.entry }

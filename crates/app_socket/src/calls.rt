@@ -1,12 +1,15 @@
 //! Calls of the application that need no ring.
 
-ghost use Rattle.std.specs.Prelude.{◌≡◌, ◌+◌, ℕ, List, true, false, min, IfSome};
+ghost use Rattle.std.specs.Prelude.{◌≡◌, ◌+◌, ℕ, List, true, false, min, IfSome, None, option_map};
 ghost use Rattle.tcp_model.specs.Network.{World, Close, happens};
 ghost use Rattle.app_tcp.specs.Waits.{Waits, unsent_of};
 ghost use Rattle.app_connection.specs.Endpoints.{InFits, OutFits, endpoint_of};
 ghost use Rattle.app_connection.specs.SetUp.{In_closed, In_listen};
 ghost use Rattle.app_connection.specs.States.{may_close, state_closed, state_from};
+ghost use Rattle.app_connection.specs.Steps.{Steps};
+ghost use Rattle.app_connection.specs.Worlds.{replied};
 ghost use Rattle.app_connection.specs.declared.state.State.TheVariants as State;
+ghost use Rattle.app_connection.specs.declared.step.Event.TheVariants as Move;
 
 use crate::socket::Socket;
 use app_connection::Reply;
@@ -33,6 +36,7 @@ impl Socket {
         ensures same { self.new ≡ record self.old { connection = self.new.connection } }
         ensures listens { state_from self.old.connection ≡ State.Closed → endpoint_of self.new.connection ≡ In_listen }
         ensures stays { (state_from self.old.connection ≡ State.Closed → ⊥) → self.new ≡ self.old }
+        ensures steps { (outgoing incoming : List ℕ) → Steps self.old.connection self.new.connection outgoing incoming incoming Move.Listen None }
     {
         self.connection.listen();
     }
@@ -44,6 +48,7 @@ impl Socket {
         ensures receiving { self.new.connection.receiving ≡ self.old.connection.receiving }
         ensures waits { may_close (state_from self.old.connection) ≡ true → (there : World) (outgoing : List ℕ) → Waits there self.old.connection.sending outgoing → Waits (happens there Close) self.new.connection.sending outgoing }
         ensures stays { may_close (state_from self.old.connection) ≡ false → self.new.connection.sending ≡ self.old.connection.sending }
+        ensures steps { (outgoing incoming : List ℕ) → Steps self.old.connection self.new.connection outgoing incoming incoming Move.Close None }
     {
         self.connection.close();
     }
@@ -55,6 +60,7 @@ impl Socket {
         ensures sending { self.new.connection.sending ≡ self.old.connection.sending }
         ensures receiving { self.new.connection.receiving ≡ self.old.connection.receiving }
         ensures reset { IfSome result (λ r. r.rst ≡ true) }
+        ensures steps { (outgoing incoming : List ℕ) → Steps self.old.connection self.new.connection outgoing incoming incoming Move.Abort (option_map replied result) }
     {
         self.connection.abort()
     }

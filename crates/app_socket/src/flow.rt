@@ -1,9 +1,11 @@
 //! What is sent, and when again (RFC 6298, RFC 5681, RFC 6582; RFC 9293, sections 3.7.4 and 3.8.6).
 
-ghost use Rattle.std.specs.Prelude.{◌≡◌, ◌<◌, ◌≤◌, ◌⊎◌, ℕ, true, false, min, max, IfSome};
-ghost use Rattle.app_congestion.specs.Congestion.{sender_of};
-ghost use Rattle.app_congestion.specs.Scoreboard.{has};
+ghost use Rattle.std.specs.Prelude.{◌≡◌, ◌<◌, ◌≤◌, ◌⊎◌, ◌+◌, ◌-◌, ◌%◌, ◌==◌, ◌&&◌, ℕ, true, false, not, nat_lt, min, max, Some, None, IfSome, MatchOption};
+ghost use Rattle.tcp_model.specs.Endpoint.{distance};
+ghost use Rattle.app_congestion.specs.Congestion.{acknowledged, begins, duplicated, is_in_recovery, is_partial, is_past, is_third, probed, restarted, sender_of};
+ghost use Rattle.app_congestion.specs.Scoreboard.{HasNoHole, IsHole, has, total};
 ghost use Rattle.app_socket.specs.Pieces.{IsSacked, IsWithin, is_worth};
+ghost use Rattle.app_socket.specs.Resends.{BacksOff, IsBeyond, IsHeld, IsSound, Samples, TimesOut, is_probe_useful, next_in, timer_of};
 
 use app_congestion::{Congestion, Rto, Scoreboard};
 
@@ -73,7 +75,9 @@ pub(crate) struct Piece {
 
 impl Queue {
     // SND.NXT
-    fn next(&self) -> u32 {
+    fn next(&self) -> u32
+        ensures { result ≡ next_in self.now }
+    {
         self.una.wrapping_add(self.flight)
     }
 }
@@ -105,6 +109,7 @@ impl Flow {
 
     // The timeout of the retransmission timer, in milliseconds.
     pub(crate) fn timeout(&self) -> u32
+        ensures value { result ≡ self.now.rto.timeout }
         ensures low { 0 < result }
         ensures high { result ≤ 60000 }
     {
@@ -114,6 +119,7 @@ impl Flow {
     // For how long the timer runs: until a loss probe, or if one went since the last sample, until the time-out (RFC 8985,
     // sections 7.2 and 7.3).
     pub(crate) fn timer(&self) -> u32
+        ensures value { result ≡ timer_of self.now }
         ensures low { 0 < result }
         ensures high { result ≤ 60000 }
     {
@@ -125,12 +131,19 @@ impl Flow {
     }
 
     // Whether the timer is that of a loss probe.
-    pub(crate) fn is_probing(&self) -> bool {
+    pub(crate) fn is_probing(&self) -> bool
+        ensures { result ≡ nat_lt (timer_of self.now) self.now.rto.timeout }
+    {
         self.timer() < self.rto.timeout()
     }
 
     // A SYN goes out; `end` is the number after it.
-    pub(crate) fn begin(&mut self, end: u32, now: u64) {
+    pub(crate) fn begin(&mut self, end: u32, now: u64)
+        ensures same { self.new ≡ record self.old { rto = self.new.rto; timing = Some (record { end = end; sent_at = now }); cursor = 1; resend = false; scoreboard = self.new.scoreboard; rescued = 0; max_window = 0; is_probed = false } }
+        ensures timeout { self.new.rto.timeout ≡ 1000 }
+        ensures estimate { self.new.rto.estimate ≡ None }
+        ensures known { (n : ℕ) → has self.new.scoreboard n ≡ false }
+    {
         self.rto = Rto::new();
         self.timing = Some(Timed { end, sent_at: now });
         self.cursor = 1;
@@ -142,7 +155,14 @@ impl Flow {
     }
 
     // The SYN was acknowledged. One that was sent again is not timed (RFC 6298, section 5.7; RFC 5681, section 3.1).
-    pub(crate) fn establish(&mut self, mss: u16, window: u32, now: u64) {
+    pub(crate) fn establish(&mut self, mss: u16, window: u32, now: u64)
+        ensures same { self.new ≡ record self.old { rto = self.new.rto; congestion = self.new.congestion; timing = None; cursor = 0; scoreboard = self.new.scoreboard; max_window = window } }
+        ensures known { (n : ℕ) → has self.new.scoreboard n ≡ false }
+        ensures times { IfSome self.old.timing (λ t. Samples self.old.rto self.new.rto (min 4294967295 (now - t.sent_at))) }
+        ensures begins { IfSome self.old.timing (λ t. sender_of self.new.congestion ≡ begins (max 1 mss)) }
+        ensures lost { self.old.timing ≡ None → self.new.rto.timeout ≡ 3000 }
+        ensures slow { self.old.timing ≡ None → self.new.congestion.cwnd ≡ max 1 mss }
+    {
         self.congestion = Congestion::new(mss);
         match self.timing {
             Some(timed) => self.rto.on_sample(elapsed(timed.sent_at, now)),
@@ -154,6 +174,7 @@ impl Flow {
         self.timing = None;
         self.max_window = window;
         self.cursor = 0;
+        self.scoreboard.clear();
     }
 
     // So many items after `una` were newly acknowledged. Timestamps told this round trip.
@@ -164,7 +185,17 @@ impl Flow {
         flight: u32,
         round_trip: Option<u32>,
         now: u64,
-    ) {
+    )
+        ensures same { self.new ≡ record self.old { rto = self.new.rto; congestion = self.new.congestion; timing = self.new.timing; cursor = self.old.cursor - newly; resend = self.new.resend; scoreboard = self.new.scoreboard; rescued = self.old.rescued - newly; is_probed = self.new.is_probed } }
+        ensures known { (n : ℕ) → has self.new.scoreboard n ≡ has self.old.scoreboard (n + newly) }
+        ensures sender { sender_of self.new.congestion ≡ acknowledged (sender_of self.old.congestion) newly flight ((una + newly) % 4294967296) }
+        ensures partial { is_partial self.old.congestion.phase ((una + newly) % 4294967296) ≡ true → 0 < newly → self.old.rescued ≤ newly → self.new.resend ≡ true }
+        ensures alone { is_partial self.old.congestion.phase ((una + newly) % 4294967296) ≡ true → 0 < newly → ((n : ℕ) → has self.new.scoreboard n ≡ false) → self.new.resend ≡ true }
+        ensures other { is_partial self.old.congestion.phase ((una + newly) % 4294967296) ≡ false → self.new.resend ≡ false }
+        ensures timed { IfSome self.old.timing (λ t. distance t.end una ≤ newly → Samples self.old.rto self.new.rto (min 4294967295 (now - t.sent_at))) }
+        ensures told { self.old.timing ≡ None → IfSome round_trip (λ rtt. Samples self.old.rto self.new.rto rtt) }
+        ensures ends { self.old.is_probed ≡ false → self.new.is_probed ≡ false }
+    {
         self.time(una, newly, round_trip, now);
         self.cursor = self.cursor.saturating_sub(newly);
         self.rescued = self.rescued.saturating_sub(newly);
@@ -179,7 +210,10 @@ impl Flow {
     // Takes the round trip of the segment that is timed; where none is, since segments went again, the one that timestamps tell
     // (RFC 6298, section 3).
     fn time(&mut self, una: u32, newly: u32, round_trip: Option<u32>, now: u64)
-        ensures { self.new ≡ record self.old { rto = self.new.rto; timing = self.new.timing; is_probed = self.new.is_probed } }
+        ensures same { self.new ≡ record self.old { rto = self.new.rto; timing = self.new.timing; is_probed = self.new.is_probed } }
+        ensures timed { IfSome self.old.timing (λ t. distance t.end una ≤ newly → Samples self.old.rto self.new.rto (min 4294967295 (now - t.sent_at))) }
+        ensures told { self.old.timing ≡ None → IfSome round_trip (λ rtt. Samples self.old.rto self.new.rto rtt) }
+        ensures ends { self.old.is_probed ≡ false → self.new.is_probed ≡ false }
     {
         let sample = match self.timing {
             Some(timed) if timed.end.wrapping_sub(una) > newly => return,
@@ -205,23 +239,39 @@ impl Flow {
     }
 
     // Whether it is in fast recovery.
-    pub(crate) fn is_recovering(&self) -> bool {
+    pub(crate) fn is_recovering(&self) -> bool
+        ensures { result ≡ is_in_recovery self.now.congestion.phase }
+    {
         self.congestion.is_recovering()
     }
 
     // How many items the peer has after a gap.
-    pub(crate) fn sacked(&self) -> u32 {
+    pub(crate) fn sacked(&self) -> u32
+        ensures { result ≡ total self.now.scoreboard }
+    {
         self.scoreboard.total()
     }
 
     // As many duplicate acknowledgements.
-    pub(crate) fn on_duplicates(&mut self, count: u32, flight: u32, una: u32) {
+    pub(crate) fn on_duplicates(&mut self, count: u32, flight: u32, una: u32)
+        ensures same { self.new ≡ record self.old { congestion = self.new.congestion; resend = self.new.resend; rescued = self.new.rescued } }
+        ensures still { self.old.resend ≡ true → self.new.resend ≡ true }
+        ensures none { count ≡ 0 → self.new ≡ self.old }
+        ensures counts { is_in_recovery self.old.congestion.phase ≡ false → self.old.congestion.duplicates + count < 3 → (self.new.congestion.phase ≡ self.old.congestion.phase) × (self.new.congestion.duplicates ≡ self.old.congestion.duplicates + count) }
+        ensures third { is_in_recovery self.old.congestion.phase ≡ false → is_past self.old.congestion.phase una ≡ true → self.old.congestion.duplicates < 3 → 3 ≤ self.old.congestion.duplicates + count → self.new.resend ≡ true }
+    {
         for _ in 0..count {
             self.on_duplicate(flight, una);
         }
     }
 
-    fn on_duplicate(&mut self, flight: u32, una: u32) {
+    fn on_duplicate(&mut self, flight: u32, una: u32)
+        ensures same { self.new ≡ record self.old { congestion = self.new.congestion; resend = self.new.resend; rescued = self.new.rescued } }
+        ensures sender { sender_of self.new.congestion ≡ duplicated (sender_of self.old.congestion) flight una ((una + flight) % 4294967296) }
+        ensures still { self.old.resend ≡ true → self.new.resend ≡ true }
+        ensures third { (not (is_in_recovery self.old.congestion.phase) && is_third (sender_of self.old.congestion) una) ≡ true → (self.new.resend ≡ true) × (self.new.rescued ≡ 0) }
+        ensures other { (not (is_in_recovery self.old.congestion.phase) && is_third (sender_of self.old.congestion) una) ≡ false → self.new ≡ record self.old { congestion = self.new.congestion } }
+    {
         let next = una.wrapping_add(flight);
         if self.congestion.on_duplicate(flight, una, next) {
             self.resend = true;
@@ -230,24 +280,38 @@ impl Flow {
     }
 
     // The peer's window.
-    pub(crate) fn on_window(&mut self, window: u32) {
+    pub(crate) fn on_window(&mut self, window: u32)
+        ensures { self.new ≡ record self.old { max_window = max self.old.max_window window } }
+    {
         self.max_window = self.max_window.max(window);
     }
 
     // Nothing was sent for longer than the timeout (RFC 5681, section 4.1).
-    pub(crate) fn on_idle(&mut self) {
+    pub(crate) fn on_idle(&mut self)
+        ensures same { self.new ≡ record self.old { congestion = self.new.congestion } }
+        ensures sender { sender_of self.new.congestion ≡ restarted (sender_of self.old.congestion) }
+    {
         self.congestion.on_idle();
     }
 
     // The SYN goes again.
-    pub(crate) fn back_off(&mut self) {
+    pub(crate) fn back_off(&mut self)
+        ensures same { self.new ≡ record self.old { rto = self.new.rto; timing = None } }
+        ensures backs_off { BacksOff self.old.rto self.new.rto }
+    {
         self.rto.back_off();
         self.timing = None;
     }
 
     // The timer of a loss probe expired: fast recovery begins, and the first segment goes again. Nothing happens if the window is
     // closed, while everything goes again, and for one segment, whose acknowledgement the peer may delay.
-    pub(crate) fn on_probe(&mut self, queue: &Queue) {
+    pub(crate) fn on_probe(&mut self, queue: &Queue)
+        ensures same { self.new ≡ record self.old { congestion = self.new.congestion; resend = self.new.resend; rescued = self.new.rescued; is_probed = true } }
+        ensures first { is_probe_useful self.old queue.now ≡ true → (self.new.resend ≡ true) × (self.new.rescued ≡ 0) }
+        ensures sender { is_probe_useful self.old queue.now ≡ true → sender_of self.new.congestion ≡ probed (sender_of self.old.congestion) queue.now.flight (next_in queue.now) }
+        ensures other { is_probe_useful self.old queue.now ≡ false → self.new ≡ record self.old { is_probed = true } }
+        ensures still { self.old.resend ≡ true → self.new.resend ≡ true }
+    {
         self.is_probed = true;
         if queue.window == 0 || queue.flight <= u32::from(queue.mss) || self.cursor < queue.flight {
             return;
@@ -260,7 +324,11 @@ impl Flow {
     // The timer expired: the first segment goes again, or probes a closed window. With nothing in flight it is one that was too
     // small for its window before.
     pub(crate) fn on_timeout(&mut self, queue: &Queue) -> Piece
-        ensures { IsWithin result queue.now.window self.new.congestion.cwnd }
+        ensures within { IsWithin result queue.now.window self.new.congestion.cwnd }
+        ensures first { result.offset ≡ 0 }
+        ensures times_out { TimesOut self.old self.new queue.now }
+        ensures kind { queue.now.window ≡ 0 → result.kind ≡ Kind.Probe }
+        ensures again { 0 < queue.now.window → result.kind ≡ Kind.Again }
     {
         self.timing = None;
         self.is_probed = true;
@@ -297,7 +365,9 @@ impl Flow {
 
     // The first segment: one item even where the window is closed.
     fn first(&self, queue: &Queue, kind: Kind) -> Piece
-        ensures { IsWithin result queue.now.window self.now.congestion.cwnd }
+        ensures within { IsWithin result queue.now.window self.now.congestion.cwnd }
+        ensures offset { result.offset ≡ 0 }
+        ensures kind { result.kind ≡ kind }
     {
         let usable = self.congestion.may_send(queue.window, 0);
         Piece {
@@ -309,8 +379,13 @@ impl Flow {
 
     // The next segment, if there is one that may go and is worth it.
     pub(crate) fn next(&mut self, queue: &Queue) -> Option<Piece>
-        ensures congestion { self.new.congestion ≡ self.old.congestion }
+        ensures same { self.new ≡ record self.old { resend = false } }
         ensures within { IfSome result (λ p. IsWithin p queue.now.window self.new.congestion.cwnd) }
+        ensures first { self.old.resend ≡ true → MatchOption result ⊥ (λ p. p.offset ≡ 0) }
+        ensures held { result ≡ None → IsHeld self.new queue.now }
+        ensures hole { (offset count : ℕ) → self.old.resend ≡ false → is_in_recovery self.old.congestion.phase ≡ true → IsHole self.old.scoreboard self.old.rescued offset count → 0 < queue.now.mss → offset < min queue.now.window self.old.congestion.cwnd → MatchOption result ⊥ (λ p. p.offset ≡ offset) }
+        ensures place { IsSound self.old queue.now.flight → self.old.resend ≡ false → IfSome result (λ p. (p.offset ≤ queue.now.flight) × (p.offset < queue.now.flight + queue.now.unsent)) }
+        ensures kind { IfSome result (λ p. (p.kind ≡ Kind.Again) ⊎ ((p.kind ≡ Kind.New) × (queue.now.flight ≤ p.offset))) }
     {
         if self.resend {
             self.resend = false;
@@ -339,7 +414,11 @@ impl Flow {
     // In fast recovery: the next items that the peer has not, before some that it has, and that were not sent again (RFC 6675,
     // section 4, rule 1 of NextSeg).
     fn hole(&self, queue: &Queue) -> Option<Piece>
-        ensures { IfSome result (λ p. IsWithin p queue.now.window self.now.congestion.cwnd) }
+        ensures within { IfSome result (λ p. IsWithin p queue.now.window self.now.congestion.cwnd) }
+        ensures kind { IfSome result (λ p. p.kind ≡ Kind.Again) }
+        ensures place { IsSound self.now queue.now.flight → IfSome result (λ p. p.offset < queue.now.flight) }
+        ensures first { (offset count : ℕ) → is_in_recovery self.now.congestion.phase ≡ true → IsHole self.now.scoreboard self.now.rescued offset count → 0 < queue.now.mss → offset < min queue.now.window self.now.congestion.cwnd → MatchOption result ⊥ (λ p. p.offset ≡ offset) }
+        ensures none { result ≡ None → is_in_recovery self.now.congestion.phase ≡ true → 0 < queue.now.mss → HasNoHole self.now.scoreboard self.now.rescued ⊎ IsBeyond self.now.scoreboard self.now.rescued (min queue.now.window self.now.congestion.cwnd) }
     {
         if !self.is_recovering() {
             return None;
@@ -359,8 +438,7 @@ impl Flow {
 
     // So many items after those that were sent.
     fn piece(&self, count: u32, kind: Kind) -> Piece
-        ensures offset { result.offset ≡ self.now.cursor }
-        ensures count { result.count ≡ count }
+        ensures { result ≡ record { offset = self.now.cursor; count = count; kind = kind } }
     {
         Piece {
             offset: self.cursor,
@@ -371,7 +449,11 @@ impl Flow {
 
     // This piece went out, with so many items.
     pub(crate) fn on_sent(&mut self, queue: &Queue, piece: &Piece, items: u32, now: u64)
-        ensures { self.new ≡ record self.old { timing = self.new.timing; cursor = self.new.cursor; rescued = self.new.rescued } }
+        ensures same { self.new ≡ record self.old { timing = self.new.timing; cursor = self.new.cursor; rescued = self.new.rescued } }
+        ensures probe { piece.now.kind ≡ Kind.Probe → self.new ≡ self.old }
+        ensures cursor { (piece.now.kind ≡ Kind.Probe → ⊥) → self.new.cursor ≡ max self.old.cursor (min 4294967295 (piece.now.offset + items)) }
+        ensures again { piece.now.kind ≡ Kind.Again → self.new.timing ≡ None }
+        ensures karn { IfSome self.new.timing (λ t. (self.old.timing ≡ Some t) ⊎ (piece.now.kind ≡ Kind.New)) }
     {
         if piece.kind == Kind::Probe {
             return;
@@ -391,6 +473,8 @@ impl Flow {
 }
 
 // The milliseconds from one time to another.
-fn elapsed(from: u64, to: u64) -> u32 {
+fn elapsed(from: u64, to: u64) -> u32
+    ensures { result ≡ min 4294967295 (to - from) }
+{
     u32::try_from(to.saturating_sub(from)).unwrap_or(u32::MAX)
 }

@@ -1,10 +1,20 @@
 //! Laws of several calls.
 
-ghost use Rattle.std.specs.Prelude.{◌≡◌, ◌≤◌, length, false};
-ghost use Rattle.app_connection.specs.Endpoints.{OutFits, InFits};
+ghost use Rattle.std.specs.Prelude.{◌≡◌, ◌≤◌, length, false, ◌<◌, ◌+◌, ℕ, List, true, MatchOption};
+ghost use Rattle.app_connection.specs.Endpoints.{OutFits, InFits, len_of};
+ghost use Rattle.app_connection.specs.Runs.{BothRead};
 ghost use Rattle.app_connection.specs.States.{has_peer, state_from};
+ghost use Rattle.app_socket.specs.Runs.{Ends, Runs, ends_of};
+ghost use Rattle.tcp_model.specs.Network.{World, Event as WorldEvent, run, start, stream};
+ghost use Rattle.app_tcp.specs.Waits.{Waits, count_of};
+ghost use Rattle.app_options.specs.Timestamps.{takes};
+ghost use Rattle.app_socket.specs.Resends.{ComesAcross, GoesRound, IsSound, is_due};
+ghost use Rattle.app_socket.specs.Segments.{text_of};
+ghost use Rattle.app_socket.specs.Times.{is_open};
 
 use crate::{Event, Socket};
+use app_connection::Segment;
+use wire_tcp_options::TcpOptionSummary;
 
 /// A connection whose peer is silent ends, whatever it still has to send: after ticks at any times, the last one not before the
 /// time at which it ends, there is none.
@@ -23,4 +33,101 @@ pub fn silence_ends(
         let _ = socket.step(outgoing, incoming, *time, Event::Tick);
     }
     let _ = socket.step(outgoing, incoming, last, Event::Tick);
+}
+
+/// What one program reads from a socket is a prefix of what the other one wrote, and all of it once `is_ended` returns true. This
+/// holds for all calls of both programs in any order and at any times, over a network that loses, repeats, reorders and delays
+/// segments. Each end opens once. Each segment that PAWS takes was returned by a call of the other end, and since then each
+/// program wrote less than 2^30 - 1 bytes.
+pub fn two_sockets_deliver()
+    ensures { (p : Ends) → Runs p → BothRead (ends_of p) }
+{}
+
+/// What is not acknowledged goes again from the first item on, at most two expirations of the timer after it was sent, a minute
+/// apart: the first one may be a loss probe. The peer was not silent for too long before.
+pub fn what_is_lost_goes_again<'a>(
+    socket: &mut Socket,
+    outgoing: &'a [u8],
+    incoming: &mut [u8],
+    first: u64,
+    second: u64,
+) -> Option<Segment<'a>>
+    requires out { OutFits socket.old.connection.sending (length outgoing.now) }
+    requires rings { InFits socket.old.connection.receiving (length incoming.old) }
+    requires opened { is_open (state_from socket.old.connection) ≡ true }
+    requires waits { 0 < count_of socket.old.connection.sending }
+    requires due { is_due socket.old.timers.resend_at first ≡ true }
+    requires minute { first + 60000 ≤ second }
+    requires patient { second < socket.old.timers.ends_at }
+    ensures { MatchOption result ⊥ (λ s. (s.number ≡ socket.old.connection.sending.una) × (0 < len_of s)) }
+{
+    let _ = socket.step(outgoing, incoming, first, Event::Tick);
+    socket.step(outgoing, incoming, second, Event::Tick)
+}
+
+/// A round after a loss: the timer expires, after the loss probe. What goes then is a part of the stream from SND.UNA on, and if it
+/// comes to the peer, and its acknowledgement comes back, more is acknowledged than before. The law `all_is_acknowledged` of
+/// `tcp_model` counts such rounds: after one for each item all is acknowledged.
+pub fn a_time_out_goes_on(socket: &mut Socket, outgoing: &[u8], incoming: &mut [u8], now: u64)
+    requires out { OutFits socket.old.connection.sending (length outgoing.now) }
+    requires rings { InFits socket.old.connection.receiving (length incoming.old) }
+    requires opened { is_open (state_from socket.old.connection) ≡ true }
+    requires due { is_due socket.old.timers.resend_at now ≡ true }
+    requires probed { socket.old.flow.is_probed ≡ true }
+    requires patient { now < socket.old.timers.ends_at }
+    ensures { (initial room : ℕ) (events : List WorldEvent) → let there : World = run events (start initial) in Waits there socket.old.connection.sending outgoing.now → there.acked < length (stream there.written there.closed) → there.receiver.is_open ≡ true → 0 < room → ComesAcross there socket.new.connection.sending outgoing.now room }
+{
+    let _ = socket.step(outgoing, incoming, now, Event::Tick);
+}
+
+/// A whole round after a loss. The timer expires, after the loss probe, and then the peer's acknowledgement comes: of all that it
+/// has after what went came. That is a round of `tcp_model` (`goes_on`), after which more is acknowledged than before.
+pub fn a_round_is_acknowledged(
+    socket: &mut Socket,
+    outgoing: &[u8],
+    incoming: &mut [u8],
+    times: (u64, u64),
+    answer: &Segment,
+    options: &TcpOptionSummary,
+)
+    requires out { OutFits socket.old.connection.sending (length outgoing.now) }
+    requires rings { InFits socket.old.connection.receiving (length incoming.old) }
+    requires opened { is_open (state_from socket.old.connection) ≡ true }
+    requires due { is_due socket.old.timers.resend_at times.0 ≡ true }
+    requires probed { socket.old.flow.is_probed ≡ true }
+    requires patient { times.0 < socket.old.timers.ends_at }
+    requires synced { socket.old.connection.receiving.is_open ≡ true }
+    requires number { answer.now.number ≡ socket.old.connection.receiving.next }
+    requires no_rst { answer.now.rst ≡ false }
+    requires bare { len_of answer.now ≡ 0 }
+    requires taken { takes socket.old.agreed.recent options.now.timestamp times.1 ≡ true }
+    ensures { is_open (state_from socket.new.connection) ≡ true → (initial room : ℕ) (events : List WorldEvent) → let there : World = run events (start initial) in Waits there socket.old.connection.sending outgoing.now → there.acked < length (stream there.written there.closed) → there.receiver.is_open ≡ true → 0 < room → GoesRound there socket.new.connection.sending outgoing.now room answer.now.ack }
+{
+    let _ = socket.step(outgoing, incoming, times.0, Event::Tick);
+    let _ = socket.step(
+        outgoing,
+        incoming,
+        times.1,
+        Event::Arrives(answer, options, 0),
+    );
+}
+
+/// Text is not held back: with nothing in flight all that waits goes at the next tick, if it fits a segment and both windows.
+pub fn small_text_goes_at_once<'a>(
+    socket: &mut Socket,
+    outgoing: &'a [u8],
+    incoming: &mut [u8],
+    now: u64,
+) -> Option<Segment<'a>>
+    requires out { OutFits socket.old.connection.sending (length outgoing.now) }
+    requires rings { InFits socket.old.connection.receiving (length incoming.old) }
+    requires opened { is_open (state_from socket.old.connection) ≡ true }
+    requires patient { now < socket.old.timers.ends_at }
+    requires sound { IsSound socket.old.flow socket.old.connection.sending.flight }
+    requires idle { socket.old.connection.sending.flight ≡ 0 }
+    requires waits { 0 < count_of socket.old.connection.sending }
+    requires window { count_of socket.old.connection.sending ≤ socket.old.connection.wnd }
+    ensures { count_of socket.old.connection.sending ≤ text_of socket.new → count_of socket.old.connection.sending ≤ socket.new.flow.congestion.cwnd → MatchOption result ⊥ (λ s. 0 < len_of s) }
+{
+    socket.step(outgoing, incoming, now, Event::Tick)
 }

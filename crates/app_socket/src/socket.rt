@@ -1,12 +1,14 @@
 //! The connection with its timers, and the calls of its application.
 
-ghost use Rattle.std.specs.Prelude.{◌≡◌, ◌==◌, ◌≤◌, ◌<◌, ◌++◌, max, ℕ, List, length, true, false, MatchOption, take};
-ghost use Rattle.tcp_model.specs.Network.{World, Event, Write, happens, run, start, IsPrefixOf};
+ghost use Rattle.std.specs.Prelude.{◌≡◌, ◌==◌, ◌&&◌, ◌≤◌, ◌<◌, ◌++◌, [], max, ℕ, List, length, true, false, MatchOption, take, ◌+◌, nat_lt};
+ghost use Rattle.tcp_model.specs.Network.{World, Event, happens, run, start, IsPrefixOf};
 ghost use Rattle.app_tcp.specs.Stands.{Stands, room_of};
-ghost use Rattle.app_tcp.specs.Waits.{Waits};
 ghost use Rattle.app_connection.specs.SetUp.{In_closed};
 ghost use Rattle.app_connection.specs.Endpoints.{endpoint_of, OutFits, InFits};
 ghost use Rattle.app_connection.specs.States.{state_from, has_peer};
+ghost use Rattle.app_connection.specs.Steps.{Reads, Writes};
+ghost use Rattle.app_tcp.specs.Waits.{count_of, unsent_of};
+ghost use Rattle.app_socket.specs.Resends.{queue_of};
 ghost use Rattle.app_socket.specs.Segments.{GoesAgain, Lowers, header_of, is_in_flight, is_narrower, text_of};
 ghost use Rattle.app_socket.specs.Times.{due_in};
 
@@ -52,6 +54,7 @@ impl Socket {
         ensures options { result.options ≡ options }
         ensures out { (size : ℕ) → 0 < size → size < 1073741824 → OutFits result.connection.sending size }
         ensures rings { (size : ℕ) → 0 < size → size < 1073741824 → InFits result.connection.receiving size }
+        ensures stands { (buffer : List ℕ) → Stands (start 0) [] result.connection.receiving buffer }
     {
         Socket {
             connection: Connection::new(),
@@ -172,8 +175,7 @@ impl Socket {
         requires { OutFits self.old.connection.sending (length outgoing.old) }
         ensures few { result ≤ length bytes.now }
         ensures out { OutFits self.new.connection.sending (length outgoing.old) }
-        ensures receiving { self.new.connection.receiving ≡ self.old.connection.receiving }
-        ensures waits { has_peer (state_from self.old.connection) ≡ true → (w : World) → Waits w self.old.connection.sending outgoing.old → Waits (happens w (Write (take result bytes.now))) self.new.connection.sending outgoing.new }
+        ensures writes { Writes self.old.connection self.new.connection outgoing.old outgoing.new (take result bytes.now) }
         ensures none { has_peer (state_from self.old.connection) ≡ false → result ≡ 0 }
         ensures timers { self.new.timers ≡ self.old.timers }
     {
@@ -185,9 +187,8 @@ impl Socket {
     pub fn read<'a>(&mut self, incoming: &'a [u8], count: usize) -> &'a [u8]
         requires { InFits self.old.connection.receiving (length incoming.now) }
         ensures rings { InFits self.new.connection.receiving (length incoming.now) }
-        ensures sending { self.new.connection.sending ≡ self.old.connection.sending }
         ensures few { length result.now ≤ count }
-        ensures stands { (back : World) (consumed : List ℕ) → Stands back consumed self.old.connection.receiving incoming.now → Stands back (consumed ++ result.now) self.new.connection.receiving incoming.now }
+        ensures reads { Reads self.old.connection self.new.connection incoming.now result.now }
         ensures delivers { (initial : ℕ) (events : List Event) (consumed : List ℕ) → let back : World = run events (start initial) in Stands back consumed self.old.connection.receiving incoming.now → IsPrefixOf (consumed ++ result.now) back.written }
         ensures timers { self.new.timers ≡ self.old.timers }
     {
@@ -196,7 +197,8 @@ impl Socket {
 
     /// Whether the application has read all that the peer wrote, and the peer has closed.
     pub fn is_ended(&self) -> bool
-        ensures { (initial : ℕ) (events : List Event) (consumed buffer : List ℕ) → result ≡ true → let back : World = run events (start initial) in Stands back consumed self.now.connection.receiving buffer → (back.closed ≡ true) × (consumed ≡ back.written) }
+        ensures value { result ≡ (self.now.connection.receiving.has_fin && self.now.connection.receiving.len == 0) }
+        ensures whole { (initial : ℕ) (events : List Event) (consumed buffer : List ℕ) → result ≡ true → let back : World = run events (start initial) in Stands back consumed self.now.connection.receiving buffer → (back.closed ≡ true) × (consumed ≡ back.written) }
     {
         self.connection.is_ended()
     }
@@ -215,7 +217,10 @@ impl Socket {
     }
 
     // Whether something waits: it was not sent, or the peer did not acknowledge it.
-    pub(crate) fn waits(&self) -> bool {
+    pub(crate) fn waits(&self) -> bool
+        ensures value { (size : ℕ) → OutFits self.now.connection.sending size → result ≡ nat_lt 0 (self.now.connection.sending.flight + unsent_of self.now.connection.sending) }
+        ensures some { (size : ℕ) → OutFits self.now.connection.sending size → 0 < count_of self.now.connection.sending → result ≡ true }
+    {
         self.connection.flight() > 0 || self.connection.unsent() > 0
     }
 
@@ -223,6 +228,8 @@ impl Socket {
     pub(crate) fn queue(&self) -> Queue
         ensures una { result.una ≡ self.now.connection.sending.una }
         ensures window { result.window ≡ self.now.connection.wnd }
+        ensures flight { result.flight ≡ self.now.connection.sending.flight }
+        ensures value { (size : ℕ) → OutFits self.now.connection.sending size → result ≡ queue_of self.now }
     {
         Queue {
             una: self.connection.una(),

@@ -1,17 +1,18 @@
 //! One call for everything that can happen.
 
-ghost use Rattle.std.specs.Prelude.{[], max, false, ◌≡◌, ◌<◌, ◌≤◌, ◌⊎◌, ℕ, List, is_some, length, true, Some, None, IfSome, MatchOption};
+ghost use Rattle.std.specs.Prelude.{[], max, false, ◌≡◌, ◌<◌, ◌≤◌, ◌⊎◌, ℕ, List, is_some, length, true, Some, None, IfSome, MatchOption, option_map};
 ghost use Rattle.tcp_model.specs.Network.{World};
 ghost use Rattle.app_tcp.specs.Stands.{Stands, IsAnswer, room_of};
 ghost use Rattle.app_tcp.specs.Waits.{Waits};
-ghost use Rattle.app_connection.specs.declared.state.Phase.TheVariants.{Listen};
 ghost use Rattle.app_connection.specs.SetUp.{In_closed};
 ghost use Rattle.app_connection.specs.Endpoints.{endpoint_of, len_of, OutFits, InFits};
-ghost use Rattle.app_connection.specs.Worlds.{Stand, Went};
-ghost use Rattle.app_connection.specs.Events.{ComesBy, brings_bare, brings_items, called, is_answered};
-ghost use Rattle.app_connection.specs.States.{has_peer, may_close, state_from};
+ghost use Rattle.app_connection.specs.Steps.{Steps};
+ghost use Rattle.app_connection.specs.Worlds.{said};
+ghost use Rattle.app_connection.specs.Events.{brings_bare, brings_items, is_answered};
+ghost use Rattle.app_connection.specs.States.{has_peer, state_from};
 ghost use Rattle.app_socket.specs.Events.{IsShort, IsTick, IsQuiet, move_of};
-ghost use Rattle.app_socket.specs.Segments.{GoesForward, IsSent, has_timestamp, is_stale};
+ghost use Rattle.app_socket.specs.Segments.{GoesForward, IsSent, has_timestamp, is_stale, taken_of};
+ghost use Rattle.app_socket.specs.Resends.{Acknowledges, BeginsBy, Connects, ConnectsBy, LearnsBy, Resends, SendsSyn, is_due};
 ghost use Rattle.app_socket.specs.Times.{due_in, is_open, later, patience_of};
 ghost use Rattle.app_socket.specs.Window.{HasRoom, Tells, end_after, limit_of};
 
@@ -52,7 +53,7 @@ impl Socket {
         requires rings { InFits self.old.connection.receiving (length incoming.old) }
         ensures out { OutFits self.new.connection.sending (length outgoing.now) }
         ensures rings { InFits self.new.connection.receiving (length incoming.old) }
-        ensures goes { (there back : World) (consumed : List ℕ) → (self.old.connection.phase ≡ Listen → ⊥) → (is_stale self.old now event.entry ≡ false → ComesBy (move_of event.entry) there back) → Stand there back consumed self.old.connection outgoing.now incoming.old → Went (called (move_of event.entry) (may_close (state_from self.old.connection)) there) back consumed self.new.connection outgoing.now incoming.new }
+        ensures steps { Steps self.old.connection self.new.connection outgoing.now incoming.old incoming.new (taken_of self.old now event.entry) (option_map said result) }
         ensures ends { IsTick event.entry → has_peer (state_from self.old.connection) ≡ true → self.old.timers.ends_at ≤ now → endpoint_of self.new.connection ≡ In_closed }
         ensures idle { IsTick event.entry → has_peer (state_from self.old.connection) ≡ false → self.new ≡ self.old }
         ensures later { IsQuiet event.entry → self.new.timers.ends_at ≤ self.old.timers.ends_at }
@@ -69,6 +70,12 @@ impl Socket {
         ensures to_bare { is_open (state_from self.old.connection) ≡ true → is_open (state_from self.new.connection) ≡ true → is_stale self.old now event.entry ≡ false → brings_bare (move_of event.entry) ≡ true → is_some result ≡ is_answered (move_of event.entry) self.old.connection (room_of self.old.connection.receiving (length incoming.old)) }
         ensures recent { is_open (state_from self.old.connection) ≡ true → GoesForward self.old.agreed.recent self.new.agreed.recent now }
         ensures patience { self.new.timers.ends_at ≤ max self.old.timers.ends_at (later now (patience_of self.old.options)) }
+        ensures begins { is_open (state_from self.old.connection) ≡ false → is_open (state_from self.new.connection) ≡ true → BeginsBy event.entry self.new }
+        ensures learns { is_open (state_from self.old.connection) ≡ true → is_open (state_from self.new.connection) ≡ true → LearnsBy event.entry self.old self.new outgoing.now (length incoming.old) now }
+        ensures connects { ConnectsBy event.entry self.old self.new now }
+        ensures resends { IsTick event.entry → is_open (state_from self.old.connection) ≡ true → now < self.old.timers.ends_at → Resends self.old self.new outgoing.now now result }
+        ensures acknowledges { IsTick event.entry → is_open (state_from self.old.connection) ≡ true → now < self.old.timers.ends_at → Acknowledges self.old (length incoming.old) now result }
+        ensures again { IsTick event.entry → has_peer (state_from self.old.connection) ≡ true → is_open (state_from self.old.connection) ≡ false → now < self.old.timers.ends_at → is_due self.old.timers.resend_at now ≡ true → SendsSyn self.old self.new now result }
         ensures rests { IsTick event.entry → now < 9223372036854775808 → result ≡ None → IfSome (due_in (state_from self.new.connection) self.new.timers) (λ t. now < t) }
     {
         match event {
@@ -101,10 +108,12 @@ impl Socket {
         requires rings { InFits self.old.connection.receiving (length incoming.old) }
         ensures out { OutFits self.new.connection.sending (length outgoing.now) }
         ensures rings { InFits self.new.connection.receiving (length incoming.old) }
+        ensures connects { has_peer (state_from self.old.connection) ≡ false → Connects self.new now }
         ensures none { is_open (state_from self.old.connection) ≡ true → result ≡ None }
         ensures stays { is_open (state_from self.old.connection) ≡ true → self.new ≡ self.old }
         ensures text { IfSome result (λ s. (s.payload.now ≡ []) × (s.fin ≡ false)) }
         ensures patience { self.new.timers.ends_at ≤ max self.old.timers.ends_at (later now (patience_of self.old.options)) }
+        ensures steps { Steps self.old.connection self.new.connection outgoing.now incoming.old incoming.new (Move.Open iss) (option_map said result) }
     {
         if has_peer(self.connection.state()) {
             return None;
@@ -121,6 +130,8 @@ impl Socket {
     // The SYN with this number goes out.
     pub(crate) fn begin(&mut self, now: u64, iss: u32)
         ensures same { self.new ≡ record self.old { timers = self.new.timers; flow = self.new.flow } }
+        ensures timer { self.new.timers.resend_at ≡ Some (later now 1000) }
+        ensures ends_at { self.new.timers.ends_at ≡ later now 180000 }
         ensures patience { self.new.timers.ends_at ≤ later now (patience_of self.old.options) }
     {
         self.flow.begin(iss.wrapping_add(1), now);

@@ -1,20 +1,24 @@
 //! Time passes.
 
-ghost use Rattle.std.specs.Prelude.{[], false, ◌≡◌, ◌<◌, ◌≤◌, ◌⊎◌, ℕ, List, length, true, Some, None, IfSome, not, ◌||◌};
+ghost use Rattle.std.specs.Prelude.{[], false, ◌≡◌, ◌<◌, ◌≤◌, ◌⊎◌, ℕ, List, length, true, Some, None, IfSome, ◌||◌, option_map, Option, MatchOption, min, ◌+◌, ◌%◌};
 ghost use Rattle.tcp_model.specs.Network.{World};
 ghost use Rattle.app_tcp.specs.Stands.{Stands, IsAnswer};
-ghost use Rattle.app_tcp.specs.Waits.{Waits};
-ghost use Rattle.app_connection.specs.declared.state.Phase.TheVariants.{Listen, Open};
+ghost use Rattle.app_tcp.specs.Waits.{Waits, count_of};
+ghost use Rattle.app_connection.specs.declared.state.Phase.TheVariants.{Open};
 ghost use Rattle.app_connection.specs.SetUp.{In_closed};
-ghost use Rattle.app_connection.specs.Endpoints.{endpoint_of, len_of, OutFits, InFits};
-ghost use Rattle.app_connection.specs.Worlds.{Stand, Went, WaitsLater};
+ghost use Rattle.app_connection.specs.Endpoints.{endpoint_of, len_of, OutFits, InFits, acknowledgement_of};
+ghost use Rattle.app_connection.specs.Steps.{Steps};
+ghost use Rattle.app_connection.specs.Worlds.{Goes, GoesOut, Stand, said};
 ghost use Rattle.app_connection.specs.States.{has_peer, state_from};
+ghost use Rattle.app_congestion.specs.Congestion.{is_in_recovery};
+ghost use Rattle.app_congestion.specs.Scoreboard.{IsHole};
 ghost use Rattle.app_socket.specs.Pieces.{IsWithin};
-ghost use Rattle.app_socket.specs.Segments.{IsSent};
-ghost use Rattle.app_socket.specs.Times.{due_in, is_open};
+ghost use Rattle.app_socket.specs.Resends.{Acknowledges, IsArmed, IsHeld, IsSound, Resends, SendsFirst, SendsSyn, TimesOut, is_due, is_room_news, queue_of};
+ghost use Rattle.app_socket.specs.Segments.{IsSent, text_of};
+ghost use Rattle.app_socket.specs.Times.{due_in, is_open, later};
 ghost use Rattle.app_socket.specs.Window.{HasRoom, Tells, end_after, limit_of};
 
-use crate::flow::Piece;
+use crate::flow::{Piece, Queue};
 use crate::socket::Socket;
 use crate::timers::is_reached;
 use crate::window::{advertised, is_update_due, least_growth, moved};
@@ -46,7 +50,7 @@ impl Socket {
         requires rings { InFits self.old.connection.receiving (length incoming.old) }
         ensures out { OutFits self.new.connection.sending (length outgoing.now) }
         ensures rings { InFits self.new.connection.receiving (length incoming.old) }
-        ensures goes { (there back : World) (consumed : List ℕ) → (self.old.connection.phase ≡ Listen → ⊥) → Stand there back consumed self.old.connection outgoing.now incoming.old → Went there back consumed self.new.connection outgoing.now incoming.new }
+        ensures steps { Steps self.old.connection self.new.connection outgoing.now incoming.old incoming.new (Move.Send 0 0) (option_map said result) }
         ensures ends { has_peer (state_from self.old.connection) ≡ true → self.old.timers.ends_at ≤ now → endpoint_of self.new.connection ≡ In_closed }
         ensures later { self.new.timers.ends_at ≤ self.old.timers.ends_at }
         ensures idle { has_peer (state_from self.old.connection) ≡ false → self.new ≡ self.old }
@@ -57,6 +61,9 @@ impl Socket {
         ensures sends { is_open (state_from self.old.connection) ≡ true → IfSome result (λ s. 0 < len_of s → (there : World) → Waits there self.old.connection.sending outgoing.now → IsSent there s) }
         ensures answers { is_open (state_from self.old.connection) ≡ true → is_open (state_from self.new.connection) ≡ true → IfSome result (λ s. (back : World) (consumed : List ℕ) → Stands back consumed self.new.connection.receiving incoming.new → (s.rst ≡ true) ⊎ IfSome s.ack (λ number. IsAnswer back number)) }
         ensures agreed { self.new.agreed ≡ self.old.agreed }
+        ensures resends { is_open (state_from self.old.connection) ≡ true → now < self.old.timers.ends_at → Resends self.old self.new outgoing.now now result }
+        ensures acknowledges { is_open (state_from self.old.connection) ≡ true → now < self.old.timers.ends_at → Acknowledges self.old (length incoming.old) now result }
+        ensures again { has_peer (state_from self.old.connection) ≡ true → is_open (state_from self.old.connection) ≡ false → now < self.old.timers.ends_at → is_due self.old.timers.resend_at now ≡ true → SendsSyn self.old self.new now result }
         ensures rests { now < 9223372036854775808 → result ≡ None → IfSome (due_in (state_from self.new.connection) self.new.timers) (λ t. now < t) }
     {
         let state = self.connection.state();
@@ -84,8 +91,9 @@ impl Socket {
         ensures out { OutFits self.new.connection.sending (length outgoing.now) }
         ensures receiving { self.new.connection.receiving ≡ self.old.connection.receiving }
         ensures endpoint { endpoint_of self.new.connection ≡ endpoint_of self.old.connection }
-        ensures waits { (there : World) → Waits there self.old.connection.sending outgoing.now → WaitsLater there self.new.connection.sending outgoing.now }
+        ensures goes { (there back : World) (consumed buffer : List ℕ) → Stand there back consumed self.old.connection outgoing.now buffer → Goes there back consumed self.new.connection outgoing.now buffer (option_map said result) }
         ensures agreed { self.new.agreed ≡ self.old.agreed }
+        ensures again { is_due self.old.timers.resend_at now ≡ true → SendsSyn self.old self.new now result }
         ensures ends_at { self.new.timers.ends_at ≡ self.old.timers.ends_at }
         ensures resend { now < 9223372036854775808 → IfSome self.new.timers.resend_at (λ t. now < t) }
     {
@@ -108,7 +116,7 @@ impl Socket {
         requires rings { InFits self.old.connection.receiving incoming }
         ensures out { OutFits self.new.connection.sending (length outgoing.now) }
         ensures receiving { self.new.connection.receiving ≡ self.old.connection.receiving }
-        ensures waits { (there : World) → Waits there self.old.connection.sending outgoing.now → WaitsLater there self.new.connection.sending outgoing.now }
+        ensures goes { (there back : World) (consumed buffer : List ℕ) → Stand there back consumed self.old.connection outgoing.now buffer → Goes there back consumed self.new.connection outgoing.now buffer (option_map said result) }
         ensures agreed { self.new.agreed ≡ self.old.agreed }
         ensures ends_at { self.new.timers.ends_at ≤ self.old.timers.ends_at }
         ensures still { now < 9223372036854775808 → now < self.old.timers.ends_at → now < self.new.timers.ends_at }
@@ -120,6 +128,8 @@ impl Socket {
         ensures keeps { HasRoom self.old.edge self.old.connection.receiving incoming → HasRoom self.new.edge self.old.connection.receiving incoming }
         ensures acks { IfSome result (λ s. self.new.timers.ack_at ≡ None) }
         ensures ack { result ≡ None → IfSome self.new.timers.ack_at (λ t. now < t) }
+        ensures resends { self.old.connection.phase ≡ Open → has_peer (state_from self.old.connection) ≡ true → Resends self.old self.new outgoing.now now result }
+        ensures acknowledges { self.old.connection.phase ≡ Open → Acknowledges self.old incoming now result }
         ensures probe { result ≡ None → (state_from self.new.connection ≡ State.TimeWait → ⊥) → self.new.timers.resend_at ≡ None → now < self.new.timers.probe_at }
     {
         if let Some(segment) = self.next_text(outgoing, incoming, now) {
@@ -147,11 +157,16 @@ impl Socket {
         requires rings { InFits self.old.connection.receiving incoming }
         ensures out { OutFits self.new.connection.sending (length outgoing.now) }
         ensures receiving { self.new.connection.receiving ≡ self.old.connection.receiving }
-        ensures waits { (there : World) → Waits there self.old.connection.sending outgoing.now → WaitsLater there self.new.connection.sending outgoing.now }
+        ensures goes { (there back : World) (consumed buffer : List ℕ) → Stand there back consumed self.old.connection outgoing.now buffer → Goes there back consumed self.new.connection outgoing.now buffer (option_map said result) }
         ensures ends_at { self.new.timers.ends_at ≤ self.old.timers.ends_at }
         ensures still { now < 9223372036854775808 → now < self.old.timers.ends_at → now < self.new.timers.ends_at }
         ensures resend { now < 9223372036854775808 → IfSome self.new.timers.resend_at (λ t. now < t) }
         ensures edge { self.new.edge ≡ self.old.edge }
+        ensures resends { self.old.connection.phase ≡ Open → has_peer (state_from self.old.connection) ≡ true → Resends self.old self.new outgoing.now now result }
+        ensures none { result ≡ None → self.new.connection ≡ self.old.connection }
+        ensures items { self.old.connection.phase ≡ Open → IfSome result (λ s. 0 < len_of s) }
+        ensures same { self.new ≡ record self.old { connection = self.new.connection; timers = self.new.timers; flow = self.new.flow } }
+        ensures ack_at { self.new.timers.ack_at ≡ self.old.timers.ack_at }
         ensures agreed { self.new.agreed ≡ self.old.agreed }
         ensures sends { self.old.connection.phase ≡ Open → IfSome result (λ s. (there : World) → Waits there self.old.connection.sending outgoing.now → IsSent there s) }
         ensures within { self.old.connection.phase ≡ Open → IfSome result (λ s. end_after self.old.connection.sending.una s ≤ limit_of self.old.connection.wnd self.new.flow.congestion.cwnd) }
@@ -169,27 +184,83 @@ impl Socket {
         ensures still { now < 9223372036854775808 → now < self.old.timers.ends_at → now < self.new.timers.ends_at }
         ensures resend { now < 9223372036854775808 → IfSome self.new.timers.resend_at (λ t. now < t) }
         ensures within { IfSome result (λ p. IsWithin p self.new.connection.wnd self.new.flow.congestion.cwnd) }
+        ensures armed { (size : ℕ) → OutFits self.old.connection.sending size → 0 < count_of self.old.connection.sending → IsArmed self.old.timers.resend_at self.new.timers.resend_at now }
+        ensures expires { (size : ℕ) → OutFits self.old.connection.sending size → 0 < count_of self.old.connection.sending → is_due self.old.timers.resend_at now ≡ true → self.old.flow.is_probed ≡ true → MatchOption result ⊥ (λ p. p.offset ≡ 0) }
+        ensures times_out { (size : ℕ) → OutFits self.old.connection.sending size → 0 < count_of self.old.connection.sending → is_due self.old.timers.resend_at now ≡ true → self.old.flow.is_probed ≡ true → TimesOut self.old.flow self.new.flow (queue_of self.old) }
+        ensures probed { (size : ℕ) → OutFits self.old.connection.sending size → 0 < count_of self.old.connection.sending → is_due self.old.timers.resend_at now ≡ true → self.new.flow.is_probed ≡ true }
+        ensures again { self.old.flow.resend ≡ true → MatchOption result ⊥ (λ p. p.offset ≡ 0) }
+        ensures ack_at { self.new.timers.ack_at ≡ self.old.timers.ack_at }
+        ensures stays { self.old.flow.is_probed ≡ true → self.new.flow.is_probed ≡ true }
+        ensures patience { (size : ℕ) → OutFits self.old.connection.sending size → 0 < count_of self.old.connection.sending → is_due self.old.timers.resend_at now ≡ true → self.new.timers.ends_at ≡ self.old.timers.ends_at }
+        ensures place { (size : ℕ) → OutFits self.old.connection.sending size → 0 < count_of self.old.connection.sending → self.old.connection.sending.flight ≤ count_of self.old.connection.sending → IsSound self.old.flow self.old.connection.sending.flight → IfSome result (λ p. (p.offset ≤ self.old.connection.sending.flight) × (p.offset < count_of self.old.connection.sending)) }
+        ensures sound { (flight : ℕ) → IsSound self.old.flow flight → IsSound self.new.flow flight }
+        ensures held { (size : ℕ) → OutFits self.old.connection.sending size → result ≡ None → IsHeld self.new.flow (queue_of self.new) }
+        ensures hole { (size offset count : ℕ) → OutFits self.old.connection.sending size → now < 9223372036854775808 → is_due self.old.timers.resend_at now ≡ false → self.old.flow.resend ≡ false → is_in_recovery self.old.flow.congestion.phase ≡ true → IsHole self.old.flow.scoreboard self.old.flow.rescued offset count → 0 < text_of self.old → offset < min self.old.connection.wnd self.new.flow.congestion.cwnd → MatchOption result ⊥ (λ p. p.offset ≡ offset) }
+        ensures rto { now < 9223372036854775808 → is_due self.old.timers.resend_at now ≡ false → self.new.flow.rto ≡ self.old.flow.rto }
+        ensures calm { now < 9223372036854775808 → is_due self.old.timers.resend_at now ≡ false → (self.new.flow.congestion.phase ≡ self.old.flow.congestion.phase) × (self.new.flow.congestion.duplicates ≡ self.old.flow.congestion.duplicates) }
     {
         let queue = self.queue();
+        self.run_timer(now);
+        if let Some(piece) = self.expire(&queue, now) {
+            return Some(piece);
+        }
+        self.flow.next(&queue)
+    }
+
+    // The retransmission timer runs if something waits, and only then. Something that begins to wait after an idle time does so
+    // with a smaller cwnd.
+    fn run_timer(&mut self, now: u64)
+        ensures same { self.new ≡ record self.old { timers = self.new.timers; flow = record self.old.flow { congestion = self.new.flow.congestion } } }
+        ensures ends_at { self.new.timers.ends_at ≤ self.old.timers.ends_at }
+        ensures still { now < 9223372036854775808 → now < self.old.timers.ends_at → now < self.new.timers.ends_at }
+        ensures armed { (size : ℕ) → OutFits self.old.connection.sending size → 0 < count_of self.old.connection.sending → IsArmed self.old.timers.resend_at self.new.timers.resend_at now }
+        ensures sound { (flight : ℕ) → IsSound self.old.flow flight → IsSound self.new.flow flight }
+        ensures ack_at { self.new.timers.ack_at ≡ self.old.timers.ack_at }
+        ensures due { (size : ℕ) → OutFits self.old.connection.sending size → 0 < count_of self.old.connection.sending → is_due self.old.timers.resend_at now ≡ true → self.new ≡ self.old }
+        ensures phase { self.new.flow.congestion.phase ≡ self.old.flow.congestion.phase }
+        ensures duplicates { self.new.flow.congestion.duplicates ≡ self.old.flow.congestion.duplicates }
+        ensures rests { now < 9223372036854775808 → is_due self.old.timers.resend_at now ≡ false → is_due self.new.timers.resend_at now ≡ false }
+    {
         let waits = self.waits();
-        let rto = self.flow.timeout();
         if waits
             && self.timers.resend_at.is_none()
-            && self.timers.is_idle(now, self.options.idle_time(), rto)
+            && self
+                .timers
+                .is_idle(now, self.options.idle_time(), self.flow.timeout())
         {
             self.flow.on_idle();
         }
         self.timers.run(now, self.flow.timer(), waits);
-        let is_due = is_reached(self.timers.resend_at, now);
-        if is_due && self.flow.is_probing() {
-            self.flow.on_probe(&queue);
-            self.timers.restart(now, rto, true);
-        } else if is_due {
-            let piece = self.flow.on_timeout(&queue);
-            self.timers.restart(now, self.flow.timeout(), true);
-            return Some(piece);
+    }
+
+    // If the timer expires it starts anew (RFC 6298, sections 5.4 to 5.6): that of a loss probe, or the retransmission timer, and
+    // then the first segment goes again.
+    fn expire(&mut self, queue: &Queue, now: u64) -> Option<Piece>
+        ensures same { self.new ≡ record self.old { timers = record self.old.timers { resend_at = self.new.timers.resend_at }; flow = self.new.flow } }
+        ensures resend { now < 9223372036854775808 → IfSome self.new.timers.resend_at (λ t. now < t) }
+        ensures armed { (before : Option ℕ) → IsArmed before self.old.timers.resend_at now → IsArmed before self.new.timers.resend_at now }
+        ensures rests { is_due self.old.timers.resend_at now ≡ false → (self.new ≡ self.old) × (result ≡ None) }
+        ensures within { IfSome result (λ p. IsWithin p queue.now.window self.new.flow.congestion.cwnd) }
+        ensures first { IfSome result (λ p. p.offset ≡ 0) }
+        ensures some { is_due self.old.timers.resend_at now ≡ true → self.old.flow.is_probed ≡ true → MatchOption result ⊥ (λ p. p.offset ≡ 0) }
+        ensures times_out { is_due self.old.timers.resend_at now ≡ true → self.old.flow.is_probed ≡ true → TimesOut self.old.flow self.new.flow queue.now }
+        ensures probed { is_due self.old.timers.resend_at now ≡ true → self.new.flow.is_probed ≡ true }
+        ensures stays { self.old.flow.is_probed ≡ true → self.new.flow.is_probed ≡ true }
+        ensures again { result ≡ None → self.old.flow.resend ≡ true → self.new.flow.resend ≡ true }
+        ensures sound { (flight : ℕ) → IsSound self.old.flow flight → IsSound self.new.flow flight }
+    {
+        if !is_reached(self.timers.resend_at, now) {
+            return None;
         }
-        self.flow.next(&queue)
+        if self.flow.is_probing() {
+            let rto = self.flow.timeout();
+            self.flow.on_probe(queue);
+            self.timers.restart(now, rto, true);
+            return None;
+        }
+        let piece = self.flow.on_timeout(queue);
+        self.timers.restart(now, self.flow.timeout(), true);
+        Some(piece)
     }
 
     // The segment of a piece.
@@ -205,8 +276,16 @@ impl Socket {
         ensures same { self.new ≡ record self.old { connection = self.new.connection; flow = self.new.flow } }
         ensures out { OutFits self.new.connection.sending (length outgoing.now) }
         ensures receiving { self.new.connection.receiving ≡ self.old.connection.receiving }
-        ensures waits { (there : World) → Waits there self.old.connection.sending outgoing.now → WaitsLater there self.new.connection.sending outgoing.now }
-        ensures congestion { self.new.flow.congestion ≡ self.old.flow.congestion }
+        ensures goes { (there back : World) (consumed buffer : List ℕ) → Stand there back consumed self.old.connection outgoing.now buffer → Goes there back consumed self.new.connection outgoing.now buffer (option_map said result) }
+        ensures flow { self.new.flow ≡ record self.old.flow { timing = self.new.flow.timing; cursor = self.new.flow.cursor; rescued = self.new.flow.rescued } }
+        ensures only { self.new.connection ≡ record self.old.connection { sending = record self.old.connection.sending { flight = self.new.connection.sending.flight } } }
+        ensures some { self.old.connection.phase ≡ Open → has_peer (state_from self.old.connection) ≡ true → 0 < piece.now.count → piece.now.offset ≤ self.old.connection.sending.flight → piece.now.offset < count_of self.old.connection.sending → MatchOption result ⊥ (λ s. 0 < len_of s) }
+        ensures none { result ≡ None → self.new ≡ self.old }
+        ensures items { self.old.connection.phase ≡ Open → IfSome result (λ s. 0 < len_of s) }
+        ensures number { self.old.connection.phase ≡ Open → piece.now.offset ≤ self.old.connection.sending.flight → piece.now.offset < count_of self.old.connection.sending → IfSome result (λ s. s.number ≡ (self.old.connection.sending.una + piece.now.offset) % 4294967296) }
+        ensures nothing { self.old.connection.phase ≡ Open → count_of self.old.connection.sending ≡ 0 → result ≡ None }
+        ensures sound { self.old.connection.phase ≡ Open → piece.now.offset ≤ self.old.connection.sending.flight → piece.now.offset < count_of self.old.connection.sending → IsSound self.old.flow self.old.connection.sending.flight → IsSound self.new.flow self.new.connection.sending.flight }
+        ensures first { self.old.connection.phase ≡ Open → has_peer (state_from self.old.connection) ≡ true → 0 < piece.now.count → piece.now.offset ≡ 0 → 0 < count_of self.old.connection.sending → SendsFirst self.old.connection.sending self.new.connection.sending outgoing.now result }
         ensures sends { self.old.connection.phase ≡ Open → IfSome result (λ s. (there : World) → Waits there self.old.connection.sending outgoing.now → IsSent there s) }
         ensures within { self.old.connection.phase ≡ Open → (window : ℕ) → IsWithin piece.now window self.old.flow.congestion.cwnd → IfSome result (λ s. end_after self.old.connection.sending.una s ≤ limit_of window self.old.flow.congestion.cwnd) }
     {
@@ -233,6 +312,7 @@ impl Socket {
     // Whether the peer has to hear of the room that the application made.
     fn is_update_due(&self, incoming: usize) -> bool
         requires { InFits self.now.connection.receiving incoming }
+        ensures { self.now.connection.receiving.is_open ≡ true → result ≡ is_room_news self.now incoming }
     {
         let is_before_end = matches!(
             self.connection.state(),
@@ -254,6 +334,9 @@ impl Socket {
         ensures same { self.new ≡ record self.old { timers = record self.old.timers { ack_at = None }; edge = self.new.edge } }
         ensures text { (result.payload.now ≡ []) × (result.fin ≡ false) }
         ensures len { len_of result ≡ 0 }
+        ensures goes_out { (there back : World) (consumed buffer : List ℕ) → Stands back consumed self.old.connection.receiving buffer → GoesOut there back (said result) }
+        ensures ack { result.ack ≡ (acknowledgement_of self.old.connection).ack }
+        ensures number { result.number ≡ number }
         ensures answers { (back : World) (consumed buffer : List ℕ) → Stands back consumed self.old.connection.receiving buffer → IfSome result.ack (λ number. IsAnswer back number) }
         ensures tells { IfSome result.ack (λ ack. Tells self.old.edge self.new.edge self.old.connection.receiving incoming ack result.window) }
         ensures keeps { HasRoom self.old.edge self.old.connection.receiving incoming → HasRoom self.new.edge self.old.connection.receiving incoming }
@@ -275,6 +358,8 @@ impl Socket {
         requires { InFits self.old.connection.receiving incoming }
         ensures same { self.new ≡ record self.old { timers = record self.old.timers { ack_at = None }; edge = self.new.edge } }
         ensures segment { result ≡ record segment.entry { ack = result.ack; window = result.window } }
+        ensures goes_out { (there back : World) (consumed buffer : List ℕ) → Stands back consumed self.old.connection.receiving buffer → GoesOut there back (said segment.entry) → GoesOut there back (said result) }
+        ensures ack { result.ack ≡ (acknowledgement_of self.old.connection).ack }
         ensures answers { (back : World) (consumed buffer : List ℕ) → Stands back consumed self.old.connection.receiving buffer → IfSome result.ack (λ number. IsAnswer back number) }
         ensures tells { IfSome result.ack (λ ack. Tells self.old.edge self.new.edge self.old.connection.receiving incoming ack result.window) }
         ensures keeps { HasRoom self.old.edge self.old.connection.receiving incoming → HasRoom self.new.edge self.old.connection.receiving incoming }

@@ -1,6 +1,7 @@
 //! The timers, in milliseconds on the caller's clock.
 
 ghost use Rattle.std.specs.Prelude.{◌≡◌, ◌≤◌, ◌+◌, ◌<◌, min, true, false, if◌then◌else◌, Option, Some, None, IfSome};
+ghost use Rattle.app_socket.specs.Resends.{is_due};
 ghost use Rattle.app_socket.specs.Times.{later, earlier, first_of, first_in_set_up, first_in_time_wait};
 
 // How long the peer may stay silent while the connection is set up, and later while something waits for it (RFC 9293,
@@ -35,7 +36,8 @@ pub(crate) struct Timers {
 
 // Whether it is time.
 pub(crate) fn is_reached(time: Option<u64>, now: u64) -> bool
-    ensures { result ≡ false → IfSome time (λ t. now < t) }
+    ensures value { result ≡ is_due time now }
+    ensures before { result ≡ false → IfSome time (λ t. now < t) }
 {
     match time {
         Some(time) => time <= now,

@@ -41,11 +41,11 @@ ack_still w (Some a) = cond_both (is_alive w.acked a.place) _ _ (Still w) (λ ye
 same_sender : (w : World) (receiver : Receiver) (acks : List Ack) (later : Segment) (c : Sending) (b : List ℕ) → Waits w c b → Waits (record w { receiver = receiver; acks = acks; later = later }) c b
 same_sender w receiver acks later c b waits = record { una = waits.una; flight = waits.flight; within = waits.within; closed = waits.closed; still = waits.still; held = waits.held }
 
-segment_sender : (w : World) (room : ℕ) (o : Option Segment) (c : Sending) (b : List ℕ) → Waits w c b → Waits (segment_comes w room o) c b
+pub segment_sender : (w : World) (room : ℕ) (o : Option Segment) (c : Sending) (b : List ℕ) → Waits w c b → Waits (segment_comes w room o) c b
 segment_sender w room None c b waits = waits
 segment_sender w room (Some s) c b waits = cond_both (is_alive (length w.receiver.got) s.place) _ _ (λ (v : World). Waits v c b) (λ yes. same_sender w _ w.acks w.later c b waits) (λ no. waits)
 
-answer_sender : (w : World) (c : Sending) (b : List ℕ) → Waits w c b → Waits (happens w Answer) c b
+pub answer_sender : (w : World) (c : Sending) (b : List ℕ) → Waits w c b → Waits (happens w Answer) c b
 answer_sender w c b waits = cond_both w.receiver.is_open _ _ (λ (v : World). Waits v c b) (λ yes. same_sender w w.receiver _ w.later c b waits) (λ no. waits)
 
 -- what the receiver does with a segment leaves the sender, and takes no less
@@ -97,14 +97,14 @@ send_acked w offset count =
     cond_both (nat_lt (length (stream w.written w.closed)) (w.acked + offset)) _ _ (λ (v : World). v.acked ≡ w.acked) (λ past. refl)
     (λ within. cond_both (nat_lt (w.acked + 2147483648) (w.acked + offset + length items)) _ _ (λ (v : World). v.acked ≡ w.acked) (λ far. refl) (λ near. refl))
 
-true_test : (a b : ℕ) → a < b → nat_lt a b ≡ true
+pub true_test : (a b : ℕ) → a < b → nat_lt a b ≡ true
 true_test a b lt = grind (arith, nat_tests)
 
 -- a receiver with a FIN has all
 all_got : (w : World) → Good w → is_ended w.receiver.got ≡ true → length (stream w.written w.closed) ≤ length w.receiver.got
 all_got w good ended = end_all w.written w.closed (length w.receiver.got) (subst (λ (l : List Item). is_ended l ≡ true) (part_first (stream w.written w.closed) w.receiver.got good.got) ended)
 
-answer_acked : (w : World) → (happens w Answer).acked ≡ w.acked
+pub answer_acked : (w : World) → (happens w Answer).acked ≡ w.acked
 answer_acked w = cond_both w.receiver.is_open _ _ (λ (v : World). v.acked ≡ w.acked) (λ yes. refl) (λ no. refl)
 
 finish : (w : World) (consumed : List ℕ) (s : Sending) (o : List ℕ) (r : Receiving) (i : List ℕ) (events : List Event) (v : World) → v ≡ run events w → Waits v s o → Stands v consumed r i → w.acked < v.acked → GoesOn w consumed s o r i

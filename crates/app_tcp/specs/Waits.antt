@@ -24,6 +24,10 @@ pub record Waits (w : World) (c : Sending) (buffer : List ℕ) : Type 0 where
   pub still : c.is_closed ≡ false → c.has_fin ≡ false
   pub held : drop w.acked (stream w.written w.closed) ≡ pending c buffer
 
+-- how many items are not acknowledged: those in flight, and those that were never sent
+abbrev pub count_of : Sending → ℕ
+count_of c = length (syn_of c.has_syn) + c.len + length (end_of c.has_fin)
+
 -- how many items were never sent: those that are not acknowledged, without those in flight
 abbrev pub unsent_of : Sending → ℕ
 unsent_of c = length (syn_of c.has_syn) + c.len + length (end_of c.has_fin) - c.flight

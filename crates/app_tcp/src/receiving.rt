@@ -52,6 +52,7 @@ impl Receiving {
         ensures begin { self.new.start ≡ self.old.start }
         ensures len { reach self.new ≡ reach self.old }
         ensures again { self.old.is_open ≡ true → self.new ≡ self.old }
+        ensures first { self.old.is_open ≡ false → (self.new.is_open ≡ true) × (self.new.next ≡ (number + 1) % 4294967296) }
         ensures opens { (w : World) (consumed buffer : List ℕ) (which : ℕ) (rest : List Item) → self.old.is_open ≡ false → SegmentComes w which number (Syn ∷ rest) → Stands w consumed self.old buffer → Stands (happens w (Segment_comes which 1)) consumed self.new buffer }
     {
         if !self.is_open {

@@ -4,7 +4,7 @@ ghost use Rattle.std.specs.Prelude.{◌≡◌, ◌&&◌, ◌||◌, nat_lt, ◌+�
 ghost use Rattle.tcp_model.specs.Endpoint.{Item, Syn, distance};
 ghost use Rattle.tcp_model.specs.Network.{World, Event, Write, Close, Send, Ack_comes, happens, run, start, number_at};
 ghost use Rattle.app_tcp.specs.Items.{items_of, syn_of};
-ghost use Rattle.app_tcp.specs.Waits.{Waits, AckComes, IsSend, from_of, pending, rest_of, unsent_of};
+ghost use Rattle.app_tcp.specs.Waits.{Waits, AckComes, IsSend, count_of, from_of, pending, rest_of, unsent_of};
 
 use crate::ring::{RING_LIMIT, put, wrapped};
 
@@ -74,6 +74,7 @@ impl Sending {
         requires small { length ring.old < 1073741824 }
         ensures start { self.new.start < length ring.old }
         ensures len { self.new.len ≤ length ring.old }
+        ensures same { self.new ≡ record self.old { len = self.new.len } }
         ensures count { result ≡ (if self.old.is_closed then 0 else min (length bytes.now) (length ring.old - self.old.len)) }
         ensures waits { (w : World) → Waits w self.old ring.old → Waits (happens w (Write (take result bytes.now))) self.new ring.new }
     {
@@ -90,6 +91,7 @@ impl Sending {
     pub fn close(&mut self)
         ensures start { self.new.start ≡ self.old.start }
         ensures len { self.new.len ≡ self.old.len }
+        ensures same { self.new ≡ record self.old { has_fin = self.new.has_fin; is_closed = true } }
         ensures closed { self.new.is_closed ≡ true }
         ensures fin { self.old.is_closed ≡ false → self.new.has_fin ≡ true }
         ensures waits { (w : World) (buffer : List ℕ) → Waits w self.old buffer → Waits (happens w Close) self.new buffer }
@@ -107,6 +109,7 @@ impl Sending {
         requires small { length ring.now < 1073741824 }
         ensures start { self.new.start < length ring.now }
         ensures len { self.new.len ≤ length ring.now }
+        ensures flight { self.new.flight + distance self.new.una self.old.una ≡ self.old.flight }
         ensures una { self.new.una ≡ (if nat_lt self.old.flight (distance number self.old.una) then self.old.una else number) }
         ensures waits { (w : World) (which : ℕ) → AckComes w which number → Waits w self.old ring.now → Waits (happens w (Ack_comes which)) self.new ring.now }
         ensures counted { (initial : ℕ) (events : List Event) (which : ℕ) → AckComes (run events (start initial)) which number → let v : World = happens (run events (start initial)) (Ack_comes which) in v.acked ≤ length v.receiver.got }
@@ -126,8 +129,7 @@ impl Sending {
         requires start { self.old.start < length ring.now }
         requires len { self.old.len ≤ length ring.now }
         requires small { length ring.now < 1073741824 }
-        ensures start { self.new.start ≡ self.old.start }
-        ensures len { self.new.len ≡ self.old.len }
+        ensures same { self.new ≡ record self.old { flight = self.new.flight } }
         ensures legal { (w : World) → Waits w self.old ring.now → IsSend w (from_of self.old offset) result.number (items_of result.syn result.payload.now result.fin) }
         ensures waits { (w : World) → Waits w self.old ring.now → Waits (happens w (Send (from_of self.old offset) (length (items_of result.syn result.payload.now result.fin)))) self.new ring.now }
         ensures flight { self.new.flight ≡ max self.old.flight (from_of self.old offset + length (items_of result.syn result.payload.now result.fin)) }
@@ -135,6 +137,8 @@ impl Sending {
         ensures few { length result.payload.now ≤ count }
         ensures inner { length result.payload.now ≤ length ring.now }
         ensures syn { self.old.has_syn ≡ false → result.syn ≡ false }
+        ensures brings { 0 < count → offset < count_of self.old → 0 < length result.payload.now + (if result.syn then 1 else 0) + (if result.fin then 1 else 0) }
+        ensures at_una { offset ≡ 0 → result.number ≡ self.old.una }
         ensures first { self.old.has_syn ≡ true → offset ≡ 0 → items_of result.syn result.payload.now result.fin ≡ Syn ∷ [] }
         ensures number { result.number ≡ (self.old.una + from_of self.old offset) % 4294967296 }
         ensures most { length result.payload.now + (if result.syn then 1 else 0) + (if result.fin then 1 else 0) ≤ max 1 count }
@@ -171,6 +175,8 @@ impl Sending {
         ensures few { length result.payload.now ≤ count }
         ensures inner { length result.payload.now ≤ length ring.now }
         ensures syn { self.now.has_syn ≡ false → result.syn ≡ false }
+        ensures brings { 0 < count → from < count_of self.now → 0 < length result.payload.now + (if result.syn then 1 else 0) + (if result.fin then 1 else 0) }
+        ensures at_una { from ≡ 0 → result.number ≡ self.now.una }
         ensures first { self.now.has_syn ≡ true → from ≡ 0 → items_of result.syn result.payload.now result.fin ≡ Syn ∷ [] }
         ensures most { length result.payload.now + (if result.syn then 1 else 0) + (if result.fin then 1 else 0) ≤ max 1 count }
     {

@@ -1,3 +1,5 @@
 pub mod Delivered
 pub mod Kept
 pub mod Meeting
+pub mod Saying
+pub mod Delivery

@@ -1,5 +1,5 @@
 -- What one event makes of the fields of a socket.
-use Rattle.std.proofs.Common.{◌≡◌, inl, inr, refl, sym, subst, ℕ, ℤ, List, length}
+use Rattle.std.proofs.Common.{◌≡◌, inl, inr, refl, sym, ℕ, ℤ, List, length}
 use Rattle.std.specs.Prelude.{Option}
 use Rattle.app_connection.specs.declared.segment.Segment.{Segment}
 use Rattle.app_socket.specs.Fields.{socket_of}

@@ -1,6 +1,6 @@
 -- What the calls of the application that need no ring make of a connection.
 -- Pinned by: `judge`
-use Rattle.std.specs.Prelude.{ℕ, ℤ, pos, ◌≡◌, ◌⊎◌, true, false, List, max}
+use Rattle.std.specs.Prelude.{ℕ, ℤ, pos, ◌≡◌, ◌⊎◌, true, false, List, Option, None, IfSome, max}
 use Rattle.tcp_model.specs.Network.{World, Close, happens}
 use Rattle.app_tcp.specs.Waits.{Waits}
 use Rattle.app_connection.specs.declared.state.State.{State}
@@ -8,6 +8,9 @@ use Rattle.app_connection.specs.declared.state.State.TheVariants.{Closed, Listen
 use Rattle.app_connection.specs.Endpoints.{endpoint_of}
 use Rattle.app_connection.specs.SetUp.{In_closed, In_listen}
 use Rattle.app_connection.specs.States.{may_close, state_closed, state_from}
+use Rattle.app_connection.specs.Steps.{Steps}
+use Rattle.app_connection.specs.Worlds.{Said}
+use Rattle.app_connection.specs.declared.step.Event.TheVariants as move
 use Rattle.app_socket.specs.Segments.{GoesAgain, Lowers, is_narrower}
 use Rattle.app_socket.specs.declared.socket.Socket.{Socket}
 use Rattle.c_socket.specs.Segments.{IsReset}
@@ -32,6 +35,7 @@ pub record Listens (old new : Socket) : Type 0 where
   pub same : new ≡ record old { connection = new.connection }
   pub listens : state_from old.connection ≡ Closed → endpoint_of new.connection ≡ In_listen
   pub stays : (state_from old.connection ≡ Closed → ⊥) → new ≡ old
+  pub steps : (outgoing incoming : List ℕ) → Steps old.connection new.connection outgoing incoming incoming move.Listen None
 
 -- The application writes no more (section 3.10.4): a FIN follows what it wrote.
 pub record Closes (old new : Socket) : Type 0 where
@@ -41,6 +45,7 @@ pub record Closes (old new : Socket) : Type 0 where
   pub waits : may_close (state_from old.connection) ≡ true → (there : World) (outgoing : List ℕ)
       → Waits there old.connection.sending outgoing → Waits (happens there Close) new.connection.sending outgoing
   pub stays : may_close (state_from old.connection) ≡ false → new.connection.sending ≡ old.connection.sending
+  pub steps : (outgoing incoming : List ℕ) → Steps old.connection new.connection outgoing incoming incoming move.Close None
 
 -- 1 is returned and an RST is stored; or 0, and nothing is
 abbrev pub StoresReset : SegmentFields → SegmentFields → ℤ → Type 0
@@ -53,6 +58,9 @@ pub record Aborts (old new : Socket) (out out' : SegmentFields) (code : ℤ) : T
   pub closed : endpoint_of new.connection ≡ In_closed
   pub sending : new.connection.sending ≡ old.connection.sending
   pub receiving : new.connection.receiving ≡ old.connection.receiving
+  pub given : Option Said
+  pub reset : IfSome given (λ s. s.rst ≡ true)
+  pub steps : (outgoing incoming : List ℕ) → Steps old.connection new.connection outgoing incoming incoming move.Abort given
   pub stores : StoresReset out out' code
 
 -- The path takes segments of `mss` bytes, by an error about one in flight: what is in flight goes again in such segments.

@@ -1,20 +1,21 @@
 -- What the calls of a connection return and store.
 -- Pinned by: `judge`
-use Rattle.std.specs.Prelude.{ℕ, ℤ, pos, negsuc, ◌≡◌, ◌+◌, ◌≤◌, ◌<◌, ◌⊎◌, ◌++◌, Bool, true, false, Option, None, Some, IfSome, List, [], ◌∷◌, length, take, drop, min, max, is_some, MatchOption}
-use Rattle.tcp_model.specs.Network.{World, Write, happens, run, start, IsPrefixOf}
+use Rattle.std.specs.Prelude.{ℕ, ℤ, pos, negsuc, ◌≡◌, ◌≤◌, ◌<◌, ◌⊎◌, ◌++◌, true, false, Option, None, Some, IfSome, List, [], length, take, drop, max, is_some, MatchOption, option_map}
+use Rattle.tcp_model.specs.Network.{World, run, start, IsPrefixOf}
 use Rattle.tcp_model.specs.Network.{Event as Move}
 use Rattle.app_tcp.specs.Stands.{Stands, IsAnswer, room_of}
 use Rattle.app_tcp.specs.Waits.{Waits}
 use Rattle.app_connection.specs.declared.segment.Segment.{Segment}
-use Rattle.app_connection.specs.declared.state.Phase.TheVariants.{Listen}
 use Rattle.app_connection.specs.Endpoints.{InFits, OutFits, endpoint_of, len_of}
-use Rattle.app_connection.specs.Events.{ComesBy, brings_bare, brings_items, called, is_answered}
+use Rattle.app_connection.specs.Events.{brings_bare, brings_items, is_answered}
 use Rattle.app_connection.specs.SetUp.{In_closed}
-use Rattle.app_connection.specs.States.{has_peer, may_close, state_from}
-use Rattle.app_connection.specs.Worlds.{Stand, Went}
+use Rattle.app_connection.specs.States.{has_peer, state_from}
+use Rattle.app_connection.specs.Steps as connection
+use Rattle.app_connection.specs.Worlds.{said}
 use Rattle.app_socket.specs.Events.{IsQuiet, IsTick, move_of}
 use Rattle.app_socket.specs.Fields.{socket_of}
-use Rattle.app_socket.specs.Segments.{GoesForward, IsSent, has_timestamp, header_of, is_stale}
+use Rattle.app_socket.specs.Segments.{GoesForward, IsSent, has_timestamp, header_of, is_stale, taken_of}
+use Rattle.app_socket.specs.Resends.{Acknowledges, BeginsBy, ConnectsBy, LearnsBy, Resends, SendsSyn, is_due}
 use Rattle.app_socket.specs.Times.{due_in, is_open, later, patience_of}
 use Rattle.app_socket.specs.Window.{HasRoom, Tells, end_after, limit_of}
 use Rattle.app_socket.specs.declared.fields.SocketFields.{SocketFields}
@@ -35,10 +36,7 @@ Stores s incoming now (Some segment) old new code = (code ≡ pos 1) × (new ≡
 pub record Steps (old new : Socket) (outgoing before after : List ℕ) (now : ℕ) (e : Event) (given : Option Segment) : Type 0 where
   pub out : OutFits new.connection.sending (length outgoing)
   pub rings : InFits new.connection.receiving (length before)
-  pub goes :
-      (there back : World) (consumed : List ℕ) → (old.connection.phase ≡ Listen → ⊥) → (is_stale old now e ≡ false → ComesBy
-      (move_of e) there back) → Stand there back consumed old.connection outgoing before → Went (called (move_of e) (may_close
-      (state_from old.connection)) there) back consumed new.connection outgoing after
+  pub steps : connection.Steps old.connection new.connection outgoing before after (taken_of old now e) (option_map said given)
   pub ends :
       IsTick e → has_peer (state_from old.connection) ≡ true → old.timers.ends_at ≤ now → endpoint_of new.connection ≡
       In_closed
@@ -82,6 +80,14 @@ pub record Steps (old new : Socket) (outgoing before after : List ℕ) (now : �
       old.connection.receiving (length before))
   pub recent : is_open (state_from old.connection) ≡ true → GoesForward old.agreed.recent new.agreed.recent now
   pub patience : new.timers.ends_at ≤ max old.timers.ends_at (later now (patience_of old.options))
+  pub connects : ConnectsBy e old new now
+  pub begins : is_open (state_from old.connection) ≡ false → is_open (state_from new.connection) ≡ true → BeginsBy e new
+  pub learns : is_open (state_from old.connection) ≡ true → is_open (state_from new.connection) ≡ true → LearnsBy e old new outgoing (length before) now
+  pub resends : IsTick e → is_open (state_from old.connection) ≡ true → now < old.timers.ends_at → Resends old new outgoing now given
+  pub acknowledges : IsTick e → is_open (state_from old.connection) ≡ true → now < old.timers.ends_at → Acknowledges old (length before) now given
+  pub again :
+      IsTick e → has_peer (state_from old.connection) ≡ true → is_open (state_from old.connection) ≡ false → now < old.timers.ends_at → is_due old.timers.resend_at now ≡ true
+      → SendsSyn old new now given
   pub rests :
       IsTick e → now < 9223372036854775808 → given ≡ None → IfSome (due_in (state_from new.connection) new.timers) (λ t. now <
       t)
@@ -128,10 +134,8 @@ IsArrival segment options fresh event.Tick = ⊥
 pub record Written (old new : Socket) (before after bytes : List ℕ) (count : ℕ) : Type 0 where
   pub fits : OutFits old.connection.sending (length before)
   pub few : count ≤ length bytes
-  pub waits : has_peer (state_from old.connection) ≡ true → (w : World) → Waits w old.connection.sending before
-      → Waits (happens w (Write (take count bytes))) new.connection.sending after
+  pub writes : connection.Writes old.connection new.connection before after (take count bytes)
   pub none : has_peer (state_from old.connection) ≡ false → count ≡ 0
-  pub receiving : new.connection.receiving ≡ old.connection.receiving
 
 -- -1 is returned if the ring does not fit, and nothing is changed; or how many bytes it took
 abbrev pub Writes : SocketFields → SocketFields → List ℕ → List ℕ → List ℕ → ℤ → Type 0
@@ -144,9 +148,7 @@ pub record Delivers (old new : Socket) (incoming before after : List ℕ) (count
   pub bytes : List ℕ
   pub are : count ≡ length bytes
   pub written : after ≡ bytes ++ drop count before
-  pub sending : new.connection.sending ≡ old.connection.sending
-  pub stands : (back : World) (consumed : List ℕ) → Stands back consumed old.connection.receiving incoming
-      → Stands back (consumed ++ bytes) new.connection.receiving incoming
+  pub reads : connection.Reads old.connection new.connection incoming bytes
   pub delivers : (initial : ℕ) (events : List Move) (consumed : List ℕ)
       → let back : World = run events (start initial)
       in Stands back consumed old.connection.receiving incoming → IsPrefixOf (consumed ++ bytes) back.written

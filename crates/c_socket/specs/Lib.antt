@@ -2,3 +2,4 @@ pub mod Options
 pub mod Segments
 pub mod Calls
 pub mod Application
+pub mod Runs

@@ -1,11 +1,12 @@
 //! The calls of the application that need no ring.
 
-ghost use Rattle.std.specs.Prelude.{◌≡◌, ◌+◌, ℕ, List, true, min, pos};
+ghost use Rattle.std.specs.Prelude.{◌≡◌, ◌+◌, ◌<◌, ℕ, List, [], true, min, pos};
 ghost use Rattle.std.specs.Option.{unwrap_or};
 ghost use Rattle.tcp_model.specs.Network.{Event, World, run, start};
 ghost use Rattle.app_tcp.specs.Stands.{Stands};
 ghost use Rattle.app_tcp.specs.Waits.{unsent_of};
 ghost use Rattle.app_connection.specs.Endpoints.{OutFits, endpoint_of};
+ghost use Rattle.app_connection.specs.Runs.{HasAll};
 ghost use Rattle.app_connection.specs.SetUp.{In_closed};
 ghost use Rattle.app_connection.specs.States.{state_from};
 ghost use Rattle.app_socket.specs.Fields.{socket_of};
@@ -24,6 +25,8 @@ use c_structs::is_set;
 pub fn init(connection: &mut SocketFields, mss: u16, keep_alive: u32, is_eager: i32)
     ensures closed { endpoint_of (socket_of connection.new).connection ≡ In_closed }
     ensures options { (socket_of connection.new).options ≡ record { mss = mss; keep_alive = keep_alive; is_eager = is_set is_eager } }
+    ensures stands { (buffer : List ℕ) → Stands (start 0) [] (socket_of connection.new).connection.receiving buffer }
+    ensures out { (size : ℕ) → 0 < size → size < 1073741824 → OutFits (socket_of connection.new).connection.sending size }
 {
     let options = Options {
         mss,
@@ -95,7 +98,8 @@ pub fn state(connection: &SocketFields) -> i32
 
 /// Whether the application has read all that the peer wrote, and the peer has closed: 1 or 0.
 pub fn is_ended(connection: &SocketFields) -> i32
-    ensures { (initial : ℕ) (events : List Event) (consumed buffer : List ℕ) → result ≡ pos 1 → let back : World = run events (start initial) in Stands back consumed (socket_of connection.now).connection.receiving buffer → (back.closed ≡ true) × (consumed ≡ back.written) }
+    ensures all { result ≡ pos 1 → HasAll (socket_of connection.now).connection }
+    ensures whole { (initial : ℕ) (events : List Event) (consumed buffer : List ℕ) → result ≡ pos 1 → let back : World = run events (start initial) in Stands back consumed (socket_of connection.now).connection.receiving buffer → (back.closed ≡ true) × (consumed ≡ back.written) }
 {
     i32::from(connection.value().is_ended())
 }

@@ -4,6 +4,7 @@
 mod application;
 mod bytes;
 mod calls;
+pub mod laws;
 mod options;
 mod segment;
 

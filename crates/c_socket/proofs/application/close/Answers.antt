@@ -9,5 +9,5 @@ returns c =
     let old = c.value-socket.result in
     let new = c.close.new.self in
     let e = c.close.ensures in
-    let closes : Closes old new = record { same = e.same; state = e.state; receiving = e.receiving; waits = e.waits; stays = e.stays } in
+    let closes : Closes old new = record { same = e.same; state = e.state; receiving = e.receiving; waits = e.waits; stays = e.stays; steps = e.steps } in
     carried Closes old (socket_of c.args.connection.now) new (socket_of c.fields.result) c.value-socket.ensures (sym c.fields.ensures) closes

@@ -1,5 +1,7 @@
-use Rattle.std.proofs.Common.{rules, ◌≡◌, ◌∙◌, SFits, ap, Bool, w32}
+use Rattle.std.proofs.Common.{rules, ◌≡◌, ◌∙◌, SFits, ap, sym, subst, [], Bool, w32}
 use Rattle.std.proofs.lemmas.Int.{to_z-of_z}
+use Rattle.tcp_model.specs.Network.{start}
+use Rattle.app_tcp.specs.Stands.{Stands}
 use Rattle.app_socket.specs.declared.options.Options.{Options}
 use Rattle.app_socket.specs.declared.socket.Socket.{Socket}
 use Rattle.c_structs.specs.Written.{is_set}
@@ -11,3 +13,6 @@ returns-clause-options c =
     let fits : SFits w32 c.args.is_eager = search rules in
     let eager : c.is_set.result ≡ is_set c.args.is_eager = c.is_set.ensures ∙ ap is_set (to_z-of_z w32 c.args.is_eager fits) in
     ap (λ (s : Socket). s.options) c.fields.ensures ∙ c.new.ensures.options ∙ ap with_eager eager
+
+pub returns-clause-stands : goal.returns-clause-stands
+returns-clause-stands c = λ buffer. subst (λ (s : Socket). Stands (start 0) [] s.connection.receiving buffer) (sym c.fields.ensures) (c.new.ensures.stands buffer)

@@ -20,7 +20,7 @@ returns c =
     let short : length c.within.result.now ≤ max_len = c.within.ensures.fits in
     let fits : OutFits old.connection.sending (length before) = search rules in
     let part : Written old new before after c.within.result.now count =
-    record { fits = fits; few = few; waits = e.waits; none = e.none; receiving = e.receiving } in
+    record { fits = fits; few = few; writes = e.writes; none = e.none } in
     let whole : Written old new before after (within c.args.bytes.now) count =
     subst (λ (l : List ℕ). Written old new before after l count) c.within.ensures.value part in
     inr (

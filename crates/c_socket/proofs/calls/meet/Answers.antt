@@ -16,7 +16,7 @@ returns c =
     record {
       out = e.out;
       rings = e.rings;
-      goes = e.goes;
+      steps = e.steps;
       ends = e.ends;
       idle = e.idle;
       no_later = e.later;
@@ -33,6 +33,12 @@ returns c =
       to_bare = e.to_bare;
       recent = e.recent;
       patience = e.patience;
+      connects = e.connects;
+      begins = e.begins;
+      learns = e.learns;
+      resends = e.resends;
+      acknowledges = e.acknowledges;
+      again = e.again;
       rests = e.rests;
     }
     in

@@ -1,4 +1,4 @@
-use Rattle.std.proofs.Common.{◌≡◌, refl, sym, subst, ℤ, w32, rules}
+use Rattle.std.proofs.Common.{refl, sym, subst, ℤ, w32, rules}
 use Rattle.std.proofs.lemmas.Int.{to_z-of_z}
 use Rattle.app_socket.specs.declared.step.Event.{Event}
 use Rattle.c_socket.specs.Calls.{IsArrival, Meets}

@@ -1,19 +1,18 @@
-use Rattle.std.proofs.Common.{[], ◌∷◌, length}
-use Rattle.tcp_model.specs.Network.{Send}
-use Rattle.app_tcp.specs.Items.{items_of}
+use Rattle.std.proofs.Common.{inr}
+use Rattle.std.specs.Prelude.{None}
 use Rattle.app_tcp.specs.Waits.{from_of}
+use Rattle.app_connection.proofs.Going.{sends_goes, sent_out}
 use Rattle.app_connection.proofs.connection.Connection.cut.Goals as goal
 
-pub returns-then-not-part-2-clause-waits : goal.returns-then-not-part-2-clause-waits
-returns-then-not-part-2-clause-waits c = λ there waits. record {
-  events = Send (from_of c.args.self.now.sending c.args.offset) (length (items_of c.segment-part.result.syn c.segment-part.result.payload.now c.segment-part.result.fin)) ∷ [];
-  own = tt;
-  waits = c.segment-part.ensures.waits there waits;
-}
+pub returns-then-not-part-2-clause-goes : goal.returns-then-not-part-2-clause-goes
+returns-then-not-part-2-clause-goes c = λ opened there back consumed buffer stand.
+    let old = c.args.self.now in
+    let part = c.segment-part in
+    sends_goes there back consumed old part.new.self c.args.outgoing.now buffer (from_of old.sending c.args.offset) _ None opened part.ensures.waits stand tt
 
-pub returns-clause-waits : goal.returns-clause-waits
-returns-clause-waits c = λ there waits. record {
-  events = Send (from_of c.args.self.now.sending c.args.offset) (length (items_of c.segment-part.result.syn c.segment-part.result.payload.now c.segment-part.result.fin)) ∷ [];
-  own = tt;
-  waits = c.segment-part.ensures.waits there waits;
-}
+pub returns-clause-goes : goal.returns-clause-goes
+returns-clause-goes c = λ opened there back consumed buffer stand.
+    let old = c.args.self.now in
+    let part = c.segment-part in
+    sends_goes there back consumed old part.new.self c.args.outgoing.now buffer (from_of old.sending c.args.offset) _ _ opened part.ensures.waits stand
+    (inr (record { text = inr (sent_out there (from_of old.sending c.args.offset) part.result.number _ (part.ensures.legal there stand.waits)); ack = c.next.ensures.legal back consumed buffer stand.stands }))

@@ -1,8 +1,7 @@
 use Rattle.std.proofs.Common.{◌≡◌, ◌⊎◌, inl, inr, refl, sym, ◌∙◌, subst, ap, ℕ, ◌<◌, List, [], Bool, true, false, length, arith}
-use Rattle.std.specs.Prelude.{Option, Some, None, is_some, ◌==◌, ◌&&◌, IfSome, not, if◌then◌else◌}
-use Rattle.tcp_model.specs.Network.{World, Close, happens}
+use Rattle.std.specs.Prelude.{Option, Some, None, is_some, ◌==◌, ◌&&◌, IfSome, not, option_map, if◌then◌else◌}
+use Rattle.tcp_model.specs.Network.{World}
 use Rattle.app_tcp.specs.Stands.{Stands, room_of}
-use Rattle.app_tcp.specs.Waits.{Waits}
 use Rattle.app_tcp.specs.declared.receiving.Receiving.{Receiving}
 use Rattle.app_tcp.specs.declared.sending.Sending.{Sending}
 use Rattle.app_connection.specs.declared.step.Event.{Event}
@@ -15,11 +14,11 @@ use Rattle.app_connection.specs.declared.segment.Segment.{Segment}
 use Rattle.app_connection.specs.declared.state.State.{State}
 use Rattle.app_connection.specs.declared.state.State.TheVariants as state
 use Rattle.app_connection.specs.Endpoints.{endpoint_in, endpoint_of, control_of, len_of, one, spoken, refused_by, acknowledgement_of, has_items, is_bare}
-use Rattle.app_connection.specs.Events.{ComesBy, IsMove, IsSending, begins, brings_bare, brings_items, called, is_answered}
+use Rattle.app_connection.specs.Events.{IsMove, IsSending, begins, brings_bare, brings_items, is_answered, HearsBy, KeepsNext, TakesBy}
 use Rattle.app_connection.specs.SetUp.{Endpoint, In_closed, In_syn_sent, Control, hears}
-use Rattle.app_connection.specs.States.{may_close, has_peer, state_from}
-use Rattle.app_connection.specs.Worlds.{Went, Arrives, IsAnswered}
-use Rattle.app_connection.proofs.Going.{went, went_still, waits_now, stands_as, stands_now}
+use Rattle.app_connection.specs.States.{has_peer, state_from}
+use Rattle.app_connection.specs.Worlds.{IsAnswered, replied, said}
+use Rattle.app_connection.proofs.Stepping.{said_as, steps_abort, steps_arrives, steps_as, steps_close, steps_listen, steps_open, steps_send}
 use Rattle.app_connection.proofs.connection.Connection.step.Goals as goal
 use Rattle.app_connection.proofs.connection.Connection.step.Goals.{in-Open, in-Arrives, in-Abort}
 
@@ -27,70 +26,53 @@ either : (b : Bool) → (b ≡ true) ⊎ (b ≡ false)
 either true = inl refl
 either false = inr refl
 
--- the history after the same call
-went_called : (e f : Event) (may : Bool) (there back : World) (consumed : List ℕ) (c : Connection) (outgoing incoming : List ℕ) → e ≡ f
-    → Went (called f may there) back consumed c outgoing incoming → Went (called e may there) back consumed c outgoing incoming
-went_called e f may there back consumed c outgoing incoming is w = subst (λ (x : Event). Went (called x may there) back consumed c outgoing incoming) (sym is) w
-
--- the sending half after CLOSE
-close_waits : (may : Bool) (there : World) (old new : Sending) (outgoing : List ℕ) → (may ≡ true → Waits (happens there Close) new outgoing) → (may ≡ false → new ≡ old)
-    → Waits there old outgoing → Waits (called event.Close may there) new outgoing
-close_waits true there old new outgoing closes stays waits = closes refl
-close_waits false there old new outgoing closes stays waits = subst (λ (x : Sending). Waits there x outgoing) (sym (stays refl)) waits
-
-pub returns-in-Listen-clause-goes : goal.returns-in-Listen-clause-goes
-returns-in-Listen-clause-goes c = λ there back consumed other comes stand.
+pub returns-in-Listen-clause-steps : goal.returns-in-Listen-clause-steps
+returns-in-Listen-clause-steps c =
     let old = c.args.self.now in
     let new = c.listen.new.self in
-    went_called c.args.event event.Listen (may_close (state_from old)) there back consumed new c.args.outgoing.now c.args.incoming.now c.in-Listen.is
-    (went_still there back consumed old new c.args.outgoing.now c.args.incoming.now c.listen.ensures.sending c.listen.ensures.receiving stand)
+    steps_as old new new c.args.outgoing.now c.args.incoming.now c.args.incoming.now c.args.incoming.now event.Listen c.args.event None None refl refl c.in-Listen.is refl
+    (steps_listen old new c.args.outgoing.now c.args.incoming.now c.listen.ensures.sending c.listen.ensures.receiving c.listen.ensures.listens c.listen.ensures.stays)
 
-pub returns-in-Send-clause-goes : goal.returns-in-Send-clause-goes
-returns-in-Send-clause-goes c = λ there back consumed other comes stand.
+pub returns-in-Send-clause-steps : goal.returns-in-Send-clause-steps
+returns-in-Send-clause-steps c =
     let old = c.args.self.now in
     let new = c.send.new.self in
-    went_called c.args.event (event.Send c.in-Send.offset c.in-Send.count) (may_close (state_from old)) there back consumed new c.args.outgoing.now c.args.incoming.now c.in-Send.is
-    (went there back consumed new c.args.outgoing.now c.args.incoming.now (c.send.ensures.waits there stand.waits)
-    (stands_as back consumed old.receiving new.receiving c.args.incoming.now c.send.ensures.receiving (stands_now back consumed old.receiving c.args.incoming.now stand.stands)))
+    let e = event.Send c.in-Send.offset c.in-Send.count in
+    let o = option_map said c.send.result in
+    steps_as old new new c.args.outgoing.now c.args.incoming.now c.args.incoming.now c.args.incoming.now e c.args.event o o refl refl c.in-Send.is refl
+    (steps_send old new c.args.outgoing.now c.args.incoming.now c.in-Send.offset c.in-Send.count c.send.result c.send.ensures.alone c.send.ensures.goes)
 
-pub returns-in-Close-clause-goes : goal.returns-in-Close-clause-goes
-returns-in-Close-clause-goes c = λ there back consumed other comes stand.
+pub returns-in-Close-clause-steps : goal.returns-in-Close-clause-steps
+returns-in-Close-clause-steps c =
     let old = c.args.self.now in
     let new = c.close.new.self in
-    let may = may_close (state_from old) in
-    let after = called event.Close may there in
-    let waits : Waits after new.sending c.args.outgoing.now =
-    close_waits may there old.sending new.sending c.args.outgoing.now (λ is. c.close.ensures.waits is there c.args.outgoing.now stand.waits) c.close.ensures.stays stand.waits
-    in
-    went_called c.args.event event.Close may there back consumed new c.args.outgoing.now c.args.incoming.now c.in-Close.is
-    (went after back consumed new c.args.outgoing.now c.args.incoming.now (waits_now after new.sending c.args.outgoing.now waits)
-    (stands_as back consumed old.receiving new.receiving c.args.incoming.now c.close.ensures.receiving (stands_now back consumed old.receiving c.args.incoming.now stand.stands)))
+    steps_as old new new c.args.outgoing.now c.args.incoming.now c.args.incoming.now c.args.incoming.now event.Close c.args.event None None refl refl c.in-Close.is refl
+    (steps_close old new c.args.outgoing.now c.args.incoming.now c.close.ensures.same c.close.ensures.phase c.close.ensures.state c.close.ensures.stays c.close.ensures.waits)
 
--- an active open begins other histories
-opens_none : (e : Event) (iss : ℕ) (there back : World) → e ≡ event.Open iss → ComesBy e there back → ⊥
-opens_none e iss there back is comes = let h : ComesBy (event.Open iss) there back = subst (λ (x : Event). ComesBy x there back) is comes in h
-
--- the same at equal values
-went_as : (there back : World) (consumed : List ℕ) (c d : Connection) (outgoing new old : List ℕ) → d ≡ c → new ≡ old → Went there back consumed c outgoing old → Went there back consumed d outgoing new
-went_as there back consumed c d outgoing new old is same w =
-    subst (λ (l : List ℕ). Went there back consumed d outgoing l) (sym same) (subst (λ (x : Connection). Went there back consumed x outgoing old) (sym is) w)
-
-pub returns-clause-goes : goal.returns-clause-goes
-returns-clause-goes c = λ there back consumed other comes stand.
-    let may = may_close (state_from c.args.self.now) in
+pub returns-clause-steps : goal.returns-clause-steps
+returns-clause-steps c =
+    let old = c.args.self.now in
+    let out = c.args.outgoing.now in
+    let before = c.args.incoming.now in
+    let o = option_map said c.without_text.result in
+    let to : o ≡ option_map replied c.match-event.reply = said_as c.without_text.result c.match-event.reply c.without_text.ensures.text c.without_text.ensures.spoken in
     elim c.match-event.branch [
-      | in-Open w ↦ absurd (opens_none c.args.event w.in-Open.iss there back w.in-Open.is comes)
+      | in-Open w ↦
+          let it = w.open-reply in
+          steps_as old it.new.self c.match-event.self out before before c.match-event.incoming (event.Open w.in-Open.iss) c.args.event (option_map replied it.result) o w.self-is w.incoming-is w.in-Open.is
+          (to ∙ ap (λ (x : Option Reply). option_map replied x) w.reply-is)
+          (steps_open old it.new.self out before w.in-Open.iss it.result it.ensures.opens it.ensures.syn it.ensures.begins it.ensures.stays it.ensures.none)
       | in-Arrives w ↦
+          let it = w.on_segment-reply in
           let s = w.in-Arrives.segment in
-          let arrives : Arrives there back s.now = subst (λ (x : Event). ComesBy x there back) w.in-Arrives.is comes in
-          went_called c.args.event (event.Arrives s w.in-Arrives.fresh) may there back consumed c.match-event.self c.args.outgoing.now c.match-event.incoming w.in-Arrives.is
-          (went_as there back consumed w.on_segment-reply.new.self c.match-event.self c.args.outgoing.now c.match-event.incoming w.on_segment-reply.new.incoming w.self-is w.incoming-is
-          (w.on_segment-reply.ensures.goes other there back consumed arrives stand))
+          steps_as old it.new.self c.match-event.self out before it.new.incoming c.match-event.incoming (event.Arrives s w.in-Arrives.fresh) c.args.event (option_map replied it.result) o w.self-is w.incoming-is w.in-Arrives.is
+          (to ∙ ap (λ (x : Option Reply). option_map replied x) w.reply-is)
+          (steps_arrives old it.new.self out before it.new.incoming s w.in-Arrives.fresh it.result it.ensures.rests it.ensures.hears it.ensures.goes)
       | in-Abort w ↦
-          let new = w.abort-reply.new.self in
-          went_called c.args.event event.Abort may there back consumed c.match-event.self c.args.outgoing.now c.match-event.incoming w.in-Abort.is
-          (went_as there back consumed new c.match-event.self c.args.outgoing.now c.match-event.incoming c.args.incoming.now w.self-is w.incoming-is
-          (went_still there back consumed c.args.self.now new c.args.outgoing.now c.args.incoming.now w.abort-reply.ensures.sending w.abort-reply.ensures.receiving stand))
+          let it = w.abort-reply in
+          steps_as old it.new.self c.match-event.self out before before c.match-event.incoming event.Abort c.args.event (option_map replied it.result) o w.self-is w.incoming-is w.in-Abort.is
+          (to ∙ ap (λ (x : Option Reply). option_map replied x) w.reply-is)
+          (steps_abort old it.new.self out before it.result it.ensures.endpoint it.ensures.sending it.ensures.receiving it.ensures.reset)
     ]
 
 is_open : (p : Phase) → (p ≡ phase.Open) ⊎ (p ≡ phase.Open → ⊥)
@@ -281,9 +263,9 @@ not_zero : (n : ℕ) → not (n == 0) ≡ true → n ≡ 0 → ⊥
 not_zero n some none = let h : false ≡ true = subst (λ (x : ℕ). not (x == 0) ≡ true) none some in absurd (cc)
 
 -- the reply to an acknowledgement
-replied : (ack : Option ℕ) (o : Option Reply) (r : Reply) → is_some ack ≡ true → IfSome ack (λ number. o ≡ Some r) → o ≡ Some r
-replied None o r is h = absurd (cc)
-replied (Some number) o r is h = h
+reply_of_ack : (ack : Option ℕ) (o : Option Reply) (r : Reply) → is_some ack ≡ true → IfSome ack (λ number. o ≡ Some r) → o ≡ Some r
+reply_of_ack None o r is h = absurd (cc)
+reply_of_ack (Some number) o r is h = h
 
 pub returns-clause-to_items : goal.returns-clause-to_items
 returns-clause-to_items c = λ opened other synced items.
@@ -295,7 +277,7 @@ returns-clause-to_items c = λ opened other synced items.
           let parts = both (not s.rst) (not (len_of s == 0) && is_some s.ack) h in
           let rest = both (not (len_of s == 0)) (is_some s.ack) parts.1 in
           let reply : w.on_segment-reply.result ≡ Some (acknowledgement_of w.on_segment-reply.new.self) =
-          replied s.ack w.on_segment-reply.result (acknowledgement_of w.on_segment-reply.new.self) rest.1
+          reply_of_ack s.ack w.on_segment-reply.result (acknowledgement_of w.on_segment-reply.new.self) rest.1
           (w.on_segment-reply.ensures.answered opened other synced (negated s.rst parts.0) (not_zero (len_of s) rest.0))
           in
           c.without_text.ensures.spoken ∙ w.reply-is ∙ reply ∙ ap (λ (x : Connection). Some (acknowledgement_of x)) (sym w.self-is)
@@ -325,4 +307,54 @@ returns-clause-still c = λ opened bare.
           let h : is_bare w.in-Arrives.segment.now ≡ true = subst (λ (x : Event). brings_bare x ≡ true) w.in-Arrives.is bare in
           ap (λ (x : Connection). x.receiving) w.self-is ∙ w.on_segment-reply.ensures.still opened h
       | in-Abort w ↦ let h : false ≡ true = subst (λ (x : Event). brings_bare x ≡ true) w.in-Abort.is bare in absurd (cc)
+    ]
+
+takes_by : (e f : Event) (old : Connection) (window : ℕ) (new other : Connection) → e ≡ f → new ≡ other → TakesBy f old window other → TakesBy e old window new
+takes_by e f old window new other is same takes =
+    subst (λ (x : Event). TakesBy x old window new) (sym is) (subst (λ (x : Connection). TakesBy f old window x) (sym same) takes)
+
+pub returns-clause-takes : goal.returns-clause-takes
+returns-clause-takes c = λ opened shut synced.
+    let old = c.args.self.now in
+    let window = room_of old.receiving (length c.args.incoming.now) in
+    let new = c.match-event.self in
+    elim c.match-event.branch [
+      | in-Open w ↦ takes_by c.args.event (event.Open w.in-Open.iss) old window new new w.in-Open.is refl tt
+      | in-Arrives w ↦
+          takes_by c.args.event (event.Arrives w.in-Arrives.segment w.in-Arrives.fresh) old window new w.on_segment-reply.new.self w.in-Arrives.is w.self-is
+          (w.on_segment-reply.ensures.takes opened shut synced)
+      | in-Abort w ↦ takes_by c.args.event event.Abort old window new new w.in-Abort.is refl tt
+    ]
+
+hears_by : (e f : Event) (old : Connection) (window : ℕ) (new other : Connection) (outgoing : List ℕ) → e ≡ f → new ≡ other → HearsBy f old window other outgoing → HearsBy e old window new outgoing
+hears_by e f old window new other outgoing is same hears =
+    subst (λ (x : Event). HearsBy x old window new outgoing) (sym is) (subst (λ (x : Connection). HearsBy f old window x outgoing) (sym same) hears)
+
+pub returns-clause-hears : goal.returns-clause-hears
+returns-clause-hears c = λ opened shut synced.
+    let old = c.args.self.now in
+    let window = room_of old.receiving (length c.args.incoming.now) in
+    let new = c.match-event.self in
+    let outgoing = c.args.outgoing.now in
+    elim c.match-event.branch [
+      | in-Open w ↦ hears_by c.args.event (event.Open w.in-Open.iss) old window new new outgoing w.in-Open.is refl tt
+      | in-Arrives w ↦
+          hears_by c.args.event (event.Arrives w.in-Arrives.segment w.in-Arrives.fresh) old window new w.on_segment-reply.new.self outgoing w.in-Arrives.is w.self-is
+          (w.on_segment-reply.ensures.heard opened shut synced)
+      | in-Abort w ↦ hears_by c.args.event event.Abort old window new new outgoing w.in-Abort.is refl tt
+    ]
+
+next_by : (e f : Event) (old : Sending) (new other : Connection) → e ≡ f → new ≡ other → KeepsNext f old other.sending → KeepsNext e old new.sending
+next_by e f old new other is same keeps =
+    subst (λ (x : Event). KeepsNext x old new.sending) (sym is) (subst (λ (x : Connection). KeepsNext f old x.sending) (sym same) keeps)
+
+pub returns-clause-next : goal.returns-clause-next
+returns-clause-next c = λ opened.
+    let old = c.args.self.now.sending in
+    let new = c.match-event.self in
+    elim c.match-event.branch [
+      | in-Open w ↦ next_by c.args.event (event.Open w.in-Open.iss) old new new w.in-Open.is refl tt
+      | in-Arrives w ↦
+          next_by c.args.event (event.Arrives w.in-Arrives.segment w.in-Arrives.fresh) old new w.on_segment-reply.new.self w.in-Arrives.is w.self-is (w.on_segment-reply.ensures.flight opened)
+      | in-Abort w ↦ next_by c.args.event event.Abort old new new w.in-Abort.is refl tt
     ]

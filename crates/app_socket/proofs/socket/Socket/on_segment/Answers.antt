@@ -1,19 +1,20 @@
-use Rattle.std.proofs.Common.{◌≡◌, ◌∙◌, sym, subst, ap, length}
-use Rattle.std.specs.Prelude.{is_some}
-use Rattle.app_tcp.specs.Stands.{room_of}
+use Rattle.std.proofs.Common.{◌≡◌, ◌∙◌, sym, subst, ap, length, ◌⊎◌, ℕ, List, ◌+◌, ◌≤◌, ◌<◌, true}
+use Rattle.std.specs.Prelude.{is_some, option_map, Option, Some, None, IfSome, if◌then◌else◌}
+use Rattle.app_tcp.specs.Stands.{Stands, room_of}
 use Rattle.app_tcp.specs.declared.receiving.Receiving.{Receiving}
 use Rattle.app_connection.specs.declared.connection.Connection.{Connection}
-use Rattle.app_connection.specs.Worlds.{Went}
-use Rattle.app_connection.specs.Endpoints.{acknowledgement_of, answers_bare}
+use Rattle.app_connection.specs.Endpoints.{acknowledgement_of, answers_bare, TakesAck, next_of}
+use Rattle.tcp_model.specs.Endpoint.{distance}
+use Rattle.app_congestion.specs.Congestion.{is_partial, is_past}
+use Rattle.app_connection.specs.Worlds.{HearsAck}
+use Rattle.app_connection.specs.Sequence.{is_of_sent}
 use Rattle.app_socket.specs.declared.socket.Socket.{Socket}
+use Rattle.app_socket.specs.Resends.{IsArmed, IsDuplicate, IsSound, newly_in, restarted_at}
 use Rattle.app_socket.specs.Times.{is_open}
 use Rattle.app_socket.proofs.Opened.{answers_as, answers_exactly, is_said, is_spoken, open_not_shut, open_phase}
+use Rattle.app_connection.specs.Worlds.{said}
+use Rattle.app_socket.proofs.Stepping.{steps_result, steps_to}
 use Rattle.app_socket.proofs.socket.Socket.on_segment.Goals as goal
-
-pub returns-in_default-clause-goes : goal.returns-in_default-clause-goes
-returns-in_default-clause-goes c = λ there back consumed other comes stand.
-    let same : c.answer.new.self.connection ≡ c.step-reply.new.self = ap (λ (x : Socket). x.connection) c.answer.ensures.same ∙ ap (λ (x : Socket). x.connection) c.learn.ensures.same in
-    subst (λ (x : Connection). Went there back consumed x c.args.outgoing.now c.step-reply.new.incoming) (sym same) (c.step-reply.ensures.goes there back consumed other comes stand)
 
 pub returns-in_default-clause-answers : goal.returns-in_default-clause-answers
 returns-in_default-clause-answers c = λ before after.
@@ -36,3 +37,97 @@ returns-in_default-clause-to_bare c = λ before after bare.
     let kept : c.learn.new.self.connection.receiving ≡ old.receiving = ap (λ (x : Socket). x.connection.receiving) c.learn.ensures.same ∙ c.step-reply.ensures.still (open_phase old before) bare in
     answers_exactly old.receiving.is_open _ c.step-reply.result c.answer.result said (c.answer.ensures.none opened)
     (λ synced. c.answer.ensures.some opened (ap (λ (x : Receiving). x.is_open) kept ∙ synced) (c.before-before.ensures.next synced ∙ ap (λ (x : Receiving). x.next) (sym kept)))
+
+pub returns-in_default-clause-steps : goal.returns-in_default-clause-steps
+returns-in_default-clause-steps c =
+    let old = c.args.self.now.connection in
+    let it = c.step-reply in
+    let kept : c.learn.new.self.connection ≡ it.new.self = ap (λ (x : Socket). x.connection) c.learn.ensures.same in
+    let is = c.state.ensures.value in
+    steps_to old it.new.self c.answer.new.self.connection c.args.outgoing.now c.args.incoming.now it.new.incoming _ _ (ap (λ (x : Socket). x.connection) c.answer.ensures.same ∙ kept)
+    (steps_result old it.new.self c.args.outgoing.now c.args.incoming.now it.new.incoming _ (option_map said it.result) (option_map said c.answer.result) (λ e. c.in_default.not-Closed (is ∙ e)) (λ e. c.in_default.not-Listen (is ∙ e)) (λ e. c.in_default.not-SynSent (is ∙ e)) (λ e. c.in_default.not-SynReceived (is ∙ e))
+    (λ v w consumed stands. c.answer.ensures.goes_out v w consumed it.new.incoming (subst (λ (x : Connection). Stands w consumed x.receiving it.new.incoming) (sym kept) stands)) it.ensures.steps)
+
+-- SND.UNA of a connection that took an acknowledgement
+una_of : (old new d : Connection) (number window : ℕ) (o : Option ℕ) → d ≡ new → IfSome o (λ ack. TakesAck old new number window ack)
+    → IfSome o (λ ack. d.sending.una ≡ (if is_of_sent old.sending.una (next_of old) ack then ack else old.sending.una))
+una_of old new d number window None is takes = tt
+una_of old new d number window (Some ack) is takes = ap (λ (x : Connection). x.sending.una) is ∙ takes.una
+
+-- the histories of a connection that took an acknowledgement
+hears_of : (old new d : Connection) (outgoing : List ℕ) (o : Option ℕ) → d ≡ new
+    → IfSome o (λ ack. is_of_sent old.sending.una (next_of old) ack ≡ true → HearsAck old.sending new.sending outgoing ack)
+    → IfSome o (λ ack. is_of_sent old.sending.una (next_of old) ack ≡ true → HearsAck old.sending d.sending outgoing ack)
+hears_of old new d outgoing None is hears = tt
+hears_of old new d outgoing (Some ack) is hears = λ sent. subst (λ (x : Connection). HearsAck old.sending x.sending outgoing ack) (sym is) (hears sent)
+
+pub returns-in_default-clause-learns : goal.returns-in_default-clause-learns
+returns-in_default-clause-learns c = λ opened after.
+    let old = c.args.self.now in
+    let b = c.before-before.result in
+    let taken = c.step-reply.new.self in
+    let new = c.answer.new.self in
+    let now = c.args.now in
+    let s = c.args.segment.now in
+    let is : is_open b.state ≡ true = ap is_open c.before-before.ensures.state ∙ opened in
+    let same : new.connection ≡ taken = ap (λ (x : Socket). x.connection) c.answer.ensures.same ∙ ap (λ (x : Socket). x.connection) c.learn.ensures.same in
+    let newly : distance taken.sending.una b.una ≡ newly_in old new =
+    ap (λ (n : ℕ). distance taken.sending.una n) c.before-before.ensures.una ∙ ap (λ (x : Connection). distance x.sending.una old.connection.sending.una) (sym same)
+    in
+    record {
+      una = λ synced rst syn window sent.
+          una_of old.connection taken new.connection s.number s.window s.ack same
+          (c.step-reply.ensures.takes (open_phase old.connection opened) (open_not_shut old.connection opened) synced rst syn window sent);
+      sound = λ sound.
+          let moved : taken.sending.flight + distance taken.sending.una b.una ≡ old.connection.sending.flight =
+          ap (λ (n : ℕ). taken.sending.flight + distance taken.sending.una n) c.before-before.ensures.una ∙ c.step-reply.ensures.next (open_phase old.connection opened)
+          in
+          let learned = c.learn.ensures.sound is (subst (λ (n : ℕ). IsSound old.flow n) (sym moved) sound) in
+          subst (λ (x : Socket). IsSound x.flow x.connection.sending.flight) (sym c.answer.ensures.same)
+          (subst (λ (x : Connection). IsSound c.learn.new.self.flow x.sending.flight) (sym (ap (λ (x : Socket). x.connection) c.learn.ensures.same)) learned);
+      hears = λ synced rst syn window sent.
+          hears_of old.connection taken new.connection c.args.outgoing.now s.ack same
+          (c.step-reply.ensures.hears (open_phase old.connection opened) (open_not_shut old.connection opened) synced rst syn window sent);
+      restarts = λ some.
+          c.answer.ensures.resend_at
+          ∙ c.learn.ensures.restarts is _ c.step-reply.ensures.out (subst (λ (n : ℕ). 0 < n) (sym newly) some)
+          ∙ sym (ap (λ (x : Socket). restarted_at x now) c.answer.ensures.same);
+      keeps = λ none before armed. subst (λ (a : Option ℕ). IsArmed before a now) (sym c.answer.ensures.resend_at) (c.learn.ensures.keeps is (newly ∙ none) before armed);
+      partial = λ some part rescued.
+          ap (λ (x : Socket). x.flow.resend) c.answer.ensures.same
+          ∙ c.learn.ensures.partial is (subst (λ (n : ℕ). 0 < n) (sym newly) some)
+          (subst (λ (x : Connection). is_partial old.flow.congestion.phase x.sending.una ≡ true) same part)
+          (subst (λ (n : ℕ). old.flow.rescued ≤ n) (sym newly) rescued);
+      counted = λ none duplicate synced calm past few.
+          let twin : IsDuplicate b.una b.flight b.window b.next b.room s = record {
+            waits = subst (λ (n : ℕ). 0 < n) (sym c.before-before.ensures.flight) duplicate.waits;
+            not_closed = subst (λ (n : ℕ). 0 < n) (sym c.before-before.ensures.window) duplicate.not_closed;
+            near =
+                subst (λ (n : ℕ). distance s.number n ≤ b.room + 1) (sym (c.before-before.ensures.next synced))
+                (subst (λ (n : ℕ). distance s.number old.connection.receiving.next ≤ n + 1) (sym c.before-before.ensures.room) duplicate.near);
+            no_rst = duplicate.no_rst;
+            no_syn = duplicate.no_syn;
+            no_fin = duplicate.no_fin;
+            no_text = duplicate.no_text;
+            ack = duplicate.ack ∙ ap Some (sym c.before-before.ensures.una);
+            same = duplicate.same ∙ sym c.before-before.ensures.window;
+          } in
+          subst (λ (x : Socket). (x.flow.resend ≡ true) ⊎ (old.flow.congestion.duplicates < x.flow.congestion.duplicates)) (sym c.answer.ensures.same)
+          (c.learn.ensures.counted is (newly ∙ none) twin calm (subst (λ (x : Connection). is_past old.flow.congestion.phase x.sending.una ≡ true) same past) few);
+      third = λ none duplicate synced calm past two.
+          let twin : IsDuplicate b.una b.flight b.window b.next b.room s = record {
+            waits = subst (λ (n : ℕ). 0 < n) (sym c.before-before.ensures.flight) duplicate.waits;
+            not_closed = subst (λ (n : ℕ). 0 < n) (sym c.before-before.ensures.window) duplicate.not_closed;
+            near =
+                subst (λ (n : ℕ). distance s.number n ≤ b.room + 1) (sym (c.before-before.ensures.next synced))
+                (subst (λ (n : ℕ). distance s.number old.connection.receiving.next ≤ n + 1) (sym c.before-before.ensures.room) duplicate.near);
+            no_rst = duplicate.no_rst;
+            no_syn = duplicate.no_syn;
+            no_fin = duplicate.no_fin;
+            no_text = duplicate.no_text;
+            ack = duplicate.ack ∙ ap Some (sym c.before-before.ensures.una);
+            same = duplicate.same ∙ sym c.before-before.ensures.window;
+          } in
+          ap (λ (x : Socket). x.flow.resend) c.answer.ensures.same
+          ∙ c.learn.ensures.third is (newly ∙ none) twin calm (subst (λ (x : Connection). is_past old.flow.congestion.phase x.sending.una ≡ true) same past) two;
+    }

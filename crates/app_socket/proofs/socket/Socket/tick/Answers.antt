@@ -1,29 +1,41 @@
-use Rattle.std.proofs.Common.{refl}
-use Rattle.app_connection.proofs.Going.{went, went_still, stands_as, stands_now}
-use Rattle.app_socket.proofs.Opened.{no_items, open_phase}
+use Rattle.std.proofs.Common.{◌≡◌, true, false, refl, sym, ◌∙◌, ap}
+use Rattle.std.specs.Prelude.{option_map}
+use Rattle.app_socket.proofs.Opened.{no_items, open_phase, open_has_peer}
+use Rattle.app_connection.specs.States.{has_peer, state_from}
+use Rattle.app_connection.specs.Worlds.{said}
+use Rattle.app_socket.proofs.Stepping.{steps_idle, steps_silent, steps_tick}
 use Rattle.app_socket.proofs.socket.Socket.tick.Goals as goal
-
-pub returns-then-not-has_peer-clause-goes : goal.returns-then-not-has_peer-clause-goes
-returns-then-not-has_peer-clause-goes c = λ there back consumed other stand.
-    let old = c.args.self.now.connection in
-    went_still there back consumed old old c.args.outgoing.now c.args.incoming.now refl refl stand
-
-pub returns-then-not-is_open-clause-goes : goal.returns-then-not-is_open-clause-goes
-returns-then-not-is_open-clause-goes c = λ there back consumed other stand.
-    let old = c.args.self.now.connection in
-    let new = c.tick_set_up.new.self.connection in
-    went there back consumed new c.args.outgoing.now c.args.incoming.now (c.tick_set_up.ensures.waits there stand.waits)
-    (stands_as back consumed old.receiving new.receiving c.args.incoming.now c.tick_set_up.ensures.receiving (stands_now back consumed old.receiving c.args.incoming.now stand.stands))
-
-pub returns-clause-goes : goal.returns-clause-goes
-returns-clause-goes c = λ there back consumed other stand.
-    let old = c.args.self.now.connection in
-    let new = c.tick_open.new.self.connection in
-    went there back consumed new c.args.outgoing.now c.args.incoming.now (c.tick_open.ensures.waits there stand.waits)
-    (stands_as back consumed old.receiving new.receiving c.args.incoming.now c.tick_open.ensures.receiving (stands_now back consumed old.receiving c.args.incoming.now stand.stands))
 
 pub returns-then-self-now-clause-sends : goal.returns-then-self-now-clause-sends
 returns-then-self-now-clause-sends c = λ opened. no_items _ c.step.result (c.step.ensures.bare (open_phase c.args.self.now.connection opened) (λ x. x) refl)
 
 pub returns-clause-sends : goal.returns-clause-sends
 returns-clause-sends c = λ opened. c.tick_open.ensures.sends (open_phase c.args.self.now.connection opened)
+
+pub returns-then-not-has_peer-clause-steps : goal.returns-then-not-has_peer-clause-steps
+returns-then-not-has_peer-clause-steps c =
+    let old = c.args.self.now.connection in
+    let none : has_peer (state_from old) ≡ false = sym (c.has_peer.ensures ∙ ap has_peer c.state-state.ensures.value) ∙ c.if-not-has_peer.true in
+    steps_idle old c.args.outgoing.now c.args.incoming.now none
+
+pub returns-then-self-now-clause-steps : goal.returns-then-self-now-clause-steps
+returns-then-self-now-clause-steps c =
+    steps_silent c.args.self.now.connection c.step.new.self c.args.outgoing.now c.args.incoming.now c.step.new.incoming (option_map said c.step.result) c.step.ensures.steps
+
+pub returns-then-not-is_open-clause-steps : goal.returns-then-not-is_open-clause-steps
+returns-then-not-is_open-clause-steps c =
+    let old = c.args.self.now.connection in
+    let has : has_peer (state_from old) ≡ true = sym (c.has_peer.ensures ∙ ap has_peer c.state-state.ensures.value) ∙ c.if-not-has_peer.false in
+    steps_tick old c.tick_set_up.new.self.connection c.args.outgoing.now c.args.incoming.now (option_map said c.tick_set_up.result) has c.tick_set_up.ensures.goes
+
+pub returns-clause-steps : goal.returns-clause-steps
+returns-clause-steps c =
+    let old = c.args.self.now.connection in
+    let has : has_peer (state_from old) ≡ true = sym (c.has_peer.ensures ∙ ap has_peer c.state-state.ensures.value) ∙ c.if-not-has_peer.false in
+    steps_tick old c.tick_open.new.self.connection c.args.outgoing.now c.args.incoming.now (option_map said c.tick_open.result) has c.tick_open.ensures.goes
+
+pub returns-clause-resends : goal.returns-clause-resends
+returns-clause-resends c = λ opened before. c.tick_open.ensures.resends (open_phase c.args.self.now.connection opened) (open_has_peer c.args.self.now.connection opened)
+
+pub returns-clause-acknowledges : goal.returns-clause-acknowledges
+returns-clause-acknowledges c = λ opened before. c.tick_open.ensures.acknowledges (open_phase c.args.self.now.connection opened)

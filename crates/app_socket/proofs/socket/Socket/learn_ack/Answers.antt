@@ -1,0 +1,45 @@
+use Rattle.std.proofs.Common.{◌≡◌, ◌∙◌, sym, ap, subst, ℕ, ◌+◌, ◌-◌, ◌%◌, arith}
+use Rattle.tcp_model.specs.Endpoint.{distance}
+use Rattle.app_connection.specs.declared.connection.Connection.{Connection}
+use Rattle.app_socket.specs.declared.socket.Socket.{Socket}
+use Rattle.app_socket.specs.Resends.{IsSound, restarted_at}
+use Rattle.app_socket.proofs.socket.Socket.learn_ack.Goals as goal
+use Rattle.app_socket.proofs.socket.Socket.learn_ack.Goals.{then-newly-gt0, else-newly-gt0}
+
+pub returns-clause-restarts : goal.returns-clause-restarts
+returns-clause-restarts c = λ size fits newly. elim c.if-newly-gt0.branch [
+  | then-newly-gt0 w ↦
+      let now = c.args.now in
+      let same = c.learn_duplicates.ensures.same in
+      let first : c.if-newly-gt0.self.timers.resend_at ≡ restarted_at c.if-newly-gt0.self now =
+      subst (λ (x : Socket). x.timers.resend_at ≡ restarted_at x now) (sym w.self-is) (w.learn_newly.ensures.restarts size fits)
+      in
+      ap (λ (x : Socket). x.timers.resend_at) same ∙ first ∙ sym (ap (λ (x : Socket). restarted_at x now) same)
+  | else-newly-gt0 w ↦ absurd (omega (arith, newly, w.if-newly-gt0.false, c.una.ensures))
+]
+
+pub returns-clause-sound : goal.returns-clause-sound
+returns-clause-sound c = λ sound.
+    let old = c.args.self.now in
+    let flight = old.connection.sending.flight in
+    let b = c.args.before.now.una in
+    let newly = (c.una.result + (4294967296 - b)) % 4294967296 in
+    let is : newly ≡ distance old.connection.sending.una b = omega (arith, c.una.ensures) in
+    let mid = c.if-newly-gt0.self in
+    elim c.if-newly-gt0.branch [
+      | then-newly-gt0 w ↦
+          let first = w.learn_newly.ensures.sound (flight + distance old.connection.sending.una b) (omega (arith, is)) sound in
+          let same : w.learn_newly.new.self.connection ≡ old.connection = ap (λ (x : Socket). x.connection) w.learn_newly.ensures.same in
+          let left : flight + distance old.connection.sending.una b - newly ≡ flight = omega (arith, is) in
+          let moved : IsSound w.learn_newly.new.self.flow flight = subst (λ (n : ℕ). IsSound w.learn_newly.new.self.flow n) left first in
+          let whole : IsSound mid.flow mid.connection.sending.flight =
+          subst (λ (x : Socket). IsSound x.flow x.connection.sending.flight) (sym w.self-is) (subst (λ (x : Connection). IsSound w.learn_newly.new.self.flow x.sending.flight) (sym same) moved)
+          in
+          subst (λ (n : ℕ). IsSound c.learn_duplicates.new.self.flow n) (ap (λ (x : Socket). x.connection.sending.flight) w.self-is ∙ ap (λ (x : Connection). x.sending.flight) same) (c.learn_duplicates.ensures.sound whole)
+      | else-newly-gt0 w ↦
+          let left : flight + distance old.connection.sending.una b ≡ flight = omega (arith, is, w.if-newly-gt0.false) in
+          let whole : IsSound mid.flow mid.connection.sending.flight =
+          subst (λ (x : Socket). IsSound x.flow x.connection.sending.flight) (sym w.self-is) (subst (λ (n : ℕ). IsSound old.flow n) left sound)
+          in
+          subst (λ (n : ℕ). IsSound c.learn_duplicates.new.self.flow n) (ap (λ (x : Socket). x.connection.sending.flight) w.self-is) (c.learn_duplicates.ensures.sound whole)
+    ]

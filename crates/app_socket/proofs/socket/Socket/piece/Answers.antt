@@ -1,0 +1,84 @@
+use Rattle.std.proofs.Common.{◌≡◌, ◌⊎◌, inl, inr, ◌∙◌, refl, sym, ap, subst, ℕ, ◌+◌, ◌≤◌, ◌<◌, Bool, true, false, arith}
+use Rattle.std.specs.Prelude.{Option, Some, None, IfSome, MatchOption}
+use Rattle.app_socket.specs.declared.flow.Flow.{Flow}
+use Rattle.app_socket.specs.declared.flow.Piece.{Piece}
+use Rattle.app_socket.specs.declared.flow.Queue.{Queue}
+use Rattle.app_socket.specs.declared.socket.Socket.{Socket}
+use Rattle.app_socket.specs.Resends.{IsHeld, IsSound, TimesOut, is_due, queue_of}
+use Rattle.app_socket.proofs.socket.Socket.piece.Goals as goal
+
+pub returns-in-Some-clause-times_out : goal.returns-in-Some-clause-times_out
+returns-in-Some-clause-times_out c = λ size fits some due probed.
+    let same = c.run_timer.ensures.due size fits some due in
+    let P : Socket → Type 0 = λ (x : Socket). is_due x.timers.resend_at c.args.now ≡ true → x.flow.is_probed ≡ true → TimesOut x.flow c.expire.new.self.flow c.queue-queue.result in
+    let out : TimesOut c.args.self.now.flow c.expire.new.self.flow c.queue-queue.result = subst P same c.expire.ensures.times_out due probed in
+    subst (λ (q : Queue). TimesOut c.args.self.now.flow c.expire.new.self.flow q) (c.queue-queue.ensures.value size fits) out
+
+pub returns-clause-armed : goal.returns-clause-armed
+returns-clause-armed c = λ size fits some. c.expire.ensures.armed c.args.self.now.timers.resend_at (c.run_timer.ensures.armed size fits some)
+
+pub returns-clause-expires : goal.returns-clause-expires
+returns-clause-expires c = λ size fits some due probed.
+    let same = c.run_timer.ensures.due size fits some due in
+    let P : Socket → Type 0 = λ (x : Socket). is_due x.timers.resend_at c.args.now ≡ true → x.flow.is_probed ≡ true → ⊥ in
+    absurd (subst P same c.in_default.ensures.some due probed)
+
+pub returns-clause-times_out : goal.returns-clause-times_out
+returns-clause-times_out c = λ size fits some due probed.
+    let same = c.run_timer.ensures.due size fits some due in
+    let P : Socket → Type 0 = λ (x : Socket). is_due x.timers.resend_at c.args.now ≡ true → x.flow.is_probed ≡ true → ⊥ in
+    absurd (subst P same c.in_default.ensures.some due probed)
+
+pub returns-clause-probed : goal.returns-clause-probed
+returns-clause-probed c = λ size fits some due.
+    let same = c.run_timer.ensures.due size fits some due in
+    let P : Socket → Type 0 = λ (x : Socket). is_due x.timers.resend_at c.args.now ≡ true → c.expire.new.self.flow.is_probed ≡ true in
+    ap (λ (f : Flow). f.is_probed) c.next.ensures.same ∙ subst P same c.expire.ensures.probed due
+
+pub returns-clause-held : goal.returns-clause-held
+returns-clause-held c = λ size fits none.
+    let same : c.queue-queue.result ≡ queue_of c.expire.new.self =
+    c.queue-queue.ensures.value size fits ∙ sym (ap queue_of c.run_timer.ensures.same) ∙ sym (ap queue_of c.expire.ensures.same)
+    in
+    subst (λ (q : Queue). IsHeld c.next.new.self q) same (c.next.ensures.held none)
+
+either : (b : Bool) → (b ≡ true) ⊎ (b ≡ false)
+either true = inl refl
+either false = inr refl
+
+-- the place of the first segment
+place_first : (o : Option Piece) (flight count : ℕ) → 0 < count → MatchOption o ⊥ (λ p. p.offset ≡ 0) → IfSome o (λ p. (p.offset ≤ flight) × (p.offset < count))
+place_first None flight count some first = absurd first
+place_first (Some p) flight count some first = (omega arith, omega arith)
+
+-- the place of another one
+place_next : (o : Option Piece) (flight count old unsent : ℕ) → old ≡ flight → flight + unsent ≡ count → IfSome o (λ p. (p.offset ≤ old) × (p.offset < old + unsent))
+    → IfSome o (λ p. (p.offset ≤ flight) × (p.offset < count))
+place_next None flight count old unsent same all place = tt
+place_next (Some p) flight count old unsent same all place = (omega (arith, place.0), omega (arith, place.1))
+
+pub returns-in-Some-clause-sound : goal.returns-in-Some-clause-sound
+returns-in-Some-clause-sound c = λ flight sound. c.expire.ensures.sound flight (c.run_timer.ensures.sound flight sound)
+
+pub returns-clause-sound : goal.returns-clause-sound
+returns-clause-sound c = λ flight sound.
+    let later = c.expire.ensures.sound flight (c.run_timer.ensures.sound flight sound) in
+    subst (λ (f : Flow). IsSound f flight) (sym c.next.ensures.same) (record { cursor = later.cursor; sacked = later.sacked })
+
+pub returns-clause-place : goal.returns-clause-place
+returns-clause-place c = λ size fits some few sound.
+    let s = c.args.self.now.connection.sending in
+    let later = c.expire.ensures.sound s.flight (c.run_timer.ensures.sound s.flight sound) in
+    let q = c.queue-queue.result in
+    let same : q.flight ≡ s.flight = c.queue-queue.ensures.flight in
+    let unsent = ap (λ (q : Queue). q.unsent) (c.queue-queue.ensures.value size fits) in
+    elim (either c.expire.new.self.flow.resend) [
+      | inl first ↦ place_first c.next.result s.flight _ some (c.next.ensures.first first)
+      | inr other ↦ place_next c.next.result s.flight _ q.flight q.unsent same (omega (arith, unsent)) (c.next.ensures.place (subst (λ (n : ℕ). IsSound c.expire.new.self.flow n) (sym same) later) other)
+    ]
+
+pub returns-in-Some-clause-patience : goal.returns-in-Some-clause-patience
+returns-in-Some-clause-patience c = λ size fits some due. ap (λ (x : Socket). x.timers.ends_at) c.expire.ensures.same ∙ ap (λ (x : Socket). x.timers.ends_at) (c.run_timer.ensures.due size fits some due)
+
+pub returns-clause-patience : goal.returns-clause-patience
+returns-clause-patience c = λ size fits some due. ap (λ (x : Socket). x.timers.ends_at) c.expire.ensures.same ∙ ap (λ (x : Socket). x.timers.ends_at) (c.run_timer.ensures.due size fits some due)

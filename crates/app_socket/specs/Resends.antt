@@ -1,0 +1,316 @@
+-- What goes again, and when (RFC 6298, section 5; RFC 5681; RFC 6582; RFC 6675).
+-- Pinned by: `socket/scenarios`
+use Rattle.std.specs.Prelude.{ℕ, ◌≡◌, ◌⊎◌, ◌+◌, ◌-◌, ◌*◌, ◌%◌, ◌<◌, ◌≤◌, ◌==◌, ◌&&◌, Bool, true, false, not, nat_le, nat_lt, if◌then◌else◌, min, List, [], length, Option, Some, None, is_some, IfSome, MatchOption}
+use Rattle.tcp_model.specs.Network.{World, Segment_comes, Send, happens, round, run}
+use Rattle.tcp_model.specs.Endpoint.{distance}
+use Rattle.app_tcp.specs.Items.{items_of}
+use Rattle.app_tcp.specs.Stands.{room_of}
+use Rattle.app_tcp.specs.declared.sending.Sending.{Sending}
+use Rattle.app_tcp.specs.Waits.{Waits, count_of, unsent_of}
+use Rattle.app_congestion.specs.declared.rto.Rto.{Rto}
+use Rattle.app_congestion.specs.declared.scoreboard.Scoreboard.{Scoreboard}
+use Rattle.app_congestion.specs.Rto.{probe_after, sampled, timeout_of}
+use Rattle.app_congestion.specs.Congestion.{is_in_recovery, is_partial, is_past, sender_of, timed_out}
+use Rattle.app_congestion.specs.Scoreboard.{HasNoHole, IsHole, has}
+use Rattle.app_connection.specs.declared.segment.Segment.{Segment}
+use Rattle.app_connection.specs.Endpoints.{acknowledgement_of, is_of_unsent, len_of, next_of, spoken}
+use Rattle.app_connection.specs.Sequence.{after, is_of_sent, is_taken_at}
+use Rattle.app_connection.specs.declared.state.Phase.TheVariants as phase
+use Rattle.app_connection.specs.Worlds.{HearsAck}
+use Rattle.app_connection.specs.States.{has_peer, state_from}
+use Rattle.app_connection.specs.declared.state.State.{State}
+use Rattle.app_connection.specs.declared.state.State.TheVariants.{Closed, Listen, SynSent, SynReceived, Established, FinWait1, FinWait2, CloseWait, Closing, LastAck, TimeWait}
+use Rattle.app_options.specs.declared.agreed.Agreed.{Agreed}
+use Rattle.app_options.specs.Options.{window_in}
+use Rattle.app_socket.specs.declared.flow.Flow.{Flow}
+use Rattle.app_socket.specs.declared.flow.Queue.{Queue}
+use Rattle.app_socket.specs.Pieces.{is_worth}
+use Rattle.app_socket.specs.declared.socket.Socket.{Socket}
+use Rattle.app_socket.specs.declared.step.Event.{Event}
+use Rattle.app_socket.specs.declared.step.Event.TheVariants as event
+use Rattle.app_socket.specs.Segments.{rejects, text_of}
+use Rattle.app_socket.specs.Times.{later, mss_of}
+use Rattle.app_socket.specs.Window.{is_update_due, least_growth}
+
+-- whether a timer expires
+abbrev pub is_due : Option ℕ → ℕ → Bool
+is_due None now = false
+is_due (Some at) now = nat_le at now
+
+-- A timer runs: as before, or for a minute at most (RFC 6298, section 2.5).
+abbrev pub IsArmed : Option ℕ → Option ℕ → ℕ → Type 0
+IsArmed old new now = MatchOption new ⊥ (λ at. (old ≡ Some at) ⊎ (at ≤ later now 60000))
+
+-- the timeout doubles, up to a minute (RFC 6298, sections 5.5 and 2.5)
+pub record BacksOff (old new : Rto) : Type 0 where
+  pub timeout : new.timeout ≡ min 60000 (2 * old.timeout)
+  pub estimate : new.estimate ≡ old.estimate
+
+-- a sample of the round trip ends the back-off (RFC 6298, sections 2 and 5)
+pub record Samples (old new : Rto) (rtt : ℕ) : Type 0 where
+  pub estimate : new.estimate ≡ Some (sampled old.estimate rtt)
+  pub timeout : new.timeout ≡ timeout_of (sampled old.estimate rtt)
+
+-- for how long the timer runs: until a loss probe, or after one until the time-out (RFC 8985, sections 7.2 and 7.3)
+abbrev pub timer_of : Flow → ℕ
+timer_of f = if f.is_probed then f.rto.timeout else probe_after f.rto.estimate f.rto.timeout
+
+-- SND.NXT
+abbrev pub next_in : Queue → ℕ
+next_in q = (q.una + q.flight) % 4294967296
+
+-- Whether a loss probe begins fast recovery: the window is open, more than a segment is in flight, and not all goes again.
+abbrev pub is_probe_useful : Flow → Queue → Bool
+is_probe_useful f q = not (q.window == 0) && (nat_lt q.mss q.flight && not (nat_lt f.cursor q.flight))
+
+-- The retransmission timer expires (RFC 6298, sections 5.4 to 5.6): all that is in flight goes again from the first item on, what
+-- the peer had after a gap is forgotten (RFC 2018, section 8), and the timeout doubles.
+pub record TimesOut (old new : Flow) (q : Queue) : Type 0 where
+  pub same : new ≡ record old { rto = new.rto; congestion = new.congestion; timing = None; cursor = 0; resend = false; scoreboard = new.scoreboard; rescued = 0; is_probed = true }
+  pub known : (n : ℕ) → has new.scoreboard n ≡ false
+  pub backs_off : 0 < q.flight → BacksOff old.rto new.rto
+  pub probes : q.window ≡ 0 → BacksOff old.rto new.rto
+  pub slows : 0 < q.flight → 0 < q.window → sender_of new.congestion ≡ timed_out (sender_of old.congestion) q.flight (next_in q)
+
+-- What is remembered of the segments is of those in flight.
+pub record IsSound (f : Flow) (flight : ℕ) : Type 0 where
+  pub cursor : f.cursor ≤ flight
+  pub sacked : (n : ℕ) → has f.scoreboard n ≡ true → n < flight
+
+-- A hole after `from` begins where the windows end, or after that.
+pub record IsBeyond (s : Scoreboard) (from limit : ℕ) : Type 0 where
+  pub offset : ℕ
+  pub count : ℕ
+  pub hole : IsHole s from offset count
+  pub past : limit ≤ offset
+
+-- how many items wait from the first one on that did not go since the last time-out
+abbrev pub available_of : Flow → Queue → ℕ
+available_of f q = min 18446744073709551615 ((q.flight - f.cursor) + q.unsent)
+
+-- how many of them may go: as far as both windows and the segment size allow
+abbrev pub next_count : Flow → Queue → ℕ
+next_count f q = min (available_of f q) (min (min q.window f.congestion.cwnd - f.cursor) q.mss)
+
+-- Nothing may go now: not the first segment again, no hole in fast recovery (RFC 6675, section 4), nothing that was sent before
+-- a time-out, and of new items none that fits both windows and is worth a segment (Nagle's algorithm, and the avoidance of silly
+-- windows).
+pub record IsHeld (f : Flow) (q : Queue) : Type 0 where
+  pub first : f.resend ≡ false
+  pub hole : is_in_recovery f.congestion.phase ≡ true → 0 < q.mss → HasNoHole f.scoreboard f.rescued ⊎ IsBeyond f.scoreboard f.rescued (min q.window f.congestion.cwnd)
+  pub rest : (next_count f q ≡ 0) ⊎ ((q.flight ≤ f.cursor) × (is_worth q (next_count f q) (available_of f q) f.max_window ≡ false))
+
+-- whether the application has closed, and the FIN is not acknowledged
+abbrev pub waits_for_end : State → Bool
+waits_for_end Closed = false
+waits_for_end Listen = false
+waits_for_end SynSent = false
+waits_for_end SynReceived = false
+waits_for_end Established = false
+waits_for_end FinWait1 = true
+waits_for_end FinWait2 = false
+waits_for_end CloseWait = false
+waits_for_end Closing = true
+waits_for_end LastAck = true
+waits_for_end TimeWait = false
+
+-- what the choice of the next segment sees of a socket
+abbrev pub queue_of : Socket → Queue
+queue_of s = record {
+  una = s.connection.sending.una;
+  flight = s.connection.sending.flight;
+  window = s.connection.wnd;
+  unsent = unsent_of s.connection.sending;
+  has_fin = waits_for_end (state_from s.connection);
+  mss = text_of s;
+  is_eager = s.options.is_eager;
+}
+
+-- The first items that are not acknowledged go: at SND.UNA, and at least one. It is the event Send 0 of the model.
+pub record GoesFirst (old new : Sending) (outgoing : List ℕ) (s : Segment) : Type 0 where
+  pub number : s.number ≡ old.una
+  pub some : 0 < len_of s
+  pub inner : length s.payload.now ≤ length outgoing
+  pub waits : (there : World) → Waits there old outgoing → Waits (happens there (Send 0 (length (items_of s.syn s.payload.now s.fin)))) new outgoing
+
+-- such a segment goes
+abbrev pub SendsFirst : Sending → Sending → List ℕ → Option Segment → Type 0
+SendsFirst old new outgoing given = MatchOption given ⊥ (GoesFirst old new outgoing)
+
+-- no items go
+abbrev pub SendsNone : Option Segment → Type 0
+SendsNone given = IfSome given (λ s. len_of s ≡ 0)
+
+-- What goes when time passes in an open connection, and when again.
+pub record Resends (old new : Socket) (outgoing : List ℕ) (now : ℕ) (given : Option Segment) : Type 0 where
+  -- The retransmission timer expires, after the loss probe: what is not acknowledged goes again from the first item on, the
+  -- timeout doubles, and cwnd is one segment (RFC 6298, sections 5.4 and 5.5; RFC 5681, section 3.1).
+  pub expires : 0 < count_of old.connection.sending → is_due old.timers.resend_at now ≡ true → old.flow.is_probed ≡ true → SendsFirst old.connection.sending new.connection.sending outgoing given
+  pub backs_off : 0 < old.connection.sending.flight → 0 < count_of old.connection.sending → is_due old.timers.resend_at now ≡ true → old.flow.is_probed ≡ true → BacksOff old.flow.rto new.flow.rto
+  pub slows : 0 < old.connection.wnd → 0 < old.connection.sending.flight → 0 < count_of old.connection.sending → is_due old.timers.resend_at now ≡ true → old.flow.is_probed ≡ true
+      → sender_of new.flow.congestion ≡ timed_out (sender_of old.flow.congestion) old.connection.sending.flight (next_in (queue_of old))
+  -- after the first time that it expires, it is the retransmission timer
+  pub probed : 0 < count_of old.connection.sending → is_due old.timers.resend_at now ≡ true → new.flow.is_probed ≡ true
+  -- The timeout changes only then.
+  pub still : now < 9223372036854775808 → is_due old.timers.resend_at now ≡ false → new.flow.rto ≡ old.flow.rto
+  -- So does what is known of losses, and the count of duplicate acknowledgements.
+  pub calm : now < 9223372036854775808 → is_due old.timers.resend_at now ≡ false → (new.flow.congestion.phase ≡ old.flow.congestion.phase) × (new.flow.congestion.duplicates ≡ old.flow.congestion.duplicates)
+  -- The first segment goes again at once after a third duplicate acknowledgement or a partial one (RFC 5681, RFC 6582).
+  pub again : 0 < count_of old.connection.sending → old.flow.resend ≡ true → SendsFirst old.connection.sending new.connection.sending outgoing given
+  -- In fast recovery the first hole of what the peer has goes again, as far as the windows allow (RFC 6675, section 4).
+  pub hole :
+      (offset count : ℕ) → old.connection.sending.flight ≤ count_of old.connection.sending → IsSound old.flow old.connection.sending.flight → now < 9223372036854775808
+      → is_due old.timers.resend_at now ≡ false → old.flow.resend ≡ false → is_in_recovery old.flow.congestion.phase ≡ true → IsHole old.flow.scoreboard old.flow.rescued offset count → 0 < text_of old
+      → offset < min old.connection.wnd new.flow.congestion.cwnd → MatchOption given ⊥ (λ s. s.number ≡ (old.connection.sending.una + offset) % 4294967296)
+  -- While something is not acknowledged, the timer runs (RFC 6298, section 5.1).
+  pub armed : 0 < count_of old.connection.sending → IsArmed old.timers.resend_at new.timers.resend_at now
+  -- What goes not is held back by the windows, Nagle's algorithm or the avoidance of silly windows.
+  pub held : old.connection.sending.flight ≤ count_of old.connection.sending → 0 < count_of old.connection.sending → IsSound old.flow old.connection.sending.flight → SendsNone given → IsHeld new.flow (queue_of new)
+  pub sound : old.connection.sending.flight ≤ count_of old.connection.sending → IsSound old.flow old.connection.sending.flight → IsSound new.flow new.connection.sending.flight
+  -- A loss probe goes once, and the peer's patience does not change, until an acknowledgement comes.
+  pub stays : old.flow.is_probed ≡ true → new.flow.is_probed ≡ true
+  pub patience : 0 < count_of old.connection.sending → is_due old.timers.resend_at now ≡ true → new.timers.ends_at ≡ old.timers.ends_at
+  pub agreed : new.agreed ≡ old.agreed
+  pub quiet : SendsNone given → new.connection ≡ old.connection
+  -- Only SND.NXT changes.
+  pub only : new.connection ≡ record old.connection { sending = record old.connection.sending { flight = new.connection.sending.flight } }
+
+-- before the peer's FIN the application still waits for bytes
+abbrev pub waits_for_bytes : State → Bool
+waits_for_bytes Closed = false
+waits_for_bytes Listen = false
+waits_for_bytes SynSent = false
+waits_for_bytes SynReceived = false
+waits_for_bytes Established = true
+waits_for_bytes FinWait1 = true
+waits_for_bytes FinWait2 = true
+waits_for_bytes CloseWait = false
+waits_for_bytes Closing = false
+waits_for_bytes LastAck = false
+waits_for_bytes TimeWait = false
+
+-- whether the peer has to hear of the room that the application made (RFC 9293, section 3.8.6.2.2)
+abbrev pub is_room_news : Socket → ℕ → Bool
+is_room_news s incoming = waits_for_bytes (state_from s.connection) && is_update_due s.edge s.connection.receiving.next (room_of s.connection.receiving incoming) (least_growth incoming (mss_of s.options))
+
+-- What is acknowledged when time passes in an open connection.
+pub record Acknowledges (old : Socket) (incoming now : ℕ) (given : Option Segment) : Type 0 where
+  -- A delayed acknowledgement goes at its time at the latest, also with text (RFC 9293, section 3.8.6.3).
+  pub due : is_due old.timers.ack_at now ≡ true → is_some given ≡ true
+  -- so does the news of a window that opened
+  pub room : old.connection.receiving.is_open ≡ true → is_room_news old incoming ≡ true → is_some given ≡ true
+  -- Each segment acknowledges all that came.
+  pub ack : IfSome given (λ s. s.ack ≡ (acknowledgement_of old.connection).ack)
+  -- One without items is at SND.NXT, or one before it to probe a silent peer (RFC 9293, section 3.8.4).
+  pub number : IfSome given (λ s. len_of s ≡ 0 → (s.number ≡ next_of old.connection) ⊎ (s.number ≡ (next_of old.connection + 4294967295) % 4294967296))
+
+-- The SYN goes again (RFC 6298, section 5.7), and the timeout doubles.
+pub record SendsSyn (old new : Socket) (now : ℕ) (given : Option Segment) : Type 0 where
+  pub syn : old.connection.phase ≡ phase.SynSent → spoken given ≡ Some (record { number = old.connection.iss; ack = None; syn = true; rst = false })
+  pub syn_ack : old.connection.phase ≡ phase.SynReceived → spoken given ≡ Some (record { number = old.connection.iss; ack = Some (after old.connection.irs); syn = true; rst = false })
+  pub backs_off : BacksOff old.flow.rto new.flow.rto
+  pub timer : new.timers.resend_at ≡ Some (later now new.flow.rto.timeout)
+
+-- An active open: the timers run (RFC 6298, section 2.1; RFC 9293, section 3.8.3).
+pub record Connects (new : Socket) (now : ℕ) : Type 0 where
+  pub timer : new.timers.resend_at ≡ Some (later now 1000)
+  pub patience : new.timers.ends_at ≡ later now 180000
+
+-- what an active open of a socket without a peer does
+abbrev pub ConnectsBy : Event → Socket → Socket → ℕ → Type 0
+ConnectsBy event.Listen old new now = Unit {0}
+ConnectsBy (event.Open iss) old new now = has_peer (state_from old.connection) ≡ false → Connects new now
+ConnectsBy (event.Arrives segment options fresh) old new now = Unit {0}
+ConnectsBy event.Close old new now = Unit {0}
+ConnectsBy event.Abort old new now = Unit {0}
+ConnectsBy event.Tick old new now = Unit {0}
+
+-- A duplicate acknowledgement (RFC 5681, section 2): it acknowledges SND.UNA again while something is in flight, has no text, SYN
+-- or FIN, and tells the same window. It is near what is expected, and the window is not closed.
+pub record IsDuplicate (una flight window next room : ℕ) (s : Segment) : Type 0 where
+  pub waits : 0 < flight
+  pub not_closed : 0 < window
+  pub near : distance s.number next ≤ room + 1
+  pub no_rst : s.rst ≡ false
+  pub no_syn : s.syn ≡ false
+  pub no_fin : s.fin ≡ false
+  pub no_text : s.payload.now ≡ []
+  pub ack : s.ack ≡ Some una
+  pub same : s.window ≡ window
+
+-- how many numbers were newly acknowledged
+abbrev pub newly_in : Socket → Socket → ℕ
+newly_in old new = distance new.connection.sending.una old.connection.sending.una
+
+-- the timer after an acknowledgement of something new: off if nothing waits (RFC 6298, sections 5.2 and 5.3)
+abbrev pub restarted_at : Socket → ℕ → Option ℕ
+restarted_at s now = if nat_lt 0 (s.connection.sending.flight + unsent_of s.connection.sending) then Some (later now (timer_of s.flow)) else None
+
+-- What a segment makes of an open connection, with its window in bytes.
+pub record Learns (old new : Socket) (outgoing : List ℕ) (incoming now : ℕ) (s : Segment) : Type 0 where
+  -- An acknowledgement of something that was sent becomes SND.UNA (RFC 9293, section 3.10.7.4).
+  pub una :
+      old.connection.receiving.is_open ≡ true → s.rst ≡ false → s.syn ≡ false
+      → is_taken_at old.connection.receiving.next (room_of old.connection.receiving incoming) s.number (len_of s) ≡ true → is_of_unsent old.connection s.ack ≡ false
+      → IfSome s.ack (λ ack. new.connection.sending.una ≡ (if is_of_sent old.connection.sending.una (next_of old.connection) ack then ack else old.connection.sending.una))
+  -- What is remembered of the segments stays that of those in flight.
+  pub sound : IsSound old.flow old.connection.sending.flight → IsSound new.flow new.connection.sending.flight
+  -- In the histories it is the event Ack_comes.
+  pub hears :
+      old.connection.receiving.is_open ≡ true → s.rst ≡ false → s.syn ≡ false
+      → is_taken_at old.connection.receiving.next (room_of old.connection.receiving incoming) s.number (len_of s) ≡ true → is_of_unsent old.connection s.ack ≡ false
+      → IfSome s.ack (λ ack. is_of_sent old.connection.sending.una (next_of old.connection) ack ≡ true → HearsAck old.connection.sending new.connection.sending outgoing ack)
+  -- Then the timer starts anew, or it is off; otherwise it runs on.
+  pub restarts : 0 < newly_in old new → new.timers.resend_at ≡ restarted_at new now
+  pub keeps : newly_in old new ≡ 0 → (before : Option ℕ) → IsArmed before old.timers.resend_at now → IsArmed before new.timers.resend_at now
+  -- the first segment goes again after a partial acknowledgement in fast recovery (RFC 6582, section 3.2), if it did not go again
+  -- before
+  pub partial : 0 < newly_in old new → is_partial old.flow.congestion.phase new.connection.sending.una ≡ true → old.flow.rescued ≤ newly_in old new → new.flow.resend ≡ true
+  -- Duplicate acknowledgements are counted,
+  pub counted :
+      newly_in old new ≡ 0 → IsDuplicate old.connection.sending.una old.connection.sending.flight old.connection.wnd old.connection.receiving.next (room_of old.connection.receiving incoming) s
+      → old.connection.receiving.is_open ≡ true → is_in_recovery old.flow.congestion.phase ≡ false → is_past old.flow.congestion.phase new.connection.sending.una ≡ true → old.flow.congestion.duplicates < 3
+      → (new.flow.resend ≡ true) ⊎ (old.flow.congestion.duplicates < new.flow.congestion.duplicates)
+  -- and after the third one the first segment goes again (RFC 5681, section 3.2; RFC 6582, section 3.2)
+  pub third :
+      newly_in old new ≡ 0 → IsDuplicate old.connection.sending.una old.connection.sending.flight old.connection.wnd old.connection.receiving.next (room_of old.connection.receiving incoming) s
+      → old.connection.receiving.is_open ≡ true → is_in_recovery old.flow.congestion.phase ≡ false → is_past old.flow.congestion.phase new.connection.sending.una ≡ true → old.flow.congestion.duplicates ≡ 2
+      → new.flow.resend ≡ true
+
+-- a segment with the window of the peer in bytes: that of a SYN is not scaled (RFC 7323, section 2.2)
+abbrev pub scaled_by : Agreed → Segment → Segment
+scaled_by a s = record s { window = if s.syn then s.window else window_in a s.window }
+
+-- what a segment that is not rejected makes of a connection that is open and stays so
+abbrev pub LearnsBy : Event → Socket → Socket → List ℕ → ℕ → ℕ → Type 0
+LearnsBy event.Listen old new outgoing incoming now = Unit {0}
+LearnsBy (event.Open iss) old new outgoing incoming now = Unit {0}
+LearnsBy (event.Arrives segment options fresh) old new outgoing incoming now = rejects old now segment.now options.now ≡ false → Learns old new outgoing incoming now (scaled_by old.agreed segment.now)
+LearnsBy event.Close old new outgoing incoming now = Unit {0}
+LearnsBy event.Abort old new outgoing incoming now = Unit {0}
+LearnsBy event.Tick old new outgoing incoming now = Unit {0}
+
+-- So many items go from SND.UNA on. If they come to the peer, which has so much room, and it acknowledges them, more is
+-- acknowledged than before.
+pub record ComesAcross (there : World) (s : Sending) (outgoing : List ℕ) (room : ℕ) : Type 0 where
+  pub count : ℕ
+  pub some : 0 < count
+  pub waits : Waits (happens there (Send 0 count)) s outgoing
+  pub more : there.acked < (run (round count room) there).acked
+
+-- what is remembered when a segment opens the connection
+abbrev pub BeginsBy : Event → Socket → Type 0
+BeginsBy event.Listen new = Unit {0}
+BeginsBy (event.Open iss) new = Unit {0}
+BeginsBy (event.Arrives segment options fresh) new = IsSound new.flow new.connection.sending.flight
+BeginsBy event.Close new = Unit {0}
+BeginsBy event.Abort new = Unit {0}
+BeginsBy event.Tick new = Unit {0}
+
+-- A round: so many items go from SND.UNA on, and come to the peer, which has so much room. If the peer's acknowledgement of them
+-- comes back then, the sending half waits in the history after that, in which more is acknowledged than before.
+pub record GoesRound (there : World) (s : Sending) (outgoing : List ℕ) (room : ℕ) (ack : Option ℕ) : Type 0 where
+  pub count : ℕ
+  pub some : 0 < count
+  pub more : there.acked < (run (round count room) there).acked
+  pub waits : ack ≡ Some (happens (happens there (Send 0 count)) (Segment_comes 0 room)).receiver.next → Waits (run (round count room) there) s outgoing
