@@ -1345,8 +1345,8 @@ struct lk_nat {
     uint16_t unused;
 };
 
-/* A mapping. It is private: only lk_translate_out and lk_translate_in write it, but the caller may free one by
- * `expires` 0, or all with zeros. */
+/* A mapping. It is private: only lk_translate_out, lk_translate_in and lk_shrink_reach write it, but the caller may free
+ * one by `expires` 0, or all with zeros. */
 struct lk_mapping {
     uint64_t expires;
     uint8_t inside[4];
@@ -1395,8 +1395,8 @@ struct lk_mapping {
  *
  * - A call reads one row for an endpoint that has a mapping, and at most two for a new one. If all ports of its first
  *   row are taken, it gets one of a later row. From then on a call for a new endpoint whose first row begins at the
- *   same port reads as many rows: `reach` of the mapping there says how many. It only grows, until the caller fills all
- *   mappings with zeros. If no port is free, the call reads all mappings of the protocol.
+ *   same port reads as many rows: `reach` of the mapping there says how many. It only grows, until lk_shrink_reach. If no
+ *   port is free, the call reads all mappings of the protocol.
  * - One inside host can take every port. A program limits the mappings of each host, as `nat -m` of examples/ does.
  * - A mapping is live until its time-out has passed since the last packet of its inside endpoint. Packets that come in
  *   do not keep it alive (REQ-6).
@@ -1421,6 +1421,12 @@ int lk_translate_out(const struct lk_nat *nat, struct lk_mapping *mappings, size
                      size_t len);
 int lk_translate_in(const struct lk_nat *nat, struct lk_mapping *mappings, size_t count, uint64_t now, uint8_t *frame,
                     size_t len);
+
+/* Lowers each `reach` to the last row in which an endpoint whose first row begins there has a live mapping. All else stays,
+ * and each endpoint keeps its outside port. Call it now and then, as once a minute: after many ports were in use, searches
+ * for new endpoints get short again when the mappings have ended. It reads all mappings. If `count` is above LK_MAX_LEN,
+ * nothing changes. */
+void lk_shrink_reach(const struct lk_nat *nat, struct lk_mapping *mappings, size_t count, uint64_t now);
 
 /* ---- TCP connections ---- */
 

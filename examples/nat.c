@@ -15,7 +15,7 @@
 
 enum { OUTSIDE = 0, FIRST_PORT = 1024, PORTS = 65536 - FIRST_PORT, MAPPINGS = LK_MAPPINGS(PORTS), MOST_OF_ONE = PORTS / 4 };
 enum { UDP = 17, TCP = 6, ICMP = 1, ECHO_REQUEST = 8, PROTOCOLS = 3 };
-enum { MOST_FORWARDS = 64, BETWEEN_USES = 60000, BETWEEN_SEARCHES = 20 }; /* the times in milliseconds */
+enum { MOST_FORWARDS = 64, MINUTE = 60000, BETWEEN_SEARCHES = 20 }; /* the times in milliseconds */
 
 static const char help[] =
     "usage: nat [-k] [-m COUNT] [-f PROTOCOL:ADDRESS:PORT].. FILE OUTSIDE INSIDE..\n"
@@ -40,7 +40,7 @@ static struct forward {
     struct lk_endpoint inside;
 } forwards[MOST_FORWARDS];
 static size_t forward_count;
-static int64_t next_use; /* of the mappings of forwarded ports, in milliseconds */
+static int64_t next_minute; /* when `each_minute` is due, in milliseconds */
 
 typedef int translate(const struct lk_nat *nat, struct lk_mapping *mappings, size_t count, uint64_t now, uint8_t *frame,
                       size_t len);
@@ -120,9 +120,6 @@ static int translated_out(const struct router *router, struct packet *packet)
 static void use_forwards(struct router *router)
 {
     static struct packet packet;
-    if (router->now < next_use || !has_outside(router))
-        return;
-    next_use = router->now + BETWEEN_USES;
     for (const struct forward *one = forwards; one < forwards + forward_count; one++) {
         const struct lk_tcp_options none = {0};
         struct lk_frame headers = {.src = one->inside, .dst = one->inside, .ip.hop_limit = 1, .tcp.flags = LK_ACK};
@@ -133,6 +130,16 @@ static void use_forwards(struct router *router)
             place_of(packet.frame) % PORTS != (size_t)one->inside.port - FIRST_PORT)
             print(&router->errors, "nat: port %d is not forwarded: it is in use\n", one->inside.port);
     }
+}
+
+/* After a flood the mappings end, but not their reaches. Then each new endpoint would be searched for in many rows. */
+static void each_minute(struct router *router)
+{
+    if (router->now < next_minute || !has_outside(router))
+        return;
+    next_minute = router->now + MINUTE;
+    lk_shrink_reach(&nat, mappings, MAPPINGS, (uint64_t)router->now);
+    use_forwards(router);
 }
 
 static void store_dst(const struct packet *packet, struct lk_addr *dst)
@@ -152,7 +159,7 @@ static int before_route(struct router *router, uint16_t from, const struct lk_fr
                         struct lk_addr *dst)
 {
     int is_to_outside = is_outside_address(dst), rejection = LK_NOT_REJECTED;
-    use_forwards(router);
+    each_minute(router);
     if (is_to_outside ? in->transport == LK_ICMP && in->icmp.type == ECHO_REQUEST : from != OUTSIDE)
         return LK_NOT_REJECTED;
     if (from != OUTSIDE)
@@ -203,7 +210,7 @@ static const char *find_outside_address(const struct router *router, const struc
         if (memcmp(nat.outside, one->block.addr.octets, 4) != 0) {
             memset(mappings, 0, MAPPINGS * sizeof *mappings);
             memset(full_until, 0, sizeof full_until);
-            next_use = 0;
+            next_minute = 0;
         }
         memcpy(nat.outside, one->block.addr.octets, 4);
         return NULL;

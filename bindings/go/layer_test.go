@@ -168,6 +168,7 @@ func TestNAT(t *testing.T) {
 		{nat.TranslateIn, remote, outside, time.Second, NoMapping, remote, outside},
 		{nat.TranslateOut, "10.0.0.3:4000", remote, time.Second, nil, outside, remote},
 	} {
+		nat.ShrinkReach(it.at)
 		frame := udp(it.src, it.dst)
 		if err := it.call(it.at, frame); err != it.err || !bytes.Equal(frame, udp(it.from, it.to)) {
 			t.Error(it, err, ReadFrame(frame).String())

@@ -92,3 +92,10 @@ func (n *NAT) TranslateIn(now time.Duration, frame []byte) error {
 	ptr, length := memory(frame)
 	return rejection(C.lk_translate_in(&n.nat, mappings, count, C.uint64_t(now.Milliseconds()), ptr, length))
 }
+
+// ShrinkReach shortens the search for the port of a new endpoint, after mappings have ended. Call it now and then, as once a
+// minute: it reads all mappings. Each endpoint keeps its outside port.
+func (n *NAT) ShrinkReach(now time.Duration) {
+	mappings, count := first(n.mappings)
+	C.lk_shrink_reach(&n.nat, mappings, count, C.uint64_t(now.Milliseconds()))
+}

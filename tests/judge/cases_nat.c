@@ -99,6 +99,9 @@ static void translate_by_anything(void)
     placed = room(mappings, mapping_count * sizeof *mappings);
     given("frame", made.octets, made.len);
     end_call(1, lk_translate_in(&nat, placed, mapping_count, now, room(made.octets, made.len), made.len) >= 0);
+    CALL(lk_shrink_reach);
+    given("mappings", mappings, mapping_count * sizeof *mappings);
+    lk_shrink_reach(&nat, room(mappings, mapping_count * sizeof *mappings), mapping_count, now);
 }
 
 /* Another packet: a later fragment, another protocol, or another ICMP message. */
@@ -162,6 +165,8 @@ void translate_frames(void)
             address_packet();
             translate_in(made.len);
         }
+        if (one_in(8))
+            both_shrink_reach(&nat, mappings, mapping_count, now);
         pass_time();
     }
     if (one_in(64))
@@ -171,6 +176,7 @@ void translate_frames(void)
     forget_mappings();
     both_translate_out(&nat, mappings, unused_len(), now, copy_made(), made.len);
     both_translate_in(&nat, mappings, unused_len(), now, copy_made(), made.len);
+    both_shrink_reach(&nat, mappings, unused_len(), now);
     if (one_in(32))
         translate_by_anything();
 }

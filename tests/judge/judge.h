@@ -61,7 +61,7 @@ void same_text(const char *name, const char *wanted, const char *came);
 void same_frame(const struct lk_frame *wanted, const struct lk_frame *came);
 void same_options(const struct lk_tcp_options *wanted, const struct lk_tcp_options *came);
 
-/* ---- calls.c, calls_mld.c, calls_reassembly.c: each call of the library beside its model ---- */
+/* ---- calls.c, calls_mld.c, calls_reach.c, calls_reassembly.c: each call of the library beside its model ---- */
 
 #define BOTH(call) extern __typeof__(lk_##call) both_##call
 BOTH(emit_udp_frame); BOTH(emit_tcp_frame); BOTH(emit_icmp_frame); BOTH(emit_arp_frame); BOTH(emit_ndisc_frame);
@@ -80,7 +80,7 @@ BOTH(check_source); BOTH(make_route_table); BOTH(choose_route_by_table); BOTH(ch
 BOTH(translate_out); BOTH(translate_in); BOTH(set_hop_limit); BOTH(set_dscp); BOTH(set_addr);
 BOTH(set_port); BOTH(set_bytes); BOTH(fill_checksum); BOTH(protocol_name); BOTH(ethertype_name);
 BOTH(tcp_flag_name); BOTH(clamp_mss_as); BOTH(set_addr_as); BOTH(set_port_as); BOTH(set_bytes_as); BOTH(fragment);
-BOTH(reassemble); BOTH(expire); BOTH(emit_mld_report); BOTH(read_mld_query);
+BOTH(reassemble); BOTH(expire); BOTH(emit_mld_report); BOTH(read_mld_query); BOTH(shrink_reach);
 
 /* The model of NAT has a table of its own: it is empty then. */
 void forget_mappings(void);

@@ -90,6 +90,7 @@ void make_worked_calls(const char *folder)
     worked_nat();
     worked_mappings();
     worked_rows();
+    worked_reach();
     worked_icmp();
     worked_mld();
     worked_edit();

@@ -77,6 +77,7 @@ void worked_route(void);
 void worked_nat(void);
 void worked_mappings(void);
 void worked_rows(void);
+void worked_reach(void);
 void worked_icmp(void);
 void worked_mld(void);
 void worked_edit(void);

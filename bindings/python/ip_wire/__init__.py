@@ -23,7 +23,7 @@ Calls by task; `help(ip_wire.parse_frame)` describes one call:
     TCP connections     Stack.listen, Stack.connect, Stack.receive, Stack.tick (over a device)
                         Connection.step, Connection.tick, Connection.write, Connection.read (by themselves)
     router              Routes.choose, Routes.check_source, forward, clamp_mss
-    NAT                 Nat.translate_out, Nat.translate_in, translate
+    NAT                 Nat.translate_out, Nat.translate_in, Nat.shrink_reach, translate
     fragments           fragments, Reassembler.reassemble, Reassembler.expire
     texts               parse_addr, print_addr, parse_endpoint, str(endpoint), parse_block, print_block,
                         parse_ethernet, print_ethernet

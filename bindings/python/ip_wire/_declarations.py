@@ -157,6 +157,7 @@ CALLS: Dict[str, Tuple[Any, ...]] = {
     "lk_check_source": (c_int, _many(Route), _many(RouteNode), Addr, c_uint16),
     "lk_translate_out": (c_int, Nat, _many(Mapping), c_uint64, OUT),
     "lk_translate_in": (c_int, Nat, _many(Mapping), c_uint64, OUT),
+    "lk_shrink_reach": (None, Nat, _many(Mapping), c_uint64),
     "lk_connection_init": (None, Connection, c_uint16, c_uint32, c_int),
     "lk_connection_listen": (None, Connection),
     "lk_connection_connect": (c_int, Connection, DATA, OUT, c_uint64, c_uint32, Segment),

@@ -151,8 +151,16 @@ class Nat:
         """The Ethernet frame as it comes in, with the inside address and port as its destination."""
         return self._translated("lk_translate_in", frame, now)
 
+    def shrink_reach(self, now: Optional[int] = None) -> None:
+        """Shortens the search for the port of a new endpoint, after mappings have ended. Call it now and then, as once a
+        minute: it reads all mappings. Each endpoint keeps its outside port."""
+        call("lk_shrink_reach", self._nat, self._mappings, _milliseconds(now))
+
     def _translated(self, name: str, frame: Data, now: Optional[int]) -> bytes:
         out = copied(frame)
-        milliseconds = time.monotonic_ns() // 1_000_000 if now is None else now
-        _accept(call(name, self._nat, self._mappings, milliseconds, out))
+        _accept(call(name, self._nat, self._mappings, _milliseconds(now), out))
         return bytes(out)
+
+
+def _milliseconds(now: Optional[int]) -> int:
+    return time.monotonic_ns() // 1_000_000 if now is None else now

@@ -113,6 +113,8 @@ class Translating(Case):
         self.assertEqual(nat.translate_in(back, 999), model.udp_frame(REMOTE, INSIDE, b"b"))
         other = model.udp_frame(end("10.0.0.3", 5000), REMOTE, b"")
         self.rejects(Rejection.NO_FREE_PORT, nat.translate_out, other, 999)
+        self.assertIsNone(nat.shrink_reach(999))
+        self.assertEqual(nat.translate_in(back, 999), model.udp_frame(REMOTE, INSIDE, b"b"))
         self.rejects(Rejection.NO_MAPPING, nat.translate_in, back, 1000)
         self.assertEqual(nat.translate_out(other, 1000), model.udp_frame(OUTSIDE, REMOTE, b""))
         # UDP, TCP and ICMP have their own mappings, and the identifier of an echo is its port.

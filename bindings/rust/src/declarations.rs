@@ -349,6 +349,7 @@ calls! {
     ) -> c_int;
     fn lk_translate_out(nat: &Nat, mappings: *mut Mapping, count: usize, now: u64, frame: *mut u8, len: usize) -> c_int;
     fn lk_translate_in(nat: &Nat, mappings: *mut Mapping, count: usize, now: u64, frame: *mut u8, len: usize) -> c_int;
+    fn lk_shrink_reach(nat: &Nat, mappings: *mut Mapping, count: usize, now: u64);
     fn lk_connection_init(connection: &mut Connection, mss: u16, keep_alive: u32, is_eager: c_int);
     fn lk_connection_listen(connection: &mut Connection);
     fn lk_connection_connect(

@@ -148,6 +148,15 @@ impl<M: AsMut<[Mapping]>> Nat<M> {
         self.translate(Library::lk_translate_in, now, frame)
     }
 
+    /// Shortens the search for the port of a new endpoint, after mappings have ended. Call it now and then, as once a
+    /// minute: it reads all mappings. Each endpoint keeps its outside port.
+    pub fn shrink_reach(&mut self, now: Duration) {
+        let (mappings, now) = (self.mappings.as_mut(), milliseconds(now));
+        let (table, count) = (mappings.as_mut_ptr().cast(), mappings.len());
+        // SAFETY: there are `count` mappings, which are those of C.
+        unsafe { library().lk_shrink_reach(&self.nat, table, count, now) }
+    }
+
     /// The mappings, for example for another NAT.
     pub fn into_mappings(self) -> M {
         self.mappings

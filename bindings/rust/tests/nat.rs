@@ -104,6 +104,12 @@ fn a_table_translates_udp() {
     ];
     run(&mut nat(), &steps);
 
+    // The endpoints keep their ports.
+    let mut shrunk = nat();
+    run(&mut shrunk, &steps[1..3]);
+    shrunk.shrink_reach(Duration::from_millis(2));
+    run(&mut shrunk, &steps[3..]);
+
     // A new NAT has no mapping of the old one.
     let mut old = nat();
     run(&mut old, &steps[1..5]);

@@ -12,6 +12,7 @@ pub mod Meaning
 pub mod NatOnce
 pub mod Places
 pub mod Quotes
+pub mod Reaches
 pub mod Residues
 pub mod Searches
 pub mod Tables

@@ -64,14 +64,14 @@ home-port nat len port inside exists =
     record { least = omega arith; most = omega (arith, begins, exists.least, exists.most) }
 
 -- the mapping that is written at the home
-abbrev home_mapping : Nat → List Mapping → Protocol → Ipv4Endpoint → ℕ → Mapping
+abbrev pub home_mapping : Nat → List Mapping → Protocol → Ipv4Endpoint → ℕ → Mapping
 home_mapping nat old a inside port = with_reach (max (mapping_at_home nat old a inside).reach (row_of nat (length old) inside port)) (mapping_at_home nat old a inside)
 
-noted-own : (nat : Nat) (old : List Mapping) (a : Protocol) (inside : Ipv4Endpoint) (port : ℕ) → port ≡ inside.port → noted nat old a inside port ≡ old
+pub noted-own : (nat : Nat) (old : List Mapping) (a : Protocol) (inside : Ipv4Endpoint) (port : ℕ) → port ≡ inside.port → noted nat old a inside port ≡ old
 noted-own nat old a inside port own =
     cond-true (port == inside.port) old (set old (place_of nat (length old) a (home_of nat (length old) inside)) (home_mapping nat old a inside port)) (eq-eqb port inside.port own)
 
-noted-other : (nat : Nat) (old : List Mapping) (a : Protocol) (inside : Ipv4Endpoint) (port : ℕ) → port ≢ inside.port
+pub noted-other : (nat : Nat) (old : List Mapping) (a : Protocol) (inside : Ipv4Endpoint) (port : ℕ) → port ≢ inside.port
     → noted nat old a inside port ≡ set old (place_of nat (length old) a (home_of nat (length old) inside)) (home_mapping nat old a inside port)
 noted-other nat old a inside port apart =
     cond-false (port == inside.port) old (set old (place_of nat (length old) a (home_of nat (length old) inside)) (home_mapping nat old a inside port)) (ne_eqb port inside.port apart)

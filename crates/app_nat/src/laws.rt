@@ -6,6 +6,7 @@ ghost use Rattle.app_nat.specs.Nat.{HasUsualChecksums, IsPacket, IsTranslated, I
 ghost use Rattle.app_edit.specs.declared.side.Side.TheVariants.{Destination};
 ghost use Rattle.app_nat.specs.declared.packet.Packet.{Packet};
 
+pub mod reach;
 pub mod table;
 
 use crate::flows::{translate_in, translate_out};

@@ -47,7 +47,7 @@ pub fn open(
 }
 
 // Notes at the home of an inside endpoint in which row it has this outside port, if it is not its own port.
-fn note(
+pub(crate) fn note(
     nat: &Nat,
     mappings: &mut [Mapping],
     protocol: Protocol,

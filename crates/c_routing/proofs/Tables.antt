@@ -86,6 +86,12 @@ pub part-keeps : {A : Type 0} (P : List A → Type 0) (old part new : List A) (k
 part-keeps P old part new k (inl used) keeps holds = subst P (sym used.becomes) (keeps (subst P (sym used.whole) holds))
 part-keeps P old part new k (inr unused) keeps holds = subst P (sym unused.stays) holds
 
+-- what becomes of the part, becomes of the table
+pub part-becomes : {A : Type 0} (R : List A → List A → Type 0) (old part new : List A) (k : ℕ) → IsUsed old part new k ⊎ IsUnused old part new k
+    → R (take k old) part → length old ≤ max_len → R old new
+part-becomes R old part new k (inl used) holds fits = subst (λ l. R l new) used.whole (subst (R (take k old)) (sym used.becomes) holds)
+part-becomes R old part new k (inr unused) holds fits = let long = unused.long in absurd (omega (arith, fits, long))
+
 pub stays-beyond : {A : Type 0} (old part new : List A) (k : ℕ) → IsUsed old part new k ⊎ IsUnused old part new k → max_len < length old → new ≡ old
 stays-beyond old part new k (inl used) long = let fits = used.fits in absurd (omega (arith, fits, long))
 stays-beyond old part new k (inr unused) long = unused.stays

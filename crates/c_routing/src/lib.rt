@@ -19,7 +19,7 @@ pub use edits::{
 };
 pub use forwarding::forward_frame;
 pub use fragments::write_fragment;
-pub use nat::{translate_in, translate_out};
+pub use nat::{shrink_reach, translate_in, translate_out};
 pub use reassembly::{expire_packet, reassemble_frame};
 pub use rejections::Rejection;
 pub use routes::{Route, choose_by_table, choose_route, index_routes, make_table};

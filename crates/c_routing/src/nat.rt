@@ -1,8 +1,9 @@
 //! Network address translation by a table of mappings.
 
-ghost use Rattle.std.specs.Prelude.{◌≡◌, ◌<◌, length};
+ghost use Rattle.std.specs.Prelude.{◌≡◌, ◌<◌, ◌≤◌, length};
 ghost use Rattle.c_routing.specs.Nat.{TranslatesIn, TranslatesOut};
 ghost use Rattle.c_structs.specs.Written.{max_len};
+ghost use Rattle.app_nat.specs.Reach.{Shrinks};
 ghost use Rattle.app_nat.specs.Table.{IsTable};
 
 use crate::rejections::Rejection;
@@ -38,4 +39,14 @@ pub fn translate_in(nat: &Nat, mappings: &mut [Mapping], now: u64, frame: &mut [
         Ok(()) => 0,
         Err(reason) => Rejection::of_nat(reason).code(),
     }
+}
+
+/// Gives each place its least reach, and changes nothing else.
+pub fn shrink_reach(nat: &Nat, mappings: &mut [Mapping], now: u64)
+    ensures shrinks { length mappings.old ≤ max_len → Shrinks nat.now mappings.old mappings.new now }
+    ensures beyond { max_len < length mappings.old → mappings.new ≡ mappings.old }
+    ensures keeps { IsTable nat.now mappings.old now → IsTable nat.now mappings.new now }
+{
+    let count = usable(mappings.len());
+    app_nat::shrink_reach(nat, &mut mappings[..count], now)
 }
