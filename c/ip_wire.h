@@ -1124,8 +1124,13 @@ struct lk_partial {
  * - `now` is a clock in milliseconds that never goes back. Fragments are kept for 60 seconds after the one of their
  *   packet that came first (RFC 1122, section 3.3.2; RFC 8200, section 4.5).
  * - Fragments belong to one packet if they agree in version, addresses and identification, over IPv4 also in protocol.
- * - If all `partials` are in use, one that has expired makes room for a new packet, else the one that expires first; of
- *   several the first.
+ * - The fragments of a packet are in one of the `partials`:
+ *
+ *   packet                               its place
+ *   kept, and not expired                that with its fragments
+ *   another, while one is not in use     the first of those that are not in use: what has expired waits for lk_expire
+ *   another                              the first of those with the least `expires`, also if it has not expired
+ *
  * - Messages of neighbour discovery must not come in fragments (RFC 6980): drop a whole packet with one.
  *
  * The first row that is true has the result. The rows with a star leave `partials` and `memory` unchanged:

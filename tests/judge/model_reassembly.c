@@ -110,9 +110,6 @@ static size_t find(const struct model_table_of_partials *table, size_t count, ui
         if (is_of(&table->at[i], now, it))
             return i;
     for (size_t i = 0; i < count; i++)
-        if (table->at[i].expires <= now)
-            return i;
-    for (size_t i = 0; i < count; i++)
         if (table->at[i].expires < table->at[least].expires)
             least = i;
     return least;

@@ -171,7 +171,8 @@ static const struct step {
     {0, 60999, plain1, 0, plain, 0},
     {2, 1000, plain0, 0, 0, 0},
     {0, 61000, plain1, 0, 0, 0}, /* it began anew */
-    {0, 121000, 0, 0, 0, 0}, /* without the first fragment there is no error */
+    {0, 121000, 0, 0, plain0, 2}, /* the one that expired; without the first fragment there is no error */
+    {0, 121000, 0, 0, 0, 0},
     {2, 1000, middle8, 0, 0, 0},
     {0, 2000, begin8, 0, 0, 0},
     {0, 3000, second0, 0, 0, 0},
@@ -187,6 +188,16 @@ static const struct step {
     {0, 3000, second1, 0, 0, 0},
     {2, 1000, plain0, 0, 0, 0}, /* or of one that has expired */
     {0, 50000, second0, 0, 0, 0},
+    {0, 61000, third0, 0, 0, 0},
+    {0, 61000, second1, 0, second, 0},
+    {0, 61000, third1, 0, third, 0},
+    {2, 1000, plain0, 0, 0, 0}, /* but it stays for lk_expire while another place is free */
+    {0, 61000, second0, 0, 0, 0},
+    {0, 61000, third0, 0, 0, 0}, /* it makes room, and not the packet that came later */
+    {0, 61000, 0, 0, 0, 0},
+    {2, 1000, plain0, 0, 0, 0},
+    {0, 61000, second0, 0, 0, 0},
+    {0, 61000, 0, 0, plain0, 2},
     {0, 61000, third0, 0, 0, 0},
     {0, 61000, second1, 0, second, 0},
     {0, 61000, third1, 0, third, 0},

@@ -1,7 +1,7 @@
 -- A table of packets that are put together from their fragments (RFC 791, section 3.2; RFC 1122, section 3.3.2; RFC 8200,
 -- section 4.5).
 -- Pinned by: `fragments/partials`
-use Rattle.std.specs.Prelude.{ℕ, ◌≡◌, ◌≢◌, ◌+◌, ◌-◌, ◌*◌, ◌/◌, ◌^◌, ◌<◌, ◌≤◌, ◌⊎◌, ◌==◌, ◌&&◌, not, min, nat_le, nat_lt, if◌then◌else◌, false, Option, None, Some, List, [], ◌∷◌, drop, length, replicate, slice_index_or, slice_range, take}
+use Rattle.std.specs.Prelude.{ℕ, ◌≡◌, ◌≢◌, ◌+◌, ◌-◌, ◌*◌, ◌/◌, ◌^◌, ◌<◌, ◌≤◌, ◌⊎◌, ◌==◌, ◌&&◌, not, min, nat_le, if◌then◌else◌, false, Option, None, Some, List, [], ◌∷◌, drop, length, replicate, slice_index_or, slice_range, take}
 use Rattle.app_fragment.specs.Datagram.{Collects, EachPacket, IsFirst, IsFirstWritten, IsMixed, IsTooLong, IsWhole, OnePacket, fragments_of}
 use Rattle.app_fragment.specs.Fragments.{Agree, IsShaped, Make, end_of}
 use Rattle.app_fragment.specs.Parts.{IsOf, fragment_of, packet_len, whole_header_len}
@@ -99,22 +99,19 @@ pub record IsLiveOf (now : ℕ) (key : FragKey) (p : Partial) : Type 0 where
   pub live : now < p.expires
   pub same : p.datagram.key ≡ key
 
--- when an entry ends; 0 if it has ended
-abbrev pub end_at : ℕ → Partial → ℕ
-end_at now p = if nat_lt now p.expires then p.expires else 0
-
 -- Entry i is the first with the packet of this key.
 pub record IsFound (partials : List Partial) (now : ℕ) (key : FragKey) (i : ℕ) : Type 0 where
   pub inside : i < length partials
   pub is : IsLiveOf now key (partial_at partials i)
   pub first : (j : ℕ) → j < i → ¬ IsLiveOf now key (partial_at partials j)
 
--- No entry has the packet of this key. Entry i ends first, and is the first of those that end then: it makes room.
+-- No entry has the packet of this key. Entry i makes room: one that is not in use, else the one that expires first, and of
+-- several the first. So a packet whose time is over stays, for `expire`, while an entry is not in use.
 pub record IsFreed (partials : List Partial) (now : ℕ) (key : FragKey) (i : ℕ) : Type 0 where
   pub inside : i < length partials
   pub none : (j : ℕ) → j < length partials → ¬ IsLiveOf now key (partial_at partials j)
-  pub least : (j : ℕ) → j < length partials → end_at now (partial_at partials i) ≤ end_at now (partial_at partials j)
-  pub first : (j : ℕ) → j < i → end_at now (partial_at partials i) < end_at now (partial_at partials j)
+  pub least : (j : ℕ) → j < length partials → (partial_at partials i).expires ≤ (partial_at partials j).expires
+  pub first : (j : ℕ) → j < i → (partial_at partials i).expires < (partial_at partials j).expires
 
 -- entry i is for the packet with this key; the law `place_is_unique` says that there is only one
 abbrev pub IsPlaceFor : List Partial → ℕ → FragKey → ℕ → Type 0

@@ -3,7 +3,7 @@
 ghost use Rattle.std.specs.Prelude.{◌≡◌, ◌↔◌, ◌*◌, ◌<◌, ◌≤◌, IfSome, IsTrue, None, length};
 ghost use Rattle.app_fragment.specs.Fragments.{end_of};
 ghost use Rattle.app_fragment.specs.Parts.{IsValid, fragment_of};
-ghost use Rattle.app_fragment.specs.Partials.{Adds, Does, Expires, HasNoFirst, IsAlone, IsFirstFrame, IsFragment, IsLiveOf, IsPlaceFor, IsReturned, IsTold, Opens, Reassembles, Takes, bare, block_count, end_at, ended, entry, room_of, share_len, table};
+ghost use Rattle.app_fragment.specs.Partials.{Adds, Does, Expires, HasNoFirst, IsAlone, IsFirstFrame, IsFragment, IsLiveOf, IsPlaceFor, IsReturned, IsTold, Opens, Reassembles, Takes, bare, block_count, ended, entry, room_of, share_len, table};
 
 use crate::datagram::{Datagram, begin, write_alone};
 use crate::part::{FragKey, part_of};
@@ -140,7 +140,7 @@ fn place_of(partials: &[Partial], now: u64, key: &FragKey) -> usize
         if partials[i].is_live_of(now, key) {
             return i;
         }
-        if partials[i].end(now) < partials[first].end(now) {
+        if partials[i].expires < partials[first].expires {
             first = i;
         }
     }
@@ -162,13 +162,6 @@ impl Partial {
         ensures { IsTrue result ↔ IsLiveOf now key.now self.now }
     {
         now < self.expires && self.datagram.key.is_same(key)
-    }
-
-    // When it ends; 0 if it has ended.
-    fn end(&self, now: u64) -> u64
-        ensures { result ≡ end_at now self.now }
-    {
-        if now < self.expires { self.expires } else { 0 }
     }
 }
 

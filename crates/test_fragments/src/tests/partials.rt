@@ -236,7 +236,8 @@ fn keeps_a_packet_without_room(rt: HostRuntime) {
 
 /// The fragments that come. For each frame that `expire` gives, the changes in the header of its first fragment, and the
 /// Ethernet header of the fragment that came first.
-const EXPIRED: [(&[Event<'static>], &[(&[Change], &[u8; 14])]); 5] = [
+/// A packet whose time is over waits for it while another entry is not in use.
+const EXPIRED: [(&[Event<'static>], &[(&[Change], &[u8; 14])]); 6] = [
     (&[], &[]),
     (&[(1000, &FIRST, 0, &[], INCOMPLETE)], &[(&[], &LINK)]),
     (
@@ -260,6 +261,13 @@ const EXPIRED: [(&[Event<'static>], &[(&[Change], &[u8; 14])]); 5] = [
             (1000, &FIRST, 0, &B_0, INCOMPLETE),
         ],
         &[(&[], &LINK), (&B_0, &OTHER_LINK)],
+    ),
+    (
+        &[
+            (1000, &FIRST, 0, &[], INCOMPLETE),
+            (61_000, &FIRST, 0, &B_0, INCOMPLETE),
+        ],
+        &[(&[], &LINK)],
     ),
 ];
 
