@@ -110,14 +110,11 @@ int lk_read_link(uint32_t link_type, const uint8_t *ptr, size_t captured, struct
     return reason;
 }
 
-int lk_read_linktype(uint32_t link_type, const uint8_t *ptr, size_t captured, size_t len, struct lk_frame *frame)
+/* `frame` is cleared, and the lengths are not too long. */
+INLINE int read_linked(uint32_t link_type, const uint8_t *ptr, size_t captured, size_t len, struct lk_frame *frame)
 {
     struct lk_link link = {0, 0, {0, 0}, 0};
-    clear(frame);
-    frame->payload_len = len = reaches(len, 0) ? len : 0;
-    captured = reaches(captured, 0) ? captured : 0;
-    if (len < captured)
-        captured = len;
+    frame->payload_len = len;
     int reason = parse_link(kind_of(link_type), ptr, captured, &link);
     if (reason == LK_TOO_SHORT && len >= link.offset)
         reason = LK_HEADER_CUT;
@@ -133,4 +130,17 @@ int lk_read_linktype(uint32_t link_type, const uint8_t *ptr, size_t captured, si
     if (link.type == TYPE_ARP)
         return frame->reason = (uint8_t)store_arp(ptr, captured - link.offset, frame);
     return frame->reason = (uint8_t)store_ip(link.type, ptr, captured - link.offset, frame, NULL);
+}
+
+int lk_read_linktype(uint32_t link_type, const uint8_t *ptr, size_t captured, size_t len, struct lk_frame *frame)
+{
+    len = reaches(len, 0) ? len : 0;
+    captured = reaches(captured, 0) ? captured : 0;
+    if (len < captured)
+        captured = len;
+    clear(frame);
+    int reason = read_linked(link_type, ptr, captured, len, frame);
+    size_t there = captured - frame->payload_offset;
+    frame->payload_captured = there < frame->payload_len ? there : frame->payload_len;
+    return reason;
 }

@@ -374,11 +374,9 @@ INLINE int store_ip(uint16_t type, const uint8_t *ptr, size_t len, struct lk_fra
 INLINE void clear(struct lk_frame *frame)
 {
     typedef uint64_t pair __attribute__((vector_size(16), may_alias, aligned(8)));
-    _Static_assert(offsetof(struct lk_frame, icmp) == 9 * sizeof(pair), "nine vectors");
-    _Static_assert(sizeof *frame == 9 * sizeof(pair) + sizeof frame->icmp, "and a word");
+    _Static_assert(sizeof *frame == 10 * sizeof(pair), "ten vectors");
     pair *to = (pair *)frame;
-    to[0] = to[1] = to[2] = to[3] = to[4] = to[5] = to[6] = to[7] = to[8] = (pair){0};
-    frame->icmp = (struct lk_icmp){0};
+    to[0] = to[1] = to[2] = to[3] = to[4] = to[5] = to[6] = to[7] = to[8] = to[9] = (pair){0};
 }
 
 /* By one shuffle of 16 bytes. The last two clear the first field after the header. */
@@ -411,13 +409,19 @@ INLINE int read_frame(const uint8_t *ptr, size_t len, struct lk_frame *frame, st
     return frame->reason = (uint8_t)store_ip(type, ptr + ETHERNET_LEN, len - ETHERNET_LEN, frame, options);
 }
 
-int lk_read_frame(const uint8_t *ptr, size_t len, struct lk_frame *frame) { return read_frame(ptr, len, frame, NULL); }
+int lk_read_frame(const uint8_t *ptr, size_t len, struct lk_frame *frame)
+{
+    int reason = read_frame(ptr, len, frame, NULL);
+    frame->payload_captured = frame->payload_len;
+    return reason;
+}
 
 /* The options before a malformed one were stored. */
 int lk_read_frame_options(const uint8_t *ptr, size_t len, struct lk_frame *frame, struct lk_tcp_options *options)
 {
     clear_options(options);
     int reason = read_frame(ptr, len, frame, options);
+    frame->payload_captured = frame->payload_len;
     if (reason == LK_BAD_OPTIONS)
         clear_options(options);
     return reason;

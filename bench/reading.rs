@@ -227,6 +227,7 @@ pub unsafe extern "C" fn lk_read_frame(ptr: *const u8, len: usize, frame: *mut F
     let bytes = unsafe { input(ptr, len) };
     *frame = Frame::nothing(bytes.len());
     let read = frame.store(bytes);
+    frame.payload_captured = frame.payload_len;
     frame.reason = if read.is_ok() { READ } else { REJECTED };
     frame.reason.into()
 }

@@ -1,5 +1,5 @@
-/* A frame with padding is read, rebuilt without the padding, and a header is written: for IPv4, and for
- * IPv6. Then UDP packets, TCP segments and an ARP request are written, a received frame is answered, and
+/* A frame with padding is read, whole and captured in part, rebuilt without the padding, and a header is written: for
+ * IPv4, and for IPv6. Then UDP packets, TCP segments and an ARP request are written, a received frame is answered, and
  * texts are read and printed. */
 #include <stdio.h>
 #include <string.h>
@@ -54,6 +54,14 @@ static void print_frame(const uint8_t *ptr, size_t len)
                (unsigned)frame.src.port, (unsigned)frame.dst.port, frame.payload_offset, frame.transport_checksum == LK_RIGHT);
     else
         printf("type %04x, protocol %u, payload at %zu\n", (unsigned)frame.ethernet.type, (unsigned)frame.ip.protocol, frame.payload_offset);
+}
+
+/* Prints the payload of a frame of `len` bytes, as far as it was captured. */
+static void print_captured(const uint8_t *ptr, size_t captured, size_t len)
+{
+    struct lk_frame frame;
+    if (lk_read_captured(ptr, captured, len, &frame) == LK_READ)
+        print_bytes("captured", ptr + frame.payload_offset, (ptrdiff_t)frame.payload_captured);
 }
 
 /* Answers a frame with a UDP packet: the same payload goes back to where it came from. */
@@ -119,13 +127,15 @@ int main(void)
     struct lk_endpoint client6 = read_endpoint("[fe80::1]:1"), server6 = read_endpoint("[ff02::1]:2");
     struct lk_addr src = read_addr("10.0.0.1"), dst = read_addr("10.0.0.2"), mapped = read_addr("::ffff:192.168.1.1");
     struct lk_block site = {read_addr("192.168.0.0"), 16}, link = {client6.addr, 64};
-    uint8_t out[80];
+    uint8_t out[80], first[36];
     struct lk_ip ip;
     ptrdiff_t len;
 
     printf("checksum of the header %04x\n", (unsigned)lk_checksum(frame + 14, 20));
     print_frame(frame, sizeof frame);
     print_frame(frame, 30);
+    memcpy(first, frame, sizeof first);
+    print_captured(first, sizeof first, sizeof frame);
     print_bytes("rebuilt", out, lk_rebuild(frame, sizeof frame, out, sizeof out));
     print_bytes("room for 37 bytes:", out, lk_rebuild(frame, sizeof frame, out, 37));
 

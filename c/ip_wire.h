@@ -329,6 +329,8 @@ struct lk_frame {
     size_t transport_offset; /* of the UDP, TCP or ICMP header, also of a rejected one that is stored */
     size_t payload_offset;   /* of the payload */
     size_t payload_len;      /* ends within the frame, before its padding */
+    size_t payload_captured; /* bytes of the payload that are at `ptr`: `payload_len`, or fewer if the frame was captured
+                              * in part */
     struct lk_endpoint src;  /* the sender; the port is 0 unless a UDP or TCP header is stored, or begins in a fragment */
     struct lk_endpoint dst;
     struct lk_ip ip;
@@ -403,7 +405,8 @@ int lk_read_packet(const uint8_t *ptr, size_t len, struct lk_frame *frame);
  *   checksum of 0 is LK_LEFT_OUT, or LK_WRONG over IPv6.
  * - An ICMP message of which fewer than 8 bytes were captured has no transport, and no header is rejected. A first
  *   fragment of which the ports were not captured has the ports 0.
- * - `payload_len` is that of the whole frame: the payload may end past the captured bytes. */
+ * - `payload_len` is that of the whole frame: the payload may end past the captured bytes. The first `payload_captured`
+ *   bytes of it are at `ptr`. */
 int lk_read_captured(const uint8_t *ptr, size_t captured, size_t len, struct lk_frame *frame);
 int lk_read_captured_packet(const uint8_t *ptr, size_t captured, size_t len, struct lk_frame *frame);
 
@@ -449,7 +452,7 @@ int lk_read_link(uint32_t link_type, const uint8_t *ptr, size_t captured, struct
  *     uint32_t link_type = (uint32_t)pcap_datalink(capture);
  *     while (pcap_next_ex(capture, &header, &bytes) == 1)
  *         if (lk_read_linktype(link_type, bytes, header->caplen, header->len, &frame) == LK_READ)
- *             ... bytes + frame.payload_offset ... */
+ *             ... bytes + frame.payload_offset, frame.payload_captured ... */
 int lk_read_linktype(uint32_t link_type, const uint8_t *ptr, size_t captured, size_t len, struct lk_frame *frame);
 
 #define LK_FRAME_TEXT 276

@@ -179,6 +179,15 @@ static void judge(const uint8_t *frame, size_t len)
         printf("used: %s from byte %zu\n", lk_protocol_name(f.protocol), f.payload_offset);
 }
 
+/* Prints the payload of a packet, as far as it was captured. */
+static void print_captured(uint32_t link_type, const uint8_t *bytes, size_t captured, size_t len)
+{
+    struct lk_frame f;
+    if (lk_read_linktype(link_type, bytes, captured, len, &f) == LK_READ)
+        printf("%zu of %zu bytes: %.*s\n", f.payload_captured, f.payload_len, (int)f.payload_captured,
+               (const char *)bytes + f.payload_offset);
+}
+
 int main(void)
 {
     uint8_t frame[128], out[128];
@@ -210,6 +219,7 @@ int main(void)
     hide_source(frame, (size_t)len);
     lower_hop_limit(frame, (size_t)len - 14);
     print("translated", frame, len);
+    print_captured(1, frame, 45, (size_t)len);
     judge(frame, (size_t)len);
     frame[44] ^= 1;
     judge(frame, (size_t)len);

@@ -217,22 +217,11 @@ func (f *Frame) fill(data []byte, value *C.struct_lk_frame) {
 	f.TransportOffset = int(value.transport_offset)
 	f.PayloadOffset = int(value.payload_offset)
 	f.PayloadLen = int(value.payload_len)
-	f.Payload = part(data, f.PayloadOffset, f.PayloadLen)
+	f.Payload = data[f.PayloadOffset:][:value.payload_captured]
 	f.TCPHeader = nil
 	if f.Transport == TransportTCP {
-		f.TCPHeader = part(data, f.TransportOffset, int(value.tcp.header_len))
+		f.TCPHeader = data[f.TransportOffset:][:value.tcp.header_len]
 	}
-}
-
-// part returns the bytes from a place on, as far as they are there.
-func part(data []byte, from, length int) []byte {
-	if from > len(data) {
-		from = len(data)
-	}
-	if length > len(data)-from {
-		length = len(data) - from
-	}
-	return data[from : from+length]
 }
 
 // Check returns the Reason if a header was rejected, ErrChecksum if a checksum is wrong, and else nil.

@@ -71,7 +71,7 @@ __attribute__((constructor)) static void choose(void)
         "a parameter problem about an option to be dropped", "a pointer that counts from the end of the IPv6 header",
         "the ports of a later fragment", "a router alert of RSVP", "a query for another group taken",
         "a payload of 65536 bytes taken", "segments of one byte lost", "a connection changed by a ring that does not fit",
-        "a byte written past those of the peer",
+        "a byte written past those of the peer", "a payload that was cut as captured",
     };
     const char *number = getenv("FAULT");
     fault = number ? (enum fault)atoi(number) : NO_FAULT;
@@ -177,6 +177,8 @@ int __wrap_lk_read_captured(const uint8_t *ptr, size_t captured, size_t len, str
     __real_lk_read_captured(ptr, captured, len, frame);
     if (fault == HEADER_CUT_FOR_TOO_SHORT || fault == CHECKSUM_CUT_MISSED)
         spoil_frame(frame, len);
+    if (fault == PAYLOAD_AS_CAPTURED)
+        frame->payload_captured = frame->payload_len;
     return frame->reason;
 }
 

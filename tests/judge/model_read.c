@@ -405,17 +405,24 @@ static void read_carried(const struct capture *capture, struct lk_frame *frame, 
         read_ipv6(capture, frame, at);
 }
 
+/* Stores how many bytes of the payload are there, and returns the reason. */
+static int end(const struct capture *capture, struct lk_frame *frame)
+{
+    frame->payload_captured = part_at(capture, frame->payload_offset, frame->payload_len).known;
+    return frame->reason;
+}
+
 static int read_ethernet(const struct capture *capture, struct lk_frame *frame)
 {
     if (capture->len < 14 || capture->captured < 14) {
         reject(frame, capture->len < 14 ? LK_TOO_SHORT : LK_HEADER_CUT);
-        return frame->reason;
+        return end(capture, frame);
     }
     memcpy(frame->ethernet.dst, capture->ptr, 6);
     memcpy(frame->ethernet.src, capture->ptr + 6, 6);
     frame->ethernet.type = (uint16_t)get_word(capture->ptr + 12);
     read_carried(capture, frame, 14);
-    return frame->reason;
+    return end(capture, frame);
 }
 
 int model_read_captured(const uint8_t *ptr, size_t captured, size_t len, struct lk_frame *frame)
@@ -439,14 +446,14 @@ int model_read_linktype(uint32_t link_type, const uint8_t *ptr, size_t captured,
     int reason = find_link(link_type, ptr, capture.captured, &link, &needed);
     reject(frame, reason == LK_TOO_SHORT && needed <= capture.len ? LK_HEADER_CUT : reason);
     if (reason != LK_READ)
-        return frame->reason;
+        return end(&capture, frame);
     if (link_type == 1) {
         memcpy(frame->ethernet.dst, ptr, 6);
         memcpy(frame->ethernet.src, ptr + 6, 6);
     }
     frame->ethernet.type = link.type;
     read_carried(&capture, frame, link.offset);
-    return frame->reason;
+    return end(&capture, frame);
 }
 
 /* The version comes before the length, because it tells which header there should be. */
@@ -461,7 +468,7 @@ int model_read_captured_packet(const uint8_t *ptr, size_t captured, size_t len, 
         read_ipv6(&capture, frame, 0);
     else
         reject(frame, LK_BAD_VERSION);
-    return frame->reason;
+    return end(&capture, frame);
 }
 
 int model_read_frame(const uint8_t *ptr, size_t len, struct lk_frame *frame)

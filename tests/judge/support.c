@@ -329,7 +329,7 @@ void same_frame(const struct lk_frame *wanted, const struct lk_frame *came)
 {
     static const struct field fields[] = {
         FRAME(reason), FRAME(network), FRAME(transport), FRAME(rejected), FRAME(is_fragment), FRAME(network_offset),
-        FRAME(transport_offset), FRAME(payload_offset), FRAME(payload_len), FRAME(ipv4_checksum),
+        FRAME(transport_offset), FRAME(payload_offset), FRAME(payload_len), FRAME(payload_captured), FRAME(ipv4_checksum),
         FRAME(transport_checksum), FRAME(ethernet.src), FRAME(ethernet.dst), FRAME(ethernet.type),
         FRAME(src.addr.octets), FRAME(src.addr.version), FRAME(src.port), FRAME(dst.addr.octets),
         FRAME(dst.addr.version), FRAME(dst.port), FRAME(ip.ident), FRAME(ip.flow_label), FRAME(ip.fragment_offset),

@@ -80,6 +80,7 @@ void make_worked_calls(const char *folder)
 #undef FRAME
     worked_read();
     worked_extended();
+    worked_captured();
     worked_ports();
     worked_link();
     worked_options();

@@ -67,6 +67,7 @@ extern const struct octets nothing;
 
 void worked_read(void);
 void worked_extended(void);
+void worked_captured(void);
 void worked_ports(void);
 void worked_link(void);
 void worked_options(void);

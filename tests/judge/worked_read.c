@@ -14,7 +14,7 @@ static struct lk_frame no_header(size_t len)
 {
     struct lk_frame frame;
     memset(&frame, 0, sizeof frame);
-    frame.payload_len = len;
+    frame.payload_len = frame.payload_captured = len;
     frame.reason = LK_TOO_SHORT;
     return frame;
 }
@@ -192,6 +192,7 @@ static struct lk_frame packet_of(struct lk_frame frame)
 static void reads(int line, const struct octets *frame, struct lk_frame expected)
 {
     struct lk_frame found;
+    expected.payload_captured = expected.payload_len;
     memset(&found, OLD, sizeof found);
     check(__FILE__, line, 0, both_read_frame(frame->at, frame->len, &found) == expected.reason);
     same_frame(&expected, &found);

@@ -40,9 +40,9 @@ Ndisc = _declare(
 )
 Frame = _declare(
     "lk_frame", network_offset=c_size_t, transport_offset=c_size_t, payload_offset=c_size_t, payload_len=c_size_t,
-    src=Endpoint, dst=Endpoint, ip=Ip, tcp=Tcp, ethernet=Ethernet, arp=Arp, reason=c_uint8, network=c_uint8,
-    transport=c_uint8, rejected=c_uint8, is_fragment=c_uint8, ipv4_checksum=c_uint8, transport_checksum=c_uint8,
-    protocol=c_uint8, unused=c_uint8 * 4, icmp=Icmp
+    payload_captured=c_size_t, src=Endpoint, dst=Endpoint, ip=Ip, tcp=Tcp, ethernet=Ethernet, arp=Arp, reason=c_uint8,
+    network=c_uint8, transport=c_uint8, rejected=c_uint8, is_fragment=c_uint8, ipv4_checksum=c_uint8,
+    transport_checksum=c_uint8, protocol=c_uint8, unused=c_uint8 * 4, icmp=Icmp
 )
 Link = _declare("lk_link", offset=c_size_t, type=c_uint16, tags=c_uint16 * 2, tag_count=c_uint8)
 Ipv6Header = _declare("lk_ipv6_header", offset=c_uint32, len=c_uint16, protocol=c_uint8, next=c_uint8)

@@ -109,7 +109,7 @@ class Frame:
     @property
     def payload(self) -> bytes:
         """The payload, as far as it was captured."""
-        return self.data[self.payload_offset : self.payload_offset + self.payload_len]
+        return self.data[self.payload_offset : self.payload_offset + _payload_captured(self)]
 
     def check(self) -> None:
         """Raises Rejected if a header was rejected or a checksum is wrong."""
@@ -161,6 +161,9 @@ def _member(name: str, enum: Type[NamedInt]) -> Callable[[Frame], Any]:
 def _size(name: str) -> Callable[[Frame], Any]:
     place, unpack = getattr(c.Frame, name).offset, Struct("N").unpack_from
     return lambda frame: unpack(frame._struct, place)[0]
+
+
+_payload_captured = _size("payload_captured")
 
 
 def _object(cls: Callable[..., Any], name: str) -> Callable[[Frame], Any]:

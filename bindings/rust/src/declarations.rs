@@ -104,6 +104,7 @@ structs! {
         transport_offset: usize,
         payload_offset: usize,
         payload_len: usize,
+        payload_captured: usize,
         src: Endpoint,
         dst: Endpoint,
         ip: Ip,

@@ -360,8 +360,7 @@ impl<'a> Frame<'a> {
     /// The payload, as far as it was captured.
     #[must_use]
     pub fn payload(&self) -> &'a [u8] {
-        let rest = self.bytes.get(self.fields.payload_offset..).unwrap_or(&[]);
-        &rest[..rest.len().min(self.fields.payload_len)]
+        &self.bytes[self.fields.payload_offset..][..self.fields.payload_captured]
     }
 
     /// The headers that were read, to emit them again. `None` unless it is an IP packet.

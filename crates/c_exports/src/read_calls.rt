@@ -35,6 +35,7 @@ pub extern "C" fn lk_version() -> u32
 pub extern "C" fn lk_read_frame(bytes: &[u8], frame: &mut FrameFields) -> i32
     ensures fields { frame.new ≡ fields_of (within bytes.now) }
     ensures within { frame.new.payload_offset + frame.new.payload_len ≤ length bytes.now }
+    ensures captured { frame.new.payload_captured ≡ frame.new.payload_len }
     ensures reason { result ≡ pos (fields_of (within bytes.now)).reason }
 {
     read_frame(frame, within(bytes));
@@ -47,6 +48,7 @@ pub extern "C" fn lk_read_frame(bytes: &[u8], frame: &mut FrameFields) -> i32
 pub extern "C" fn lk_read_packet(bytes: &[u8], frame: &mut FrameFields) -> i32
     ensures fields { frame.new ≡ packet_fields_of (within bytes.now) }
     ensures within { frame.new.payload_offset + frame.new.payload_len ≤ length bytes.now }
+    ensures captured { frame.new.payload_captured ≡ frame.new.payload_len }
     ensures reason { result ≡ pos (packet_fields_of (within bytes.now)).reason }
 {
     read_packet(frame, within(bytes));
@@ -143,6 +145,7 @@ pub extern "C" fn lk_read_frame_options(
     ensures fields { frame.new ≡ fields_of (within bytes.now) }
     ensures options { HasOptions frame.new (within bytes.now) options.new }
     ensures within { frame.new.payload_offset + frame.new.payload_len ≤ length bytes.now }
+    ensures captured { frame.new.payload_captured ≡ frame.new.payload_len }
     ensures reason { result ≡ pos (fields_of (within bytes.now)).reason }
 {
     let reason = lk_read_frame(bytes, frame);

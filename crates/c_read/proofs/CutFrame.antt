@@ -10,15 +10,15 @@ use Rattle.ip_wire.specs.declared.EthernetProtocol.TheVariants as ethertype
 use Rattle.c_structs.specs.Nothing.{nothing_of}
 use Rattle.c_structs.specs.declared.codes.Reason.TheVariants as reason
 use Rattle.c_structs.specs.declared.types.FrameFields.{FrameFields}
-use Rattle.c_read.proofs.CapturedOf.{captured_of-long, captured_of-short, captured_of-whole, captured_packet_of-long, captured_packet_of-short, captured_packet_of-whole}
+use Rattle.c_read.proofs.CapturedOf.{captured_headers-long, captured_headers-short, captured_headers-whole, captured_of-is, captured_packet_headers-long, captured_packet_headers-short, captured_packet_headers-whole, captured_packet_of-is}
 use Rattle.c_read.proofs.CutArp.{arp-next, cut-arp}
 use Rattle.c_read.proofs.CutBytes.{field-front, longer, lt-false, lt-true, range-front}
 use Rattle.c_read.proofs.CutIpv4.{cut-ipv4, dropped, ipv4-next, least-len}
 use Rattle.c_read.proofs.CutIpv6.{cut-ipv6, ipv6-next}
 use Rattle.c_read.proofs.CutOf.{IsNext, IsStart, cut-as, cut-network, if-has, rejected-next, same-of, start-network}
-use Rattle.c_read.proofs.FieldsOf.{fields_of_long, fields_of_short, packet_fields_of-some}
-use Rattle.c_read.specs.Captured.{IsCutOf, before, begin_of, captured_of, captured_packet_of, cut_carried, cut_ipv4, cut_ipv6, cut_packet, link, network, transport_header}
-use Rattle.c_read.specs.FrameFields.{bare_of, fields_of, packet_fields_of, rejected, with_carried, with_ipv4, with_ipv6, with_link, with_packet}
+use Rattle.c_read.proofs.FieldsOf.{fields_of-is, frame_headers-long, frame_headers-short, packet_fields_of-is, packet_headers-some}
+use Rattle.c_read.specs.Captured.{CutHeader, IsCutAt, IsCutOf, before, begin_of, captured_headers, captured_of, captured_packet_headers, captured_packet_of, cut_carried, cut_ipv4, cut_ipv6, cut_packet, link, network, options, transport_header}
+use Rattle.c_read.specs.FrameFields.{bare_of, fields_of, frame_headers, packet_fields_of, packet_headers, rejected, with_captured, with_carried, with_ipv4, with_ipv6, with_link, with_packet}
 
 -- ---- packets
 
@@ -80,23 +80,23 @@ value-front bytes rest h =
 abbrev linked : EthernetRepr → ℕ → ℕ → List ℕ → FrameFields
 linked v len payload_len payload = with_carried (with_link (nothing_of len) v payload_len) v.ethertype payload
 
-frame-begins : (frame : List ℕ) → 14 ≤ length frame → begin_of network (fields_of frame) ≡ 14
+frame-begins : (frame : List ℕ) → 14 ≤ length frame → begin_of network (frame_headers frame) ≡ 14
 frame-begins frame h =
     let v = ethernet.header_of frame in
-    ap (begin_of network) (fields_of_long frame h) ∙ (carried-next (with_link (nothing_of (length frame)) v (length (drop 14 frame))) v.ethertype (drop 14 frame) refl).begins
+    ap (begin_of network) (frame_headers-long frame h) ∙ (carried-next (with_link (nothing_of (length frame)) v (length (drop 14 frame))) v.ethertype (drop 14 frame) refl).begins
 
-frame-cut : (bytes rest : List ℕ) → 0 < length rest → IsCutOf (length bytes) (captured_of bytes (length rest)) (fields_of (bytes ++ rest))
+frame-cut : (bytes rest : List ℕ) → 0 < length rest → IsCutOf (length bytes) (captured_headers bytes (length rest)) (frame_headers (bytes ++ rest))
 frame-cut bytes rest missing =
     let all = bytes ++ rest in
     let size = longer bytes rest in
     let len = length bytes + length rest in
     elim (cases_lt (length bytes) 14) [
       | inl few ↦
-          let cut = captured_of-short bytes (length rest) missing few in
+          let cut = captured_headers-short bytes (length rest) missing few in
           elim (cases_lt len 14) [
             | inl none ↦
                 same-of _ _ (cut ∙ ap (λ (b : Bool). rejected (nothing_of len) (if b then reason.TooShort else reason.HeaderCut)) (lt-true len 14 none)
-                ∙ sym (fields_of_short all (omega (arith, size, none)) ∙ ap nothing_of size))
+                ∙ sym (frame_headers-short all (omega (arith, size, none)) ∙ ap nothing_of size))
             | inr more ↦
                 cut-as _ _ _ _ (cut ∙ ap (λ (b : Bool). rejected (nothing_of len) (if b then reason.TooShort else reason.HeaderCut)) (lt-false len 14 more)) refl
                 (inr (inl (
@@ -114,18 +114,18 @@ frame-cut bytes rest missing =
           let payload : drop 14 all ≡ drop 14 bytes ++ rest = drop-append-le 14 bytes rest h in
           let count : length (drop 14 all) ≡ len - 14 = dropped 14 all ∙ ap (λ (n : ℕ). n - 14) size in
           let whole =
-          fields_of_long all (omega (arith, size, h))
+          frame_headers-long all (omega (arith, size, h))
           ∙ ap (λ (w : EthernetRepr). linked w (length all) (length (drop 14 all)) (drop 14 all)) (value-front bytes rest h)
           ∙ ap (λ (n : ℕ). linked v n (length (drop 14 all)) (drop 14 all)) size
           ∙ ap (λ (n : ℕ). linked v len n (drop 14 all)) count
           ∙ ap (linked v len (len - 14)) payload
           in
           let front : length (drop 14 bytes) ≡ length bytes - 14 = dropped 14 bytes in
-          cut-as _ _ _ _ (captured_of-long bytes (length rest) missing h) whole
+          cut-as _ _ _ _ (captured_headers-long bytes (length rest) missing h) whole
           (cut-carried (length bytes) (with_link (nothing_of len) v (len - 14)) v.ethertype (drop 14 bytes) rest refl (sym count ∙ ap length payload) (omega (arith, front, h)))
     ]
 
-bare-cut : (bytes rest : List ℕ) → 0 < length rest → IsCutOf (length bytes) (captured_packet_of bytes (length rest)) (packet_fields_of (bytes ++ rest))
+bare-cut : (bytes rest : List ℕ) → 0 < length rest → IsCutOf (length bytes) (captured_packet_headers bytes (length rest)) (packet_headers (bytes ++ rest))
 bare-cut bytes rest missing =
     let all = bytes ++ rest in
     let size = longer bytes rest in
@@ -133,24 +133,24 @@ bare-cut bytes rest missing =
     elim (cases_lt (length bytes) 1) [
       | inl few ↦
           cut-as _ _ _ _
-          (captured_packet_of-short bytes (length rest) missing few
+          (captured_packet_headers-short bytes (length rest) missing few
           ∙ ap (λ (b : Bool). rejected (bare_of len) (if b then reason.TooShort else reason.HeaderCut)) (lt-false len 1 (omega (arith, missing))))
-          (packet_fields_of-some all (omega (arith, size, missing)) ∙ ap (λ (n : ℕ). with_packet (bare_of n) all) size)
+          (packet_headers-some all (omega (arith, size, missing)) ∙ ap (λ (n : ℕ). with_packet (bare_of n) all) size)
           (cut-network (length bytes) (bare_of len) (with_packet (bare_of len) all) 1 refl (packet-next (bare_of len) all refl (omega (arith, missing))) (omega (arith, few)))
       | inr h ↦
-          cut-as _ _ _ _ (captured_packet_of-long bytes (length rest) missing h)
-          (packet_fields_of-some all (omega (arith, size, h)) ∙ ap (λ (n : ℕ). with_packet (bare_of n) all) size)
+          cut-as _ _ _ _ (captured_packet_headers-long bytes (length rest) missing h)
+          (packet_headers-some all (omega (arith, size, h)) ∙ ap (λ (n : ℕ). with_packet (bare_of n) all) size)
           (packet-cut (length bytes) (bare_of len) bytes rest h refl (sym size) (omega arith))
     ]
 
 -- ---- with nothing missing too
 
-pub captured-cut : (bytes rest : List ℕ) → IsCutOf (length bytes) (captured_of bytes (length rest)) (fields_of (bytes ++ rest))
-captured-cut bytes [] = same-of _ _ (captured_of-whole bytes ∙ ap fields_of (sym (append-nil bytes)))
+pub captured-cut : (bytes rest : List ℕ) → IsCutOf (length bytes) (captured_headers bytes (length rest)) (frame_headers (bytes ++ rest))
+captured-cut bytes [] = same-of _ _ (captured_headers-whole bytes ∙ ap frame_headers (sym (append-nil bytes)))
 captured-cut bytes (x ∷ rest) = frame-cut bytes (x ∷ rest) (omega arith)
 
-pub captured-packet-cut : (bytes rest : List ℕ) → IsCutOf (length bytes) (captured_packet_of bytes (length rest)) (packet_fields_of (bytes ++ rest))
-captured-packet-cut bytes [] = same-of _ _ (captured_packet_of-whole bytes ∙ ap packet_fields_of (sym (append-nil bytes)))
+pub captured-packet-cut : (bytes rest : List ℕ) → IsCutOf (length bytes) (captured_packet_headers bytes (length rest)) (packet_headers (bytes ++ rest))
+captured-packet-cut bytes [] = same-of _ _ (captured_packet_headers-whole bytes ∙ ap packet_headers (sym (append-nil bytes)))
 captured-packet-cut bytes (x ∷ rest) = bare-cut bytes (x ∷ rest) (omega arith)
 
 -- the arguments of a call, of which no byte is left out
@@ -160,16 +160,36 @@ taken of bytes rest len is =
     let missing : len - length bytes ≡ length rest = omega (arith, is) in
     ap (λ (b : List ℕ). of b (len - length bytes)) all ∙ ap (of bytes) missing
 
+-- equal fields, but for the number of captured bytes of the payload
+counted : (i : ℕ) (f : FrameFields) {g : FrameFields} → f ≡ g
+    → with_captured i f ≡ record g { payload_captured = (with_captured i f).payload_captured }
+counted i f is = ap (λ (h : FrameFields). record h { payload_captured = (with_captured i f).payload_captured }) is
+
+-- that number is not compared
+counted-at : (n i j : ℕ) (h : CutHeader) (f g : FrameFields) → IsCutAt n h f g → IsCutAt n h (with_captured i f) (with_captured j g)
+counted-at n i j link f g at = record { reason = at.reason; offset = at.offset; missing = at.missing; fields = counted i f at.fields }
+counted-at n i j network f g at = record { reason = at.reason; offset = at.offset; missing = at.missing; fields = counted i f at.fields }
+counted-at n i j transport_header f g at = record { reason = at.reason; offset = at.offset; missing = at.missing; fields = counted i f at.fields }
+counted-at n i j options f g at = record { reason = at.reason; offset = at.offset; missing = at.missing; fields = counted i f at.fields }
+
+pub counted-cut : {n : ℕ} (i j : ℕ) (f g : FrameFields) → IsCutOf n f g → IsCutOf n (with_captured i f) (with_captured j g)
+counted-cut i j f g (inl (inl h)) = inl (inl (record { checksum = h.checksum; fields = counted i f h.fields }))
+counted-cut i j f g (inl (inr l)) = inl (inr (record { named = l.named; missing = l.missing; fields = counted i f l.fields }))
+counted-cut {n} i j f g (inr (inl (h, at))) = inr (inl (h, counted-at n i j h f g at))
+counted-cut i j f g (inr (inr (inl w))) =
+    inr (inr (inl (record { reason = w.reason; after = w.after; missing = w.missing; order = w.order; fields = counted i f w.fields })))
+counted-cut i j f g (inr (inr (inr l))) = inr (inr (inr (record { part = l.part; missing = l.missing; fields = counted i f l.fields })))
+
 pub read-cut : (bytes rest : List ℕ) (len : ℕ) (f : FrameFields) → f ≡ captured_of (take len bytes) (len - length bytes) → length bytes + length rest ≡ len
     → IsCutOf (length bytes) f (fields_of (bytes ++ rest))
-read-cut bytes rest len f is sum = cut-as _ _ _ _ (is ∙ taken captured_of bytes rest len sum) refl (captured-cut bytes rest)
+read-cut bytes rest len f is sum =
+    let all = bytes ++ rest in
+    cut-as _ _ _ _ (is ∙ taken captured_of bytes rest len sum ∙ captured_of-is bytes (length rest)) (fields_of-is all)
+    (counted-cut (length bytes) (length all) (captured_headers bytes (length rest)) (frame_headers all) (captured-cut bytes rest))
 
 pub read-packet-cut : (bytes rest : List ℕ) (len : ℕ) (f : FrameFields) → f ≡ captured_packet_of (take len bytes) (len - length bytes) → length bytes + length rest ≡ len
     → IsCutOf (length bytes) f (packet_fields_of (bytes ++ rest))
-read-packet-cut bytes rest len f is sum = cut-as _ _ _ _ (is ∙ taken captured_packet_of bytes rest len sum) refl (captured-packet-cut bytes rest)
-
--- nothing is missing
-pub read-whole : (bytes : List ℕ) (len : ℕ) (f : FrameFields) → f ≡ captured_of (take len bytes) (len - length bytes) → len ≤ length bytes → f ≡ fields_of (take len bytes)
-read-whole bytes len f is h =
-    let none : len - length bytes ≡ 0 = omega (arith, h) in
-    is ∙ ap (captured_of (take len bytes)) none ∙ captured_of-whole (take len bytes)
+read-packet-cut bytes rest len f is sum =
+    let all = bytes ++ rest in
+    cut-as _ _ _ _ (is ∙ taken captured_packet_of bytes rest len sum ∙ captured_packet_of-is bytes (length rest)) (packet_fields_of-is all)
+    (counted-cut (length bytes) (length all) (captured_packet_headers bytes (length rest)) (packet_headers all) (captured-packet-cut bytes rest))

@@ -169,6 +169,7 @@ chain-fields : (f : FrameFields) (c d : Chain) (g : FrameFields) â†’ IsBare f â†
       reason = k.reason;
       payload_offset = k.payload_offset;
       payload_len = k.payload_len;
+      payload_captured = k.payload_captured;
     }
 chain-fields f c d g bare kept part =
     let k = stepped_over f c in
@@ -199,6 +200,7 @@ chain-fields f c d g bare kept part =
       reason = k.reason;
       payload_offset = k.payload_offset;
       payload_len = k.payload_len;
+      payload_captured = k.payload_captured;
     }) kept)
 
 -- the ports after the headers of whole packets are not those of a fragment

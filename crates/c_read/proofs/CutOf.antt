@@ -18,7 +18,7 @@ use Rattle.c_read.specs.FrameFields.{after_header, has_message, rejected, reject
 
 -- equal structs
 pub same-of : {n : ℕ} (f g : FrameFields) → f ≡ g → IsCutOf n f g
-same-of f g is = inl (inl (record { checksum = inl (ap (λ (h : FrameFields). h.transport_checksum) is); fields = is ∙ ap (λ (h : FrameFields). record g { transport_checksum = h.transport_checksum }) (sym is) }))
+same-of f g is = inl (inl (record { checksum = inl (ap (λ (h : FrameFields). h.transport_checksum) is); fields = is ∙ ap (λ (h : FrameFields). record g { transport_checksum = h.transport_checksum; payload_captured = h.payload_captured }) (sym is) }))
 
 -- the same of structs that are equal to these
 pub cut-as : {n : ℕ} (f g f2 g2 : FrameFields) → f ≡ f2 → g ≡ g2 → IsCutOf n f2 g2 → IsCutOf n f g
@@ -36,7 +36,7 @@ pub cut-transport : (n : ℕ) (f g : FrameFields) (least : ℕ) → f ≡ before
     → IsCutOf n (rejected f reason.HeaderCut) g
 cut-transport n f g least fresh past few =
     let first : rejected f reason.HeaderCut ≡ record (before transport_header f) { reason = 8 } = ap (λ (h : FrameFields). rejected h reason.HeaderCut) fresh in
-    let last = ap (λ (h : FrameFields). record h { reason = 8; payload_offset = f.payload_offset; payload_len = f.payload_len }) past.kept in
+    let last = ap (λ (h : FrameFields). record h { reason = 8; payload_offset = f.payload_offset; payload_len = f.payload_len; payload_captured = f.payload_captured }) past.kept in
     inr (inl (transport_header, record { reason = refl; offset = sym past.begins; missing = subst (λ (k : ℕ). n < k) (sym past.ends) few; fields = first ∙ sym last }))
 
 -- ---- properties of a choice
@@ -53,7 +53,7 @@ if-has P false g h a c = c
 
 -- nothing after an Ethernet header is stored yet
 abbrev pub IsStart : FrameFields → Type 0
-IsStart f = f ≡ record (before network f) { reason = f.reason; payload_offset = f.payload_offset; payload_len = f.payload_len }
+IsStart f = f ≡ record (before network f) { reason = f.reason; payload_offset = f.payload_offset; payload_len = f.payload_len; payload_captured = f.payload_captured }
 
 pub start-network : (f : FrameFields) → IsStart f → f.network ≡ 0
 start-network f start = ap (λ (h : FrameFields). h.network) start
@@ -77,7 +77,7 @@ before-end n m k a c = omega (arith, a, c)
 pub cut-network : (n : ℕ) (f g : FrameFields) (len : ℕ) → IsStart f → IsNext f g len → n < f.payload_offset + len → IsCutOf n (rejected f reason.HeaderCut) g
 cut-network n f g len start next few =
     let first = ap (λ (h : FrameFields). rejected h reason.HeaderCut) start in
-    let last = ap (λ (e : Ethernet). record (nothing_of 0) { ethernet = e; reason = 8; payload_offset = f.payload_offset; payload_len = f.payload_len }) next.ethernet in
+    let last = ap (λ (e : Ethernet). record (nothing_of 0) { ethernet = e; reason = 8; payload_offset = f.payload_offset; payload_len = f.payload_len; payload_captured = f.payload_captured }) next.ethernet in
     inr (inl (network, record { reason = refl; offset = sym next.begins; missing = before-end n (f.payload_offset + len) (end_of network g) few next.ends; fields = first ∙ sym last }))
 
 -- a header that is rejected

@@ -32,7 +32,7 @@ use Rattle.c_structs.specs.declared.codes.Reason.TheVariants as reason
 use Rattle.c_structs.specs.declared.types.FrameFields.{FrameFields}
 use Rattle.c_read.proofs.CutBytes.{field-front}
 use Rattle.c_read.proofs.StoredHeaders.{is-headed}
-use Rattle.c_read.specs.FrameFields.{after_header, fields_of, rejected, rejected_transport, tcp_fault, udp_fault, with_carried, with_extended, with_frame, with_ipv4_header, with_ipv6_header, with_message, with_part, with_payload, with_tcp_header, with_transport_by, with_udp_header, has_message, with_icmp}
+use Rattle.c_read.specs.FrameFields.{after_header, fields_of, frame_headers, rejected, rejected_transport, tcp_fault, udp_fault, with_carried, with_extended, with_frame, with_ipv4_header, with_ipv6_header, with_message, with_part, with_payload, with_tcp_header, with_transport_by, with_udp_header, has_message, with_icmp}
 use Rattle.c_read.specs.FrameOptions.{header_in}
 use Rattle.c_read.specs.Stored.{Locates, headed, linked, upper_payload, upper_protocol}
 use Rattle.c_read.specs.TcpOptions.{ReadsItems}
@@ -147,11 +147,17 @@ carried-placed frame v ethertype.Ipv6 =
     (no-header _ frame refl)
 carried-placed frame v (ethertype.Unknown n) = no-header (linked frame v) frame refl
 
-frame-placed : (frame : List ℕ) → Places (fields_of frame) frame
-unfolding fields_of
-frame-placed frame =
+headers-placed : (frame : List ℕ) → Places (frame_headers frame) frame
+unfolding frame_headers
+headers-placed frame =
     by-value (ethernet_of frame) (λ v. with_frame (nothing_of (length frame)) v (drop 14 frame)) (nothing_of (length frame)) frame
     (λ v is. carried-placed frame v v.ethertype) (no-header (nothing_of (length frame)) frame refl)
+
+frame-placed : (frame : List ℕ) → Places (fields_of frame) frame
+unfolding fields_of
+frame-placed frame = record {
+  header = λ tcp. let h = (headers-placed frame).header tcp in record { ends = h.ends; room = h.room; items = h.items; reads = h.reads };
+}
 
 -- the TCP header that was read
 pub header-found : (frame : List ℕ) (f : FrameFields) → f ≡ fields_of frame → f.transport ≡ 2 → HasHeader f frame

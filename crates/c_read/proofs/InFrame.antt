@@ -1,5 +1,6 @@
 -- The struct of a packet in a frame is that of the packet by itself, with the Ethernet header.
-use Rattle.std.proofs.Common.{ℕ, ◌≡◌, ◌∙◌, ◌≤◌, ◌+◌, nat_lt, if◌then◌else◌, Bool, true, false, List, [], ◌∷◌, Option, None, Some, ap, drop, length, refl, sym, arith}
+use Rattle.std.proofs.Common.{ℕ, ◌≡◌, ◌∙◌, ◌≤◌, ◌+◌, ◌-◌, nat_lt, min, if◌then◌else◌, Bool, true, false, List, [], ◌∷◌, Option, None, Some, ap, drop, length, refl, sym, arith}
+use Rattle.std.proofs.lemmas.List.{length-drop}
 use Rattle.std.specs.Option.{option_map_or}
 use Rattle.ip_wire.specs.Ethernet as ethernet
 use Rattle.ip_wire.specs.Frame.{ipv4_payload}
@@ -20,9 +21,9 @@ use Rattle.ip_wire.specs.declared.IpProtocol.TheVariants as protocol
 use Rattle.c_structs.specs.Verdicts.{icmp_verdict}
 use Rattle.c_structs.specs.declared.codes.Reason.TheVariants as reason
 use Rattle.c_structs.specs.declared.types.FrameFields.{FrameFields}
-use Rattle.c_read.proofs.FieldsOf.{packet_fields_of-some}
-use Rattle.c_read.proofs.StoredHeaders.{fields_of-linked}
-use Rattle.c_read.specs.FrameFields.{bare_of, after_header, fields_of, ipv4_fault, ipv6_fault, packet_fields_of, rejected, rejected_transport, tcp_fault, udp_fault, with_carried, with_chain, with_extended, with_ipv4, with_ipv4_header, with_ipv6, with_ipv6_header, with_packet, with_part, with_payload, with_tcp, with_tcp_header, with_transport_by, with_udp, with_udp_header, has_message, with_icmp}
+use Rattle.c_read.proofs.FieldsOf.{fields_of-is, packet_fields_of-is, packet_headers-some}
+use Rattle.c_read.proofs.StoredHeaders.{frame_headers-linked}
+use Rattle.c_read.specs.FrameFields.{bare_of, after_header, fields_of, ipv4_fault, ipv6_fault, packet_fields_of, packet_headers, rejected, rejected_transport, tcp_fault, udp_fault, with_captured, with_carried, with_chain, with_extended, with_ipv4, with_ipv4_header, with_ipv6, with_ipv6_header, with_packet, with_part, with_payload, with_tcp, with_tcp_header, with_transport_by, with_udp, with_udp_header, has_message, with_icmp}
 use Rattle.wire_extensions.specs.Chain.{chain_of}
 use Rattle.wire_extensions.specs.declared.chain.Chain.{Chain}
 use Rattle.c_read.specs.Stored.{IsTypeOf, in_frame, linked}
@@ -130,12 +131,20 @@ carried-in v f ethertype.Ipv6 bytes is =
     ipv6-in v f bytes ∙ ap (in_frame v) same
 carried-in v f t bytes is = absurd is
 
+-- the bytes of the payload that are there are the same
+counted-in : (v : EthernetRepr) (f : FrameFields) (frame : List ℕ) → with_captured (length frame) (in_frame v f) ≡ in_frame v (with_captured (length (drop 14 frame)) f)
+counted-in v f frame =
+    let size : length (drop 14 frame) ≡ length frame - 14 = length-drop 14 frame in
+    let same : length frame - (f.payload_offset + 14) ≡ length (drop 14 frame) - f.payload_offset = omega (arith, size) in
+    ap (λ (n : ℕ). record (in_frame v f) { payload_captured = min f.payload_len n }) same
+
 -- the struct of a frame by that of the packet in it
 pub frame-packet : (frame : List ℕ) (v : EthernetRepr) → ethernet.Reads frame v → IsTypeOf v.ethertype (drop 14 frame)
     → fields_of frame ≡ in_frame v (packet_fields_of (drop 14 frame))
 frame-packet frame v r is =
     let bytes = drop 14 frame in
-    let single = packet_fields_of-some bytes (not-empty v.ethertype bytes is) in
+    let single = packet_headers-some bytes (not-empty v.ethertype bytes is) in
     let start : linked frame v ≡ in_frame v (bare_of (length bytes)) = refl in
-    fields_of-linked frame v r ∙ ap (λ (f : FrameFields). with_carried f v.ethertype bytes) start ∙ carried-in v (bare_of (length bytes)) v.ethertype bytes is
-    ∙ ap (in_frame v) (sym single)
+    let headers = frame_headers-linked frame v r ∙ ap (λ (f : FrameFields). with_carried f v.ethertype bytes) start ∙ carried-in v (bare_of (length bytes)) v.ethertype bytes is
+    ∙ ap (in_frame v) (sym single) in
+    fields_of-is frame ∙ ap (with_captured (length frame)) headers ∙ counted-in v (packet_headers bytes) frame ∙ ap (in_frame v) (sym (packet_fields_of-is bytes))

@@ -37,12 +37,12 @@ use Rattle.c_structs.specs.declared.codes.Reason.TheVariants as reason
 use Rattle.c_structs.specs.declared.types.FrameFields.{FrameFields}
 use Rattle.c_read.proofs.CutBytes.{le-true}
 use Rattle.c_read.proofs.CutFrame.{captured-cut, captured-packet-cut, cut-carried}
-use Rattle.c_read.proofs.FieldsOf.{packet_fields_of-some}
+use Rattle.c_read.proofs.FieldsOf.{fields_of-is, packet_fields_of-is, packet_headers-some}
 use Rattle.c_read.proofs.StoredFrame.{with_carried-ipv4, with_carried-ipv6}
-use Rattle.c_read.proofs.StoredHeaders.{fields_of-linked, header-there}
-use Rattle.c_read.specs.Captured.{IsCutOf, captured_of, captured_packet_of, cut_carried, cut_header, link, network, options, transport_header}
-use Rattle.c_read.specs.FrameFields.{after_header, arp_fault, bare_of, fields_of, has_message, ipv4_fault, ipv6_fault, is_icmp, ipv6_chain, packet_fields_of, rejected, rejected_transport, tcp_fault, udp_fault, with_carried, with_extended, with_frame, with_icmp, with_ipv4, with_ipv4_header, with_ipv6, with_ipv6_header, with_message, with_packet, with_part, with_payload, with_tcp_header, with_transport_by, with_udp_header}
-use Rattle.c_read.specs.Links.{linked_after, linked_by, linked_of, with_linked}
+use Rattle.c_read.proofs.StoredHeaders.{frame_headers-linked, header-there}
+use Rattle.c_read.specs.Captured.{IsCutOf, captured_headers, captured_of, captured_packet_headers, captured_packet_of, cut_carried, cut_header, link, network, options, transport_header}
+use Rattle.c_read.specs.FrameFields.{after_header, arp_fault, bare_of, fields_of, frame_headers, has_message, ipv4_fault, ipv6_fault, is_icmp, ipv6_chain, packet_fields_of, packet_headers, rejected, rejected_transport, tcp_fault, udp_fault, with_captured, with_carried, with_extended, with_frame, with_icmp, with_ipv4, with_ipv4_header, with_ipv6, with_ipv6_header, with_message, with_packet, with_part, with_payload, with_tcp_header, with_transport_by, with_udp_header}
+use Rattle.c_read.specs.Links.{linked_after, linked_by, linked_headers, linked_of, with_linked}
 use Rattle.c_read.specs.Messages.{CarriesIcmp, IsIcmp, StoresMessage}
 use Rattle.c_read.specs.Stored.{headed, headed_by, linked, upper_payload, upper_protocol}
 
@@ -142,27 +142,39 @@ carried-tells f (ethertype.Unknown k) bytes n give = new f n
 abbrev pub Carries : List ℕ → Type 0
 Carries frame = (ip : IpRepr) × CarriesIcmp frame ip (upper_payload ip (drop 14 frame))
 
-pub frame-tells : (frame : List ℕ) → Tells (Carries frame) (fields_of frame)
-unfolding fields_of
-frame-tells frame =
+frame-headers : (frame : List ℕ) → Tells (Carries frame) (frame_headers frame)
+unfolding frame_headers
+frame-headers frame =
     by-value (ethernet_of frame) (λ v. with_frame (nothing_of (length frame)) v (drop 14 frame)) (nothing_of (length frame))
     (λ v is. carried-tells (linked frame v) v.ethertype (drop 14 frame) (record { transport = refl; icmp = refl })
     (λ ip type message. (ip, (v, (ethernet_of-Reads frame v).0 is, type, message))))
     (new (nothing_of (length frame)) (record { transport = refl; icmp = refl }))
 
+-- the number of captured bytes tells nothing
+counted : {Q : Type 0} (n : ℕ) (f : FrameFields) → Tells Q f → Tells Q (with_captured n f)
+counted n f t = record { named = t.named; none = t.none }
+
+pub frame-tells : (frame : List ℕ) → Tells (Carries frame) (fields_of frame)
+unfolding fields_of
+frame-tells frame = counted (length frame) (frame_headers frame) (frame-headers frame)
+
 -- the bytes are a packet with a message
 abbrev pub HasIcmp : List ℕ → Type 0
 HasIcmp bytes = (ip : IpRepr) × IsIcmp bytes ip (upper_payload ip bytes)
 
-pub packet-tells : (bytes : List ℕ) → Tells (HasIcmp bytes) (packet_fields_of bytes)
-unfolding packet_fields_of
-packet-tells bytes =
+packet-header : (bytes : List ℕ) → Tells (HasIcmp bytes) (packet_headers bytes)
+unfolding packet_headers
+packet-header bytes =
     let f = bare_of (length bytes) in
     let fresh : IsNew f = record { transport = refl; icmp = refl } in
     by-test (nat_lt (length bytes) 1) (nothing_of (length bytes)) (with_packet f bytes) (λ short. new (nothing_of (length bytes)) (record { transport = refl; icmp = refl }))
     (λ long. by-test (field bytes 0 4 == 4) (with_ipv4 f bytes) _ (λ four. ipv4-tells f bytes fresh (λ w is. (Ipv4 w, is)))
     (λ not. by-test (field bytes 0 4 == 6) (with_ipv6 f bytes) (rejected f reason.BadVersion) (λ six. ipv6-tells f bytes fresh (λ w is. (Ipv6 w, is)))
     (λ other. silent (rejected f reason.BadVersion) 0 refl (λ e. omega (arith, e)) refl)))
+
+pub packet-tells : (bytes : List ℕ) → Tells (HasIcmp bytes) (packet_fields_of bytes)
+unfolding packet_fields_of
+packet-tells bytes = counted (length bytes) (packet_headers bytes) (packet-header bytes)
 
 -- ---- of captured bytes, by the whole frame
 
@@ -180,10 +192,14 @@ cut-tells f g (inr (inl (transport_header, at))) t = silent f 0 (ap (λ (k : Fra
 cut-tells f g (inr (inl (options, at))) t = silent f 0 (ap (λ (k : FrameFields). k.transport) at.fields) (λ e. omega (arith, e)) (ap (λ (k : FrameFields). k.icmp) at.fields)
 
 pub captured-tells : (bytes rest : List ℕ) → Tells (Carries (bytes ++ rest)) (captured_of bytes (length rest))
-captured-tells bytes rest = cut-tells _ _ (captured-cut bytes rest) (frame-tells (bytes ++ rest))
+unfolding captured_of
+captured-tells bytes rest =
+    counted (length bytes) (captured_headers bytes (length rest)) (cut-tells _ _ (captured-cut bytes rest) (frame-headers (bytes ++ rest)))
 
 pub captured-packet-tells : (bytes rest : List ℕ) → Tells (HasIcmp (bytes ++ rest)) (captured_packet_of bytes (length rest))
-captured-packet-tells bytes rest = cut-tells _ _ (captured-packet-cut bytes rest) (packet-tells (bytes ++ rest))
+unfolding captured_packet_of
+captured-packet-tells bytes rest =
+    counted (length bytes) (captured_packet_headers bytes (length rest)) (cut-tells _ _ (captured-packet-cut bytes rest) (packet-header (bytes ++ rest)))
 
 lt-is : (m n : ℕ) → nat_lt m n ≡ true → m < n
 lt-is m n e = grind (arith, nat_tests)
@@ -211,11 +227,15 @@ after-tells len bytes t (Ok found) =
 after-tells len bytes t (Err (fault.TooShort least)) = new (cut_header (nothing_of len) least) (record { transport = refl; icmp = refl })
 after-tells len bytes t (Err fault.BadVersion) = new (rejected (nothing_of len) reason.BadVersion) (record { transport = refl; icmp = refl })
 
-pub linked-tells : (number : ℕ) (bytes : List ℕ) (len : ℕ) → Tells ⊤ (linked_of number bytes len)
-unfolding linked_of
-linked-tells number bytes len =
+linked-headers : (number : ℕ) (bytes : List ℕ) (len : ℕ) → Tells ⊤ (linked_headers number bytes len)
+unfolding linked_headers
+linked-headers number bytes len =
     by-value (link_type_of number) (linked_by (nothing_of len) bytes) (rejected (nothing_of len) reason.UnknownLink) (λ t is. after-tells len bytes t (link_of t bytes))
     (new (rejected (nothing_of len) reason.UnknownLink) (record { transport = refl; icmp = refl }))
+
+pub linked-tells : (number : ℕ) (bytes : List ℕ) (len : ℕ) → Tells ⊤ (linked_of number bytes len)
+unfolding linked_of
+linked-tells number bytes len = counted (length bytes) (linked_headers number bytes len) (linked-headers number bytes len)
 
 -- ---- what is stored of a message
 
@@ -241,9 +261,9 @@ headed-len : (f : FrameFields) (bytes : List ℕ) (ip : IpRepr) → (headed_by f
 headed-len f bytes (Ipv4 w) = refl
 headed-len f bytes (Ipv6 w) = sym (length-drop (ipv6_chain bytes).len (ipv6.payload_of bytes))
 
-stores : (f g : FrameFields) (bytes : List ℕ) (ip : IpRepr) (m : List ℕ) → IsIcmp bytes ip m
-    → g ≡ with_icmp (headed_by f bytes ip) m (icmp_verdict (src_addr_of ip) (dst_addr_of ip) m) → StoresMessage (headed_by f bytes ip) ip m g
-stores f g bytes ip m is fields =
+stores : (n : ℕ) (f g : FrameFields) (bytes : List ℕ) (ip : IpRepr) (m : List ℕ) → IsIcmp bytes ip m
+    → g ≡ with_captured n (with_icmp (headed_by f bytes ip) m (icmp_verdict (src_addr_of ip) (dst_addr_of ip) m)) → StoresMessage (headed_by f bytes ip) ip m g
+stores n f g bytes ip m is fields =
     let len = headed-len f bytes ip ∙ ap length (sym is.payload) in
     let header = is.header in
     subst (λ (g : FrameFields). StoresMessage (headed_by f bytes ip) ip m g) (sym fields) (record {
@@ -258,7 +278,8 @@ stores f g bytes ip m is fields =
 
 pub frame-stores : (frame : List ℕ) (ip : IpRepr) (m : List ℕ) (carries : CarriesIcmp frame ip m) → StoresMessage (headed frame carries.0 ip) ip m (fields_of frame)
 frame-stores frame ip m (v, reads, type, is) =
-    stores (linked frame v) (fields_of frame) (drop 14 frame) ip m is (fields_of-linked frame v reads ∙ carried-stored (linked frame v) v.ethertype (drop 14 frame) ip m type is)
+    stores (length frame) (linked frame v) (fields_of frame) (drop 14 frame) ip m is
+    (fields_of-is frame ∙ ap (with_captured (length frame)) (frame_headers-linked frame v reads ∙ carried-stored (linked frame v) v.ethertype (drop 14 frame) ip m type is))
 
 -- a packet by itself is stored by its version
 packet-stored : (f : FrameFields) (bytes : List ℕ) (ip : IpRepr) (m : List ℕ) → IsIcmp bytes ip m → (1 ≤ length bytes) × (with_packet f bytes ≡ with_carried f (type_of ip) bytes)
@@ -272,4 +293,5 @@ pub packet-stores : (bytes : List ℕ) (ip : IpRepr) (m : List ℕ) → IsIcmp b
 packet-stores bytes ip m is =
     let f = bare_of (length bytes) in
     let (some, version) = packet-stored f bytes ip m is in
-    stores f (packet_fields_of bytes) bytes ip m is (packet_fields_of-some bytes some ∙ version ∙ carried-stored f (type_of ip) bytes ip m refl is)
+    stores (length bytes) f (packet_fields_of bytes) bytes ip m is
+    (packet_fields_of-is bytes ∙ ap (with_captured (length bytes)) (packet_headers-some bytes some ∙ version ∙ carried-stored f (type_of ip) bytes ip m refl is))

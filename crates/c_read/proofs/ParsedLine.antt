@@ -11,7 +11,7 @@ use Rattle.c_structs.specs.Addresses.{addr_of, ip_of}
 use Rattle.c_structs.specs.declared.types.FrameFields.{FrameFields}
 use Rattle.c_read.proofs.StoredFrame.{stores-read}
 use Rattle.c_read.proofs.StoredHeaders.{is-headed}
-use Rattle.c_read.specs.FrameFields.{fields_of}
+use Rattle.c_read.specs.FrameFields.{fields_of, with_captured}
 use Rattle.c_read.specs.Stored.{StepsFrame, headed, struct_of, unchecked}
 use Rattle.c_read.specs.Summary.{end_text, ends_text, frame_line, has_ports, header_text, ipv4_note, network_word, reason_note, tcp_line, tcp_text, transport_note, transport_of, udp_line, version_text, with_verdicts}
 
@@ -83,7 +83,7 @@ udp-printed frame v w u payload icmp_type icmp_code r =
     let carried = packet w (datagram u payload) in
     let s = stores-read frame v carried r in
     let e = headed-ends frame v w (datagram u payload) r in
-    let here : HasEnds (struct_of frame v carried) w = record { network = e.network; src = e.src; dst = e.dst; reason = e.reason } in
+    let here : HasEnds (with_captured (length frame) (struct_of frame v carried)) w = record { network = e.network; src = e.src; dst = e.dst; reason = e.reason } in
     let (protocol, ports) = s.values in
     ported-line (fields_of frame) w icmp_type icmp_code 1 u.src_port u.dst_port (length payload) (codes " UDP") (subst (λ g. HasEnds g w) (sym s.fields) here)
     (ap transport_of s.fields) ports.0 ports.1 s.payload.len (ap (λ (g : FrameFields). header_text g icmp_type icmp_code) s.fields)
@@ -94,7 +94,7 @@ tcp-printed frame v w h payload icmp_type icmp_code r =
     let carried = packet w (segment h payload) in
     let s = stores-read frame v carried r in
     let e = headed-ends frame v w (segment h payload) r in
-    let here : HasEnds (struct_of frame v carried) w = record { network = e.network; src = e.src; dst = e.dst; reason = e.reason } in
+    let here : HasEnds (with_captured (length frame) (struct_of frame v carried)) w = record { network = e.network; src = e.src; dst = e.dst; reason = e.reason } in
     let (protocol, ports) = s.values in
     let text = ap (λ (g : FrameFields). header_text g icmp_type icmp_code) s.fields ∙ sym (ap (λ (g : FrameFields). tcp_text g.tcp) s.fields) in
     ported-line (fields_of frame) w icmp_type icmp_code 2 h.src_port h.dst_port (length payload) (tcp_text (fields_of frame).tcp) (subst (λ g. HasEnds g w) (sym s.fields) here)

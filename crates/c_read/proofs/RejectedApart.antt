@@ -27,7 +27,7 @@ use Rattle.c_structs.specs.declared.types.FrameFields.{FrameFields}
 use Rattle.wire_extensions.proofs.Steps.{chain-right}
 use Rattle.c_read.proofs.StoredChain.{extension-kept, given, no-fault}
 use Rattle.c_read.proofs.StoredParts.{IsFault, tcp-faulty, udp-faulty}
-use Rattle.c_read.specs.FrameFields.{after_header, fields_of, rejected, rejected_transport, tcp_fault, udp_fault, with_carried, with_chain, with_extended, with_frame, with_ipv4_header, with_ipv6_header, with_message, with_part, with_payload, with_tcp_header, with_transport_by, with_udp_header, has_message, with_icmp}
+use Rattle.c_read.specs.FrameFields.{after_header, fields_of, frame_headers, rejected, rejected_transport, tcp_fault, udp_fault, with_carried, with_chain, with_extended, with_frame, with_ipv4_header, with_ipv6_header, with_message, with_part, with_payload, with_tcp_header, with_transport_by, with_udp_header, has_message, with_icmp}
 use Rattle.wire_extensions.specs.Chain.{chain_of}
 use Rattle.c_read.specs.Stored.{linked}
 
@@ -113,9 +113,13 @@ carried-apart f ethertype.Ipv6 bytes n =
     (early f _ n.transport n.rejected)
 carried-apart f (ethertype.Unknown k) bytes n = same f n
 
-pub frame-apart : (frame : List ℕ) → Apart (fields_of frame)
-unfolding fields_of
-frame-apart frame =
+headers-apart : (frame : List ℕ) → Apart (frame_headers frame)
+unfolding frame_headers
+headers-apart frame =
     by-value (ethernet_of frame) (λ v. with_frame (nothing_of (length frame)) v (drop 14 frame)) (nothing_of (length frame))
     (λ v. carried-apart (linked frame v) v.ethertype (drop 14 frame) (record { reason = refl; transport = refl; rejected = refl }))
     (record { none = λ h. refl; all = λ h. refl })
+
+pub frame-apart : (frame : List ℕ) → Apart (fields_of frame)
+unfolding fields_of
+frame-apart frame = let apart = headers-apart frame in record { none = apart.none; all = apart.all }

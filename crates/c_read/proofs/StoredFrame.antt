@@ -1,5 +1,5 @@
 -- The struct of a frame that is parsed whole stores its values.
-use Rattle.std.proofs.Common.{ℕ, ◌≡◌, ◌∙◌, ◌↔◌, ◌≢◌, ◌⊎◌, inl, inr, ◌==◌, if◌then◌else◌, Bool, true, false, IsTrue, List, Some, ap, drop, take, refl, sym, arith}
+use Rattle.std.proofs.Common.{ℕ, ◌≡◌, ◌∙◌, ◌↔◌, ◌≢◌, ◌⊎◌, inl, inr, ◌==◌, if◌then◌else◌, Bool, true, false, IsTrue, List, Some, ap, drop, length, take, refl, sym, arith}
 use Rattle.std.proofs.lemmas.Bool.{eqb-true}
 use Rattle.ip_wire.proofs.ArpComputed.{arp_of-Reads}
 use Rattle.ip_wire.proofs.Ipv4Computed.{ipv4_of-Reads}
@@ -28,9 +28,10 @@ use Rattle.c_structs.specs.declared.codes.Verdict.{Verdict}
 use Rattle.c_structs.specs.declared.codes.Verdict.TheVariants as verdict
 use Rattle.c_structs.specs.declared.types.FrameFields.{FrameFields}
 use Rattle.c_structs.specs.declared.types.Ip.{Ip}
-use Rattle.c_read.proofs.StoredHeaders.{fields_of-linked, is-headed, is-transported, other-chosen, with_transport_by-read}
-use Rattle.c_read.specs.FrameFields.{fields_of, with_carried, with_ipv4_header, with_message, with_part, with_payload, with_transport_by, has_message, with_icmp}
-use Rattle.c_read.specs.Stored.{HasVerdicts, StepsFrame, Stores, headed, headed_by, linked, struct_of, transported, unchecked, upper_payload, upper_protocol}
+use Rattle.c_read.proofs.FieldsOf.{fields_of-is}
+use Rattle.c_read.proofs.StoredHeaders.{frame_headers-linked, is-headed, is-transported, other-chosen, with_transport_by-read}
+use Rattle.c_read.specs.FrameFields.{fields_of, frame_headers, with_captured, with_carried, with_ipv4_header, with_message, with_part, with_payload, with_transport_by, has_message, with_icmp}
+use Rattle.c_read.specs.Stored.{HasTransport, HasVerdicts, StepsFrame, Stores, headed, headed_by, linked, struct_of, transported, unchecked, upper_payload, upper_protocol}
 
 -- ---- the whole frame
 
@@ -53,24 +54,28 @@ pub with_carried-choice : (f : FrameFields) (t : EthernetProtocol) (bytes : List
     → with_carried f t bytes ≡ (if ipv4.is_fragment bytes then with_part (with_ipv4_header f bytes w) (ipv4_payload bytes) else with_payload (with_ipv4_header f bytes w) (Ipv4 w) (ipv4_payload bytes))
 with_carried-choice f t bytes w type read = rw (type, read) refl
 
--- the struct of a frame that is parsed whole
-fields_of-read : (frame : List ℕ) (v : EthernetRepr) (w : Carried) → StepsFrame unchecked frame v w → fields_of frame ≡ struct_of frame v w
-fields_of-read frame v (message w) r =
+-- the headers of a frame that is parsed whole
+frame_headers-read : (frame : List ℕ) (v : EthernetRepr) (w : Carried) → StepsFrame unchecked frame v w → frame_headers frame ≡ struct_of frame v w
+frame_headers-read frame v (message w) r =
     let (type, inner) = r.reads_carried in
     let read = (arp_of-Reads (drop 14 frame) w).1 inner in
-    fields_of-linked frame v r.reads_header ∙ with_carried-arp (linked frame v) v.ethertype (drop 14 frame) w type read
-fields_of-read frame v (packet (Ipv4 w) t) r =
+    frame_headers-linked frame v r.reads_header ∙ with_carried-arp (linked frame v) v.ethertype (drop 14 frame) w type read
+frame_headers-read frame v (packet (Ipv4 w) t) r =
     let bytes = drop 14 frame in
     let (type, (header, whole), none, inner) = r.reads_carried in
     let read = (ipv4_of-Reads false bytes w).1 header in
-    fields_of-linked frame v r.reads_header ∙ with_carried-ipv4 (linked frame v) v.ethertype bytes w type read whole
+    frame_headers-linked frame v r.reads_header ∙ with_carried-ipv4 (linked frame v) v.ethertype bytes w type read whole
     ∙ with_transport_by-read (headed frame v (Ipv4 w)) w.next_header (src_addr_of (Ipv4 w)) (dst_addr_of (Ipv4 w)) (ipv4_payload bytes) t inner
-fields_of-read frame v (packet (Ipv6 w) t) r =
+frame_headers-read frame v (packet (Ipv6 w) t) r =
     let bytes = drop 14 frame in
     let (type, header, none, inner) = r.reads_carried in
     let read = (ipv6_of-Reads bytes w).1 header in
-    fields_of-linked frame v r.reads_header ∙ with_carried-ipv6 (linked frame v) v.ethertype bytes w type read
+    frame_headers-linked frame v r.reads_header ∙ with_carried-ipv6 (linked frame v) v.ethertype bytes w type read
     ∙ with_transport_by-read (headed frame v (Ipv6 w)) (upper_protocol (Ipv6 w) bytes) (src_addr_of (Ipv6 w)) (dst_addr_of (Ipv6 w)) (upper_payload (Ipv6 w) bytes) t inner
+
+-- the struct of a frame that is parsed whole
+fields_of-read : (frame : List ℕ) (v : EthernetRepr) (w : Carried) → StepsFrame unchecked frame v w → fields_of frame ≡ with_captured (length frame) (struct_of frame v w)
+fields_of-read frame v w r = fields_of-is frame ∙ ap (with_captured (length frame)) (frame_headers-read frame v w r)
 
 -- what a transport header leaves as it is
 record KeepsHeader (f g : FrameFields) : Type 0 where
@@ -92,7 +97,14 @@ plain : (bytes : List ℕ) (w : IpRepr) → ReadsPacket unchecked bytes w → Re
 plain bytes (Ipv4 w) r = r.0
 plain bytes (Ipv6 w) r = r
 
-stores-struct : (frame : List ℕ) (v : EthernetRepr) (w : Carried) → StepsFrame unchecked frame v w → Stores (struct_of frame v w) frame v w
+-- the number of captured bytes is no value of a header
+counted-transport : (n : ℕ) (f : FrameFields) (t : Transport) → HasTransport f t → HasTransport (with_captured n f) t
+counted-transport n f (datagram u q) h = h
+counted-transport n f (segment u q) h =
+    record { src_port = h.src_port; dst_port = h.dst_port; seq_number = h.seq_number; ack_number = h.ack_number; ack = h.ack; control = h.control; window_len = h.window_len }
+counted-transport n f (other q) h = h
+
+stores-struct : (frame : List ℕ) (v : EthernetRepr) (w : Carried) → StepsFrame unchecked frame v w → Stores (with_captured (length frame) (struct_of frame v w)) frame v w
 stores-struct frame v (message (EthernetIpv4 operation source_hardware source_protocol target_hardware target_protocol)) r =
     record { fields = refl; values = tt; payload = record { len = refl; octets = refl } }
 stores-struct frame v (packet w t) r =
@@ -102,7 +114,11 @@ stores-struct frame v (packet w t) r =
     let h = is-headed frame v w (plain (drop 14 frame) w header) in
     let d = is-transported (headed frame v w) p (src_addr_of w) (dst_addr_of w) frame bytes t h.payload inner in
     let k = kept (headed frame v w) p (src_addr_of w) (dst_addr_of w) bytes t in
-    record { fields = refl; values = (ap (λ (i : Ip). i.protocol) k.ip ∙ h.protocol, d.values); payload = d.payload }
+    record {
+      fields = refl;
+      values = (ap (λ (i : Ip). i.protocol) k.ip ∙ h.protocol, counted-transport (length frame) (struct_of frame v (packet w t)) t d.values);
+      payload = record { len = d.payload.len; octets = d.payload.octets };
+    }
 
 -- the struct of a frame that is parsed whole stores its values
 pub stores-read : (frame : List ℕ) (v : EthernetRepr) (w : Carried) → StepsFrame unchecked frame v w → Stores (fields_of frame) frame v w
@@ -196,7 +212,7 @@ transport-verdict caps f p src dst bytes (other q) none r =
 
 -- an ARP packet has no checksum
 message-verdicts : (caps : ChecksumCapabilities) (frame : List ℕ) (v : EthernetRepr) (w : ArpRepr) → StepsFrame unchecked frame v (message w)
-    → StepsFrame caps frame v (message w) ↔ HasVerdicts caps (with_message (linked frame v) w)
+    → StepsFrame caps frame v (message w) ↔ HasVerdicts caps (with_captured (length frame) (with_message (linked frame v) w))
 message-verdicts caps frame v (EthernetIpv4 operation source_hardware source_protocol target_hardware target_protocol) r = (
   λ s. record { ipv4 = λ on net. absurd (omega (arith, net)); udp = λ on net. absurd (omega (arith, net)); tcp = λ on net. absurd (omega (arith, net)) },
   λ h. record { reads_header = r.reads_header; reads_carried = r.reads_carried },

@@ -31,7 +31,7 @@ use Rattle.c_structs.specs.declared.codes.Verdict.{Verdict}
 use Rattle.wire_extensions.proofs.Steps.{chain-right}
 use Rattle.c_read.proofs.CutBytes.{lt-false}
 use Rattle.c_read.proofs.StoredChain.{chain-protocol, no-fault}
-use Rattle.c_read.specs.FrameFields.{fields_of, ipv6_chain, with_carried, with_ipv6_header, with_transport_by, has_message, is_icmp, with_icmp, with_message_by}
+use Rattle.c_read.specs.FrameFields.{frame_headers, ipv6_chain, with_carried, with_ipv6_header, with_transport_by, has_message, is_icmp, with_icmp, with_message_by}
 use Rattle.c_read.specs.Stored.{HasFlag, HasProtocol, HasTransport, Locates, headed, linked, extension_fault_of, payload_after, transported, unchecked, upper_payload}
 
 -- ---- payloads
@@ -81,9 +81,9 @@ first-chosen false f g e = absurd (cc)
 -- ---- the Ethernet header
 
 -- the struct of a frame with an Ethernet header
-pub fields_of-linked : (frame : List ℕ) (v : EthernetRepr) → ethernet.Reads frame v → fields_of frame ≡ with_carried (linked frame v) v.ethertype (drop 14 frame)
-unfolding fields_of
-fields_of-linked frame v r = rw ((ethernet_of-Reads frame v).1 r) refl
+pub frame_headers-linked : (frame : List ℕ) (v : EthernetRepr) → ethernet.Reads frame v → frame_headers frame ≡ with_carried (linked frame v) v.ethertype (drop 14 frame)
+unfolding frame_headers
+frame_headers-linked frame v r = rw ((ethernet_of-Reads frame v).1 r) refl
 
 -- ---- the IP header
 

@@ -39,9 +39,10 @@ use Rattle.c_structs.specs.declared.codes.Verdict.{Verdict}
 use Rattle.wire_extensions.proofs.Steps.{chain-right, none-some}
 use Rattle.c_read.proofs.StoredChain.{a-fault, extension-kept, given, no-part, numbered}
 use Rattle.c_read.proofs.StoredFrame.{chosen-network, with_carried-choice, with_carried-ipv4, with_carried-ipv6}
-use Rattle.c_read.proofs.StoredHeaders.{fields_of-linked, first-chosen, is-headed, rest-found}
-use Rattle.c_read.specs.FrameFields.{arp_fault, after_header, fields_of, ipv4_fault, ipv6_fault, rejected, rejected_transport, tcp_fault, udp_fault, ipv6_chain, with_arp, with_carried, with_ipv4, with_ipv4_header, with_ipv6, with_message, with_part, with_payload, with_tcp_header, with_transport_by, with_udp_header, has_message, with_icmp}
-use Rattle.c_read.specs.Stored.{StepsCarried, StepsFrame, StoresFragment, StoresRejected, StoresRejectedBy, StoresUnread, extension_fault_of, headed, headed_by, linked, network_fault, unchecked, upper_payload, upper_protocol}
+use Rattle.c_read.proofs.FieldsOf.{fields_of-is}
+use Rattle.c_read.proofs.StoredHeaders.{frame_headers-linked, first-chosen, is-headed, rest-found}
+use Rattle.c_read.specs.FrameFields.{arp_fault, after_header, fields_of, frame_headers, ipv4_fault, ipv6_fault, rejected, rejected_transport, tcp_fault, udp_fault, ipv6_chain, with_arp, with_captured, with_carried, with_ipv4, with_ipv4_header, with_ipv6, with_message, with_part, with_payload, with_tcp_header, with_transport_by, with_udp_header, has_message, with_icmp}
+use Rattle.c_read.specs.Stored.{HasProtocol, Locates, StepsCarried, StepsFrame, StoresFault, StoresFragment, StoresRejected, StoresRejectedBy, StoresUnread, extension_fault_of, headed, headed_by, linked, network_fault, unchecked, upper_payload, upper_protocol}
 use Rattle.wire_extensions.specs.Chain.{is_part}
 
 -- ---- faults
@@ -177,7 +178,7 @@ carried-only f (ethertype.Unknown n) bytes none read network whole = absurd (net
 -- a frame with a network header, no rejected header and no fragment is parsed whole
 pub only-read : (frame : List ℕ) → (fields_of frame).reason ≡ 0 → (fields_of frame).network ≢ 0 → (fields_of frame).is_fragment ≡ 0
     → (v : EthernetRepr) × (w : Carried) × StepsFrame unchecked frame v w
-unfolding fields_of
+unfolding fields_of frame_headers
 only-read frame read network whole = elim (given (ethernet_of frame)) [
   | inl none ↦ absurd (too-short.other (rw none at read))
   | inr (v, is) ↦
@@ -196,9 +197,9 @@ pub stores-fragment : (frame : List ℕ) (v : EthernetRepr) (w : Ipv4Repr) → e
     → ipv4.is_fragment (drop 14 frame) ≡ true → StoresFragment (fields_of frame) frame v w
 stores-fragment frame v w link type r part =
     let bytes = drop 14 frame in
-    let is = fields_of-linked frame v link ∙ with_carried-fragment (linked frame v) v.ethertype bytes w type ((ipv4_of-Reads false bytes w).1 r) part in
+    let is = frame_headers-linked frame v link ∙ with_carried-fragment (linked frame v) v.ethertype bytes w type ((ipv4_of-Reads false bytes w).1 r) part in
     let h = is-headed frame v (Ipv4 w) r in
-    rw is (record { part = ap flag part; fields = refl; values = h.protocol; payload = record { len = h.payload.len; octets = h.payload.octets } })
+    rw (fields_of-is frame ∙ ap (with_captured (length frame)) is) (record { part = ap flag part; fields = refl; values = h.protocol; payload = record { len = h.payload.len; octets = h.payload.octets } })
 
 -- ---- a rejected transport header
 
@@ -252,12 +253,19 @@ rejected-whole : (f g : FrameFields) (b : Bool) → f.reason ≡ 0 → (if b the
 rejected-whole f g true read fault = absurd (fault read)
 rejected-whole f g false read fault = refl
 
+-- the headers before a rejected one, and the place of what follows them
+record IsFaulty (f : FrameFields) (frame : List ℕ) (v : EthernetRepr) (w : IpRepr) : Type 0 where
+  part : f.is_fragment ≡ 0
+  fields : StoresFault f frame v w
+  values : HasProtocol f w
+  payload : Locates f frame (upper_payload w (drop 14 frame))
+
 -- the struct of a packet that is no fragment and whose transport header is rejected
 stores-after_header : (frame : List ℕ) (v : EthernetRepr) (w : IpRepr) → ReadsHeader (drop 14 frame) false w → let bytes = drop 14 frame in
     let g = with_transport_by (headed frame v w) (upper_protocol w bytes) (src_addr_of w) (dst_addr_of w) (upper_payload w bytes) in
     g.reason ≢ 0 → extension_fault_of w bytes ≡ None
     → (StoresRejectedBy (upper_protocol w bytes) g (headed frame v w) (src_addr_of w) (dst_addr_of w) (upper_payload w bytes) → (headed frame v w).is_fragment ≡ 0)
-    → StoresRejected g frame v w
+    → IsFaulty g frame v w
 stores-after_header frame v w r fault none part =
     let bytes = drop 14 frame in
     let h = is-headed frame v w r in
@@ -284,7 +292,7 @@ whole-header v never = by (is_part v) refl
 -- the struct of an IPv6 packet with a rejected header after the IPv6 header
 ipv6-rejected : (frame : List ℕ) (v : EthernetRepr) (w : Ipv6Repr) → ReadsHeader (drop 14 frame) false (Ipv6 w) → let bytes = drop 14 frame in
     let g = with_transport_by (headed frame v (Ipv6 w)) (upper_protocol (Ipv6 w) bytes) (src_addr_of (Ipv6 w)) (dst_addr_of (Ipv6 w)) (upper_payload (Ipv6 w) bytes) in
-    g.reason ≢ 0 → StoresRejected g frame v (Ipv6 w)
+    g.reason ≢ 0 → IsFaulty g frame v (Ipv6 w)
 ipv6-rejected frame v w r reason =
     let bytes = drop 14 frame in
     let payload = ipv6.payload_of bytes in
@@ -297,7 +305,7 @@ ipv6-rejected frame v w r reason =
       | inr (why, fault) ↦
           let h = is-headed frame v (Ipv6 w) r in
           let same = extension-kept (headed frame v (Ipv6 w)) c.protocol w.src_addr w.dst_addr (drop c.len payload) (right.fault why fault) in
-          subst (λ g. StoresRejected g frame v (Ipv6 w)) (sym same) (record {
+          subst (λ g. IsFaulty g frame v (Ipv6 w)) (sym same) (record {
             part = no-part c.fragment (λ u is. whole-header u (λ part. none-some why (sym (right.part u is part).1 ∙ fault)));
             fields = inl ((λ none. none-some why (sym none ∙ fault)), refl);
             values = h.protocol;
@@ -305,26 +313,33 @@ ipv6-rejected frame v w r reason =
           })
     ]
 
--- the struct of a packet whose transport header or extension header is rejected stores the headers
-pub stores-rejected : (frame : List ℕ) (v : EthernetRepr) (w : IpRepr) → ethernet.Reads frame v → v.ethertype ≡ type_of w → ReadsHeader (drop 14 frame) false w
-    → (fields_of frame).reason ≢ 0 → StoresRejected (fields_of frame) frame v w
-stores-rejected frame v (Ipv4 w) link type r fault =
+is-faulty : (frame : List ℕ) (v : EthernetRepr) (w : IpRepr) → ethernet.Reads frame v → v.ethertype ≡ type_of w → ReadsHeader (drop 14 frame) false w
+    → (frame_headers frame).reason ≢ 0 → IsFaulty (frame_headers frame) frame v w
+is-faulty frame v (Ipv4 w) link type r fault =
     let bytes = drop 14 frame in
     let f = linked frame v in
     let g = headed frame v (Ipv4 w) in
     let part = with_part g (ipv4_payload bytes) in
     let inner = with_payload g (Ipv4 w) (ipv4_payload bytes) in
     let read = (ipv4_of-Reads false bytes w).1 r in
-    let is = fields_of-linked frame v link in
+    let is = frame_headers-linked frame v link in
     let chosen : with_carried f v.ethertype bytes ≡ (if ipv4.is_fragment bytes then part else inner) = with_carried-choice f v.ethertype bytes w type read in
     let whole = rejected-whole part inner (ipv4.is_fragment bytes) refl (rw (is ∙ chosen) at fault) in
     let all = is ∙ with_carried-ipv4 f v.ethertype bytes w type read whole in
     rw all (stores-after_header frame v (Ipv4 w) r (rw all at fault) refl (λ stores. ap flag whole))
-stores-rejected frame v (Ipv6 w) link type r fault =
+is-faulty frame v (Ipv6 w) link type r fault =
     let bytes = drop 14 frame in
     let read = (ipv6_of-Reads bytes w).1 r in
-    let all = fields_of-linked frame v link ∙ with_carried-ipv6 (linked frame v) v.ethertype bytes w type read in
+    let all = frame_headers-linked frame v link ∙ with_carried-ipv6 (linked frame v) v.ethertype bytes w type read in
     rw all (ipv6-rejected frame v w r (rw all at fault))
+
+-- the struct of a packet whose transport header or extension header is rejected stores the headers
+pub stores-rejected : (frame : List ℕ) (v : EthernetRepr) (w : IpRepr) → ethernet.Reads frame v → v.ethertype ≡ type_of w → ReadsHeader (drop 14 frame) false w
+    → (fields_of frame).reason ≢ 0 → StoresRejected (fields_of frame) frame v w
+unfolding fields_of
+stores-rejected frame v w link type r fault =
+    let s = is-faulty frame v w link type r fault in
+    record { part = s.part; fields = (frame_headers frame, refl, s.fields); values = s.values; payload = record { len = s.payload.len; octets = s.payload.octets } }
 
 -- ---- a rejected network header, or an unknown type
 
@@ -368,6 +383,7 @@ carried-unread f (ethertype.Unknown n) bytes same network = same
 -- the struct of a frame whose packet is not read stores the Ethernet header
 pub stores-unread : (frame : List ℕ) (v : EthernetRepr) → ethernet.Reads frame v → (fields_of frame).network ≡ 0 → StoresUnread (fields_of frame) frame v
 stores-unread frame v r network =
-    let is = fields_of-linked frame v r in
-    let all = is ∙ carried-unread (linked frame v) v.ethertype (drop 14 frame) refl (rw is at network) in
+    let counted = with_captured (length frame) in
+    let is = fields_of-is frame ∙ ap counted (frame_headers-linked frame v r) in
+    let all = is ∙ ap counted (carried-unread (linked frame v) v.ethertype (drop 14 frame) refl (rw is at network)) in
     rw all (record { fields = refl; payload = record { len = refl; octets = rest-found frame } })

@@ -1,6 +1,6 @@
 -- The struct of a frame of which only the first bytes were captured. The payload's length in the struct counts all
--- bytes of the frame. The bytes are those that were captured, and fewer.
--- Pinned by: `CutWorked`
+-- bytes of the frame, and `payload_captured` those that were captured. The bytes are those that were captured, and fewer.
+-- Pinned by: `CutWorked`, `worked/captured`
 use Rattle.std.specs.Prelude.{ℕ, ◌≡◌, ◌<◌, ◌≤◌, ◌⊎◌, ◌+◌, ◌-◌, ◌==◌, ◌||◌, not, nat_le, nat_lt, if◌then◌else◌, Bool, false, List, drop, length}
 use Rattle.std.specs.Option.{option_map_or}
 use Rattle.ip_wire.specs.Ethernet as ethernet
@@ -26,7 +26,7 @@ use Rattle.c_structs.specs.declared.codes.Verdict.TheVariants as verdict
 use Rattle.c_structs.specs.declared.types.FrameFields.{FrameFields}
 use Rattle.wire_extensions.specs.Chain.{chain_of}
 use Rattle.c_read.specs.Summary.{transport_of}
-use Rattle.c_read.specs.FrameFields.{bare_of, after_header, fields_of, has_message, ipv4_fault, ipv6_fault, packet_fields_of, rejected, rejected_transport, tcp_fault, with_arp, with_chain, with_icmp, with_ipv4, with_ipv4_fields, with_ipv6, with_ipv6_fields, with_link, with_part, with_tcp_fields, with_udp, with_udp_fields}
+use Rattle.c_read.specs.FrameFields.{bare_of, after_header, frame_headers, has_message, ipv4_fault, ipv6_fault, packet_headers, rejected, rejected_transport, tcp_fault, with_arp, with_captured, with_chain, with_icmp, with_ipv4, with_ipv4_fields, with_ipv6, with_ipv6_fields, with_link, with_part, with_tcp_fields, with_udp, with_udp_fields}
 
 -- ---- the headers
 
@@ -129,20 +129,29 @@ cut_frame f v bytes = cut_carried (with_link f v (f.payload_len - 14)) v.etherty
 
 -- ---- the frame
 
--- the values of a frame of which these bytes were captured, and `missing` bytes after them were not
-unfoldable pub captured_of : List ℕ → ℕ → FrameFields
-captured_of bytes missing =
-    if missing == 0 then fields_of bytes
+-- the values of the headers of a frame of which these bytes were captured, and `missing` bytes after them were not
+unfoldable pub captured_headers : List ℕ → ℕ → FrameFields
+captured_headers bytes missing =
+    if missing == 0 then frame_headers bytes
     else let f = nothing_of (length bytes + missing) in
     if nat_lt (length bytes) 14 then cut_header f 14 else cut_frame f (ethernet.header_of bytes) (drop 14 bytes)
 
--- the values of a packet without an Ethernet header of which these bytes were captured, and `missing` bytes after
--- them were not
-unfoldable pub captured_packet_of : List ℕ → ℕ → FrameFields
-captured_packet_of bytes missing =
-    if missing == 0 then packet_fields_of bytes
+-- the struct of a frame of which these bytes were captured, and `missing` bytes after them were not
+unfoldable pub captured_of : List ℕ → ℕ → FrameFields
+captured_of bytes missing = with_captured (length bytes) (captured_headers bytes missing)
+
+-- the values of the headers of a packet without an Ethernet header of which these bytes were captured, and `missing`
+-- bytes after them were not
+unfoldable pub captured_packet_headers : List ℕ → ℕ → FrameFields
+captured_packet_headers bytes missing =
+    if missing == 0 then packet_headers bytes
     else let f = bare_of (length bytes + missing) in
     if nat_lt (length bytes) 1 then cut_header f 1 else cut_packet f bytes
+
+-- the struct of a packet without an Ethernet header of which these bytes were captured, and `missing` bytes after them
+-- were not
+unfoldable pub captured_packet_of : List ℕ → ℕ → FrameFields
+captured_packet_of bytes missing = with_captured (length bytes) (captured_packet_headers bytes missing)
 
 -- ---- the same by the struct of the whole frame
 
@@ -204,7 +213,12 @@ pub record IsCutAt (n : ℕ) (h : CutHeader) (f g : FrameFields) : Type 0 where
   pub reason : f.reason ≡ reason_code reason.HeaderCut
   pub offset : f.payload_offset ≡ begin_of h g
   pub missing : n < end_of h g
-  pub fields : f ≡ record (before h g) { reason = f.reason; payload_offset = f.payload_offset; payload_len = f.payload_len }
+  pub fields : f ≡ record (before h g) {
+    reason = f.reason;
+    payload_offset = f.payload_offset;
+    payload_len = f.payload_len;
+    payload_captured = f.payload_captured;
+  }
 
 -- The first n bytes end within an IPv6 extension header: the fields before it are those of the whole frame, and the payload
 -- begins at it. Of the whole frame this header was stepped through, or the payload begins at it too. The identification is
@@ -221,13 +235,14 @@ pub record IsCutWithin (n : ℕ) (f g : FrameFields) : Type 0 where
     reason = f.reason;
     payload_offset = f.payload_offset;
     payload_len = f.payload_len;
+    payload_captured = f.payload_captured;
   }
 
 -- no header was cut: all fields are those of the whole frame, but a checksum may cover bytes that are missing
 pub record HasHeaders (n : ℕ) (f g : FrameFields) : Type 0 where
   pub checksum : (f.transport_checksum ≡ g.transport_checksum)
       ⊎ ((f.transport_checksum ≡ verdict_code verdict.ChecksumCut) × (n < payload_end g))
-  pub fields : f ≡ record g { transport_checksum = f.transport_checksum }
+  pub fields : f ≡ record g { transport_checksum = f.transport_checksum; payload_captured = f.payload_captured }
 
 -- the header of an ICMP message was cut, and is not rejected: the message is payload
 pub record LacksMessage (n : ℕ) (f g : FrameFields) : Type 0 where
@@ -237,6 +252,7 @@ pub record LacksMessage (n : ℕ) (f g : FrameFields) : Type 0 where
     transport_offset = 0;
     payload_offset = g.transport_offset;
     payload_len = g.payload_len + 8;
+    payload_captured = f.payload_captured;
     transport = transport_code transport.None;
     transport_checksum = verdict_code verdict.None;
     icmp = no_icmp;
@@ -250,7 +266,7 @@ ports_end g = g.payload_offset + (if g.network == network_code network_kind.Ipv4
 pub record LacksPorts (n : ℕ) (f g : FrameFields) : Type 0 where
   pub part : g.is_fragment ≡ 1
   pub missing : n < ports_end g
-  pub fields : f ≡ record g { src = record g.src { port = 0 }; dst = record g.dst { port = 0 } }
+  pub fields : f ≡ record g { src = record g.src { port = 0 }; dst = record g.dst { port = 0 }; payload_captured = f.payload_captured }
 
 -- the fields of a frame of which the first n bytes were captured, by those of the whole frame
 abbrev pub IsCutOf : ℕ → FrameFields → FrameFields → Type 0

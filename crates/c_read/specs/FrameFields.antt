@@ -1,6 +1,6 @@
 -- The values of a frame as the struct of C.
 -- Pinned by: `worked/read`, `worked/options`, `worked/ports`
-use Rattle.std.specs.Prelude.{ℕ, ◌+◌, ◌*◌, ◌/◌, ◌%◌, ◌-◌, ◌==◌, ◌&&◌, ◌||◌, not, nat_le, nat_lt, is_none, if◌then◌else◌, Bool, true, false, List, drop, length}
+use Rattle.std.specs.Prelude.{ℕ, ◌+◌, ◌*◌, ◌/◌, ◌%◌, ◌-◌, ◌==◌, ◌&&◌, ◌||◌, not, nat_le, nat_lt, is_none, if◌then◌else◌, Bool, true, false, List, drop, length, min}
 use Rattle.std.specs.Option.{option_map_or}
 use Rattle.ip_wire.specs.Arp as arp
 use Rattle.ip_wire.specs.Arp.{arp_of}
@@ -44,11 +44,15 @@ use Rattle.wire_extensions.specs.declared.chain.Chain.{Chain}
 use Rattle.wire_extensions.specs.declared.chain.ExtensionFault.{ExtensionFault}
 use Rattle.wire_extensions.specs.declared.chain.ExtensionFault.TheVariants as fault
 
--- ---- where the payload begins
+-- ---- where the payload is
 
 -- the fields after a header of this length: the payload begins after it, and has this length
 abbrev pub after_header : FrameFields → ℕ → ℕ → FrameFields
 after_header f header_len len = record f { payload_offset = f.payload_offset + header_len; payload_len = len }
+
+-- the fields of a frame or packet whose first n bytes are there, with how many bytes of the payload are among them
+abbrev pub with_captured : ℕ → FrameFields → FrameFields
+with_captured n f = record f { payload_captured = min f.payload_len (n - f.payload_offset) }
 
 -- the fields after the next header was rejected for this reason; the payload begins at that header
 abbrev pub rejected : FrameFields → Reason → FrameFields
@@ -359,9 +363,13 @@ with_packet f bytes =
 abbrev pub bare_of : ℕ → FrameFields
 bare_of len = rejected (nothing_of len) reason.Read
 
--- the values of a packet without an Ethernet header, up to a header that is rejected
+-- the values of the headers of a packet without an Ethernet header, up to one that is rejected
+unfoldable pub packet_headers : List ℕ → FrameFields
+packet_headers bytes = if nat_lt (length bytes) 1 then nothing_of (length bytes) else with_packet (bare_of (length bytes)) bytes
+
+-- the struct of a packet without an Ethernet header
 unfoldable pub packet_fields_of : List ℕ → FrameFields
-packet_fields_of bytes = if nat_lt (length bytes) 1 then nothing_of (length bytes) else with_packet (bare_of (length bytes)) bytes
+packet_fields_of bytes = with_captured (length bytes) (packet_headers bytes)
 
 -- ---- Ethernet
 
@@ -384,7 +392,11 @@ with_link f v payload_len =
 abbrev pub with_frame : FrameFields → EthernetRepr → List ℕ → FrameFields
 with_frame f v bytes = with_carried (with_link f v (length bytes)) v.ethertype bytes
 
--- the values of a frame, up to a header that is rejected
-unfoldable pub fields_of : List ℕ → FrameFields
-fields_of frame =
+-- the values of the headers of a frame, up to one that is rejected
+unfoldable pub frame_headers : List ℕ → FrameFields
+frame_headers frame =
     option_map_or (λ v. with_frame (nothing_of (length frame)) v (drop 14 frame)) (ethernet_of frame) (nothing_of (length frame))
+
+-- the struct of a frame
+unfoldable pub fields_of : List ℕ → FrameFields
+fields_of frame = with_captured (length frame) (frame_headers frame)

@@ -16,7 +16,7 @@ use Rattle.c_structs.specs.declared.codes.Reason.TheVariants as reason
 use Rattle.c_structs.specs.declared.types.Ethernet.{Ethernet}
 use Rattle.c_structs.specs.declared.types.FrameFields.{FrameFields}
 use Rattle.c_read.specs.Captured.{cut_carried, cut_header}
-use Rattle.c_read.specs.FrameFields.{after_header, rejected, with_carried}
+use Rattle.c_read.specs.FrameFields.{after_header, rejected, with_captured, with_carried}
 
 -- ---- the header
 
@@ -73,7 +73,12 @@ linked_after f bytes t (Err why) = rejected_link f why
 abbrev pub linked_by : FrameFields → List ℕ → LinkType → FrameFields
 linked_by f bytes t = linked_after f bytes t (link_of t bytes)
 
--- the values of a packet of `len` bytes of the link type with this number, of which these bytes were captured
-unfoldable pub linked_of : ℕ → List ℕ → ℕ → FrameFields
-linked_of number bytes len =
+-- the values of the headers of a packet of `len` bytes of the link type with this number, of which these bytes were
+-- captured
+unfoldable pub linked_headers : ℕ → List ℕ → ℕ → FrameFields
+linked_headers number bytes len =
     option_map_or (linked_by (nothing_of len) bytes) (link_type_of number) (rejected (nothing_of len) reason.UnknownLink)
+
+-- the struct of a packet of `len` bytes of the link type with this number, of which these bytes were captured
+unfoldable pub linked_of : ℕ → List ℕ → ℕ → FrameFields
+linked_of number bytes len = with_captured (length bytes) (linked_headers number bytes len)

@@ -41,6 +41,7 @@ pub record StoresMessage (f : FrameFields) (ip : IpRepr) (message : List ℕ) (g
     transport_offset = g.transport_offset;
     payload_offset = g.payload_offset;
     payload_len = g.payload_len;
+    payload_captured = g.payload_captured;
     transport = g.transport;
     transport_checksum = g.transport_checksum;
     icmp = g.icmp;

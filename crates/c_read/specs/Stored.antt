@@ -27,7 +27,7 @@ use Rattle.c_structs.specs.declared.codes.Verdict.TheVariants as verdict
 use Rattle.c_structs.specs.declared.types.FrameFields.{FrameFields}
 use Rattle.wire_extensions.specs.Extension.{is_extension}
 use Rattle.wire_extensions.specs.declared.chain.ExtensionFault.{ExtensionFault}
-use Rattle.c_read.specs.FrameFields.{arp_fault, after_header, has_message, ipv4_fault, ipv6_fault, rejected, rejected_transport, tcp_fault, udp_fault, ipv6_chain, with_chain, with_ipv4_header, with_ipv6_header, with_link, with_message, with_message_by, with_part, with_tcp_header, with_udp_header}
+use Rattle.c_read.specs.FrameFields.{arp_fault, after_header, has_message, ipv4_fault, ipv6_fault, rejected, rejected_transport, tcp_fault, udp_fault, ipv6_chain, with_captured, with_chain, with_ipv4_header, with_ipv6_header, with_link, with_message, with_message_by, with_part, with_tcp_header, with_udp_header}
 
 -- no checksum is verified
 abbrev pub unchecked : ChecksumCapabilities
@@ -168,14 +168,14 @@ pub record Locates (f : FrameFields) (frame bytes : List ℕ) : Type 0 where
 
 -- the struct stores all values of a frame that parses as a whole, and locates its innermost payload
 pub record Stores (f : FrameFields) (frame : List ℕ) (v : EthernetRepr) (w : Carried) : Type 0 where
-  pub fields : f ≡ struct_of frame v w
+  pub fields : f ≡ with_captured (length frame) (struct_of frame v w)
   pub values : HasValues f w
   pub payload : Locates f frame (innermost (drop 14 frame) w)
 
 -- the struct stores the headers of an IPv4 fragment and its ports; its payload is not parsed
 pub record StoresFragment (f : FrameFields) (frame : List ℕ) (v : EthernetRepr) (w : Ipv4Repr) : Type 0 where
   pub part : f.is_fragment ≡ 1
-  pub fields : f ≡ with_part (headed frame v (Ipv4 w)) (packet_payload (Ipv4 w) (drop 14 frame))
+  pub fields : f ≡ with_captured (length frame) (with_part (headed frame v (Ipv4 w)) (packet_payload (Ipv4 w) (drop 14 frame)))
   pub values : HasProtocol f (Ipv4 w)
   pub payload : Locates f frame (packet_payload (Ipv4 w) (drop 14 frame))
 
@@ -196,14 +196,14 @@ StoresFault f frame v w =
 -- the struct stores a rejected header and the headers before it, and the payload begins at the rejected one
 pub record StoresRejected (f : FrameFields) (frame : List ℕ) (v : EthernetRepr) (w : IpRepr) : Type 0 where
   pub part : f.is_fragment ≡ 0
-  pub fields : StoresFault f frame v w
+  pub fields : (g : FrameFields) × (f ≡ with_captured (length frame) g) × StoresFault g frame v w
   pub values : HasProtocol f w
   pub payload : Locates f frame (upper_payload w (drop 14 frame))
 
 -- the struct stores the Ethernet header before a rejected header or a payload of unknown type, where the payload
 -- begins
 pub record StoresUnread (f : FrameFields) (frame : List ℕ) (v : EthernetRepr) : Type 0 where
-  pub fields : f ≡ rejected (linked frame v) (network_fault v.ethertype (drop 14 frame))
+  pub fields : f ≡ with_captured (length frame) (rejected (linked frame v) (network_fault v.ethertype (drop 14 frame)))
   pub payload : Locates f frame (drop 14 frame)
 
 -- each checksum of the frame that is verified is valid; that of a UDP packet over IPv4 may be missing

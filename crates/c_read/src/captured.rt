@@ -1,19 +1,19 @@
 //! The values of a frame of which only the first bytes were captured, stored in the struct of C. The length of
-//! the payload in the struct counts the bytes that are missing too.
+//! the payload in the struct counts the bytes that are missing too, and `payload_captured` does not.
 
-ghost use Rattle.std.specs.Prelude.{List, ℕ, ◌++◌, ◌≡◌, ◌≤◌, ◌<◌, ◌+◌, ◌-◌, drop, length, take};
+ghost use Rattle.std.specs.Prelude.{List, ℕ, ◌++◌, ◌≡◌, ◌≤◌, ◌<◌, ◌+◌, ◌-◌, drop, length, min, take};
 ghost use Rattle.ip_wire.specs.Ethernet as ethernet;
 ghost use Rattle.ip_wire.specs.IpAddress.{version_of};
 ghost use Rattle.ip_wire.specs.Ipv4 as ipv4;
 ghost use Rattle.ip_wire.specs.Ipv6 as ipv6;
 ghost use Rattle.ip_wire.specs.Protocol.{protocol_of};
 ghost use Rattle.c_read.specs.FrameFields.{fields_of, packet_fields_of};
-ghost use Rattle.c_read.specs.Captured.{IsCutOf, begun_ipv4, begun_ipv6, captured_of, captured_packet_of, cut_arp, cut_extended, cut_frame, cut_header, cut_ipv4, cut_ipv6, cut_packet, cut_tcp, cut_transport_by, cut_udp};
+ghost use Rattle.c_read.specs.Captured.{IsCutOf, begun_ipv4, begun_ipv6, captured_headers, captured_of, captured_packet_headers, captured_packet_of, cut_arp, cut_extended, cut_frame, cut_header, cut_ipv4, cut_ipv6, cut_packet, cut_tcp, cut_transport_by, cut_udp};
 
 use crate::faults::{ARP_LEN, ipv4_fault, ipv6_fault, tcp_fault};
 use crate::frame_fields::{
-    reject, step_after, store_arp, store_chain, store_ipv4, store_ipv4_header, store_ipv6,
-    store_ipv6_header, store_link, store_part,
+    reject, step_after, store_arp, store_captured, store_chain, store_ipv4, store_ipv4_header,
+    store_ipv6, store_ipv6_header, store_link, store_part,
 };
 use crate::icmp_fields::{is_icmp, store_icmp_fields};
 use crate::transport_fields::{reject_transport, store_tcp_fields, store_udp, store_udp_fields};
@@ -34,6 +34,30 @@ pub fn read_captured(fields: &mut FrameFields, captured: &[u8], len: usize)
     ensures value { fields.new ≡ captured_of (take len captured.now) (len - length captured.now) }
     ensures cut { (rest : List ℕ) → length captured.now + length rest ≡ len → IsCutOf (length captured.now) fields.new (fields_of (captured.now ++ rest)) }
     ensures within { fields.new.payload_offset + fields.new.payload_len ≤ len }
+    ensures captured { fields.new.payload_captured ≡ min fields.new.payload_len (length captured.now - fields.new.payload_offset) }
+{
+    store_captured_headers(fields, captured, len);
+    store_captured(fields, captured.len());
+}
+
+/// Stores the values of a packet of `len` bytes without an Ethernet header, of which fewer were captured, up to a
+/// header that is rejected or that was not captured as a whole.
+pub fn read_captured_packet(fields: &mut FrameFields, captured: &[u8], len: usize)
+    requires part { length captured.now < len }
+    ensures value { fields.new ≡ captured_packet_of (take len captured.now) (len - length captured.now) }
+    ensures cut { (rest : List ℕ) → length captured.now + length rest ≡ len → IsCutOf (length captured.now) fields.new (packet_fields_of (captured.now ++ rest)) }
+    ensures within { fields.new.payload_offset + fields.new.payload_len ≤ len }
+    ensures captured { fields.new.payload_captured ≡ min fields.new.payload_len (length captured.now - fields.new.payload_offset) }
+{
+    store_captured_packet_headers(fields, captured, len);
+    store_captured(fields, captured.len());
+}
+
+// Stores the values of the headers of a frame of `len` bytes of which fewer were captured.
+fn store_captured_headers(fields: &mut FrameFields, captured: &[u8], len: usize)
+    requires part { length captured.now < len }
+    ensures value { fields.new ≡ captured_headers (take len captured.now) (len - length captured.now) }
+    ensures within { fields.new.payload_offset + fields.new.payload_len ≤ len }
 {
     *fields = FrameFields::nothing(len);
     if captured.len() < ETHERNET_HEADER_LEN {
@@ -43,12 +67,10 @@ pub fn read_captured(fields: &mut FrameFields, captured: &[u8], len: usize)
     }
 }
 
-/// Stores the values of a packet of `len` bytes without an Ethernet header, of which fewer were captured, up to a
-/// header that is rejected or that was not captured as a whole.
-pub fn read_captured_packet(fields: &mut FrameFields, captured: &[u8], len: usize)
+// Stores the values of the headers of a packet of `len` bytes of which fewer were captured.
+fn store_captured_packet_headers(fields: &mut FrameFields, captured: &[u8], len: usize)
     requires part { length captured.now < len }
-    ensures value { fields.new ≡ captured_packet_of (take len captured.now) (len - length captured.now) }
-    ensures cut { (rest : List ℕ) → length captured.now + length rest ≡ len → IsCutOf (length captured.now) fields.new (packet_fields_of (captured.now ++ rest)) }
+    ensures value { fields.new ≡ captured_packet_headers (take len captured.now) (len - length captured.now) }
     ensures within { fields.new.payload_offset + fields.new.payload_len ≤ len }
 {
     *fields = FrameFields::nothing(len);

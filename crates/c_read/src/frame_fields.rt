@@ -9,7 +9,7 @@ ghost use Rattle.ip_wire.specs.Ethernet as ethernet;
 ghost use Rattle.ip_wire.specs.Ipv4 as ipv4;
 ghost use Rattle.ip_wire.specs.Ipv6 as ipv6;
 ghost use Rattle.c_structs.specs.Addresses.{endpoint_of};
-ghost use Rattle.c_read.specs.FrameFields.{after_header, fields_of, is_first, is_ipv6_transport, packet_fields_of, rejected, with_arp, with_chain, with_extended, with_first_ports, with_fragment_header, with_frame, with_ipv4, with_ipv4_fields, with_ipv6, with_ipv6_fields, with_link, with_message, with_packet, with_part};
+ghost use Rattle.c_read.specs.FrameFields.{after_header, fields_of, frame_headers, is_first, is_ipv6_transport, packet_fields_of, packet_headers, rejected, with_arp, with_captured, with_chain, with_extended, with_first_ports, with_fragment_header, with_frame, with_ipv4, with_ipv4_fields, with_ipv6, with_ipv6_fields, with_link, with_message, with_packet, with_part};
 ghost use Rattle.wire_extensions.specs.Extension.{is_extension};
 
 use crate::faults::{ARP_LEN, arp_fault, extension_reason, ipv4_fault, ipv6_fault};
@@ -59,6 +59,36 @@ fn without_port(address: IpAddress) -> Endpoint
 pub fn read_frame(fields: &mut FrameFields, bytes: &[u8])
     ensures value { fields.new ≡ fields_of bytes.now }
     ensures within { fields.new.payload_offset + fields.new.payload_len ≤ length bytes.now }
+    ensures captured { fields.new.payload_captured ≡ fields.new.payload_len }
+{
+    store_frame_headers(fields, bytes);
+    fields.payload_captured = fields.payload_len;
+}
+
+/// Stores the values of an IP packet without an Ethernet header, up to a header that is rejected.
+#[inline(always)]
+pub fn read_packet(fields: &mut FrameFields, bytes: &[u8])
+    ensures value { fields.new ≡ packet_fields_of bytes.now }
+    ensures within { fields.new.payload_offset + fields.new.payload_len ≤ length bytes.now }
+    ensures captured { fields.new.payload_captured ≡ fields.new.payload_len }
+{
+    store_packet_headers(fields, bytes);
+    fields.payload_captured = fields.payload_len;
+}
+
+// Stores how many bytes of the payload are among the first so many bytes.
+pub(super) fn store_captured(fields: &mut FrameFields, captured: usize)
+    ensures { fields.new ≡ with_captured captured fields.old }
+{
+    let payload = captured.saturating_sub(fields.payload_offset);
+    fields.payload_captured = fields.payload_len.min(payload);
+}
+
+// Stores the values of the headers of a frame.
+#[inline(always)]
+fn store_frame_headers(fields: &mut FrameFields, bytes: &[u8])
+    ensures value { fields.new ≡ frame_headers bytes.now }
+    ensures within { fields.new.payload_offset + fields.new.payload_len ≤ length bytes.now }
 {
     *fields = FrameFields::nothing(bytes.len());
     let frame = EthernetFrame::new_unchecked(bytes);
@@ -67,10 +97,10 @@ pub fn read_frame(fields: &mut FrameFields, bytes: &[u8])
     }
 }
 
-/// Stores the values of an IP packet without an Ethernet header, up to a header that is rejected.
+// Stores the values of the headers of an IP packet.
 #[inline(always)]
-pub fn read_packet(fields: &mut FrameFields, bytes: &[u8])
-    ensures value { fields.new ≡ packet_fields_of bytes.now }
+fn store_packet_headers(fields: &mut FrameFields, bytes: &[u8])
+    ensures value { fields.new ≡ packet_headers bytes.now }
     ensures within { fields.new.payload_offset + fields.new.payload_len ≤ length bytes.now }
 {
     *fields = FrameFields::nothing(bytes.len());

@@ -1,12 +1,12 @@
 //! Link-layer headers, and the packets after them, in the structs of C.
 
-ghost use Rattle.std.specs.Prelude.{◌≡◌, ◌≤◌, ◌+◌, length, pos};
+ghost use Rattle.std.specs.Prelude.{◌≡◌, ◌≤◌, ◌+◌, ◌-◌, length, min, pos};
 ghost use Rattle.wire_link.specs.Link.{header_len};
 ghost use Rattle.ip_wire.specs.Ethernet.{protocol_of};
-ghost use Rattle.c_read.specs.Links.{carried_by, ethernet_in, link_or, link_reason, linked_by, linked_of, rejected_link, with_linked};
+ghost use Rattle.c_read.specs.Links.{carried_by, ethernet_in, link_or, link_reason, linked_by, linked_headers, linked_of, rejected_link, with_linked};
 
 use crate::captured::{reject_cut, store_cut_arp, store_cut_ipv4, store_cut_ipv6};
-use crate::frame_fields::{reject, step_after, store_arp, store_ipv4, store_ipv6};
+use crate::frame_fields::{reject, step_after, store_arp, store_captured, store_ipv4, store_ipv6};
 use c_structs::{Ethernet, FrameFields, Reason};
 use ip_wire::EthernetProtocol;
 use net_base::array_at;
@@ -37,6 +37,18 @@ pub fn read_link(number: u32, captured: &[u8], link: &mut Link) -> i32
 pub fn read_linked(fields: &mut FrameFields, number: u32, captured: &[u8], len: usize)
     requires part { length captured.now ≤ len }
     ensures value { fields.new ≡ linked_of number captured.now len }
+    ensures within { fields.new.payload_offset + fields.new.payload_len ≤ len }
+    ensures captured { fields.new.payload_captured ≡ min fields.new.payload_len (length captured.now - fields.new.payload_offset) }
+{
+    store_linked_headers(fields, number, captured, len);
+    store_captured(fields, captured.len());
+}
+
+// Stores the values of the headers of a packet with a link-layer header of the type with this number.
+#[tactic(auto, unfolding(crate::specs::Links::linked_headers))]
+fn store_linked_headers(fields: &mut FrameFields, number: u32, captured: &[u8], len: usize)
+    requires part { length captured.now ≤ len }
+    ensures value { fields.new ≡ linked_headers number captured.now len }
     ensures within { fields.new.payload_offset + fields.new.payload_len ≤ len }
 {
     *fields = FrameFields::nothing(len);

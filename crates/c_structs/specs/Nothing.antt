@@ -51,6 +51,7 @@ nothing_of len = record {
   transport_offset = 0;
   payload_offset = 0;
   payload_len = len;
+  payload_captured = 0;
   src = no_endpoint;
   dst = no_endpoint;
   ip = no_ip;

@@ -47,6 +47,7 @@ impl FrameFields {
             transport_offset: 0,
             payload_offset: 0,
             payload_len: len,
+            payload_captured: 0,
             src: Endpoint::none(),
             dst: Endpoint::none(),
             ip: Ip {

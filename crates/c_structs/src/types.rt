@@ -155,6 +155,8 @@ pub struct FrameFields {
     pub transport_offset: usize,
     pub payload_offset: usize,
     pub payload_len: usize,
+    /// How many bytes of the payload were captured.
+    pub payload_captured: usize,
     pub src: Endpoint,
     pub dst: Endpoint,
     pub ip: Ip,

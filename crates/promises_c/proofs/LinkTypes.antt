@@ -16,7 +16,7 @@ use Rattle.c_read.specs.Captured.{cut_carried}
 use Rattle.c_structs.specs.Codes.{reason_code}
 use Rattle.c_structs.specs.Nothing.{nothing_of}
 use Rattle.c_read.specs.FrameFields.{rejected, with_carried}
-use Rattle.c_read.specs.Links.{carried_by, ethernet_in, fault_reason, found_or, link_or, link_reason, linked_after, linked_by, linked_of, with_linked}
+use Rattle.c_read.specs.Links.{carried_by, ethernet_in, fault_reason, found_or, link_or, link_reason, linked_after, linked_by, linked_headers, linked_of, with_linked}
 use Rattle.c_structs.specs.Written.{max_len, usable, within}
 use Rattle.c_structs.specs.declared.codes.Reason.TheVariants as reason
 use Rattle.c_structs.specs.declared.types.FrameFields.{FrameFields}
@@ -75,11 +75,11 @@ by-rejects (Some t) f bytes not = after-rejects f bytes t (link_of t bytes) not
 
 type-of : (number : ℕ) (bytes : List ℕ) (old : Link) → link_reason number bytes ≡ 0
     → (linked_of number bytes (length bytes)).ethernet.ethertype ≡ (link_or number bytes old).ethertype
-unfolding linked_of
+unfolding linked_of linked_headers
 type-of number bytes old read = type-by (link_type_of number) bytes old read
 
 rejects-of : (number : ℕ) (bytes : List ℕ) → link_reason number bytes ≢ 0 → (linked_of number bytes (length bytes)).reason ≢ 0
-unfolding linked_of
+unfolding linked_of linked_headers
 rejects-of number bytes not = by-rejects (link_type_of number) (nothing_of (length bytes)) bytes not
 
 -- ---- bytes that are used

@@ -1,33 +1,20 @@
-use Rattle.std.proofs.Common.{ℕ, ◌∙◌, ◌≤◌, ◌<◌, ◌-◌, ap, arith, drop, length, sym}
-use Rattle.ip_wire.specs.Ethernet.{frame_bytes, header_of}
-use Rattle.c_structs.specs.Nothing.{nothing_of}
-use Rattle.c_read.proofs.CapturedOf.{captured_of-long, captured_of-short, taken}
+use Rattle.std.proofs.Common.{◌≡◌, ◌∙◌, ◌<◌, ◌-◌, List, ℕ, ap, arith, length, sym, take}
+use Rattle.std.proofs.lemmas.Grind.{common_steps}
+use Rattle.c_read.proofs.CapturedOf.{captured_of-is}
 use Rattle.c_read.proofs.CutFrame.{read-cut}
-use Rattle.c_read.specs.Captured.{captured_of, cut_frame, cut_header}
+use Rattle.c_read.specs.Captured.{captured_headers}
+use Rattle.c_read.specs.FrameFields.{with_captured}
 use Rattle.c_read.proofs.captured.read_captured.Goals as goal
 
-pub returns-then-captured-lt-ETHERNET_HEADER_LEN-clause-value : goal.returns-then-captured-lt-ETHERNET_HEADER_LEN-clause-value
-returns-then-captured-lt-ETHERNET_HEADER_LEN-clause-value c =
+pub returns-clause-value : goal.returns-clause-value
+returns-clause-value c =
     let bytes = c.args.captured.now in
     let len = c.args.len in
     let part : length bytes < len = c.requires.part in
-    let few : length bytes < 14 = omega (arith, c.if-captured-lt-ETHERNET_HEADER_LEN.true) in
-    c.reject_cut.ensures ∙ ap (λ f. cut_header f 14) c.nothing.ensures
-    ∙ sym (taken captured_of (λ (n : ℕ). cut_header (nothing_of n) 14) bytes len part (captured_of-short bytes (len - length bytes) (omega (arith, part)) few))
+    let all : take len bytes ≡ bytes = grind (arith, common_steps, part) in
+    c.store_captured.ensures ∙ ap (with_captured (length bytes)) c.store_captured_headers.ensures.value
+    ∙ ap (λ (l : List ℕ). with_captured (length l) (captured_headers (take len bytes) (len - length bytes))) (sym all)
+    ∙ sym (captured_of-is (take len bytes) (len - length bytes))
 
-pub returns-else-captured-lt-ETHERNET_HEADER_LEN-clause-value : goal.returns-else-captured-lt-ETHERNET_HEADER_LEN-clause-value
-returns-else-captured-lt-ETHERNET_HEADER_LEN-clause-value c =
-    let bytes = c.args.captured.now in
-    let len = c.args.len in
-    let part : length bytes < len = c.requires.part in
-    let long : 14 ≤ length bytes = omega (arith, c.if-captured-lt-ETHERNET_HEADER_LEN.false) in
-    let seen = frame_bytes c.new_unchecked.result in
-    c.store_cut_frame.ensures.value ∙ ap (λ f. cut_frame f (header_of seen) (drop 14 seen)) c.nothing.ensures
-    ∙ ap (λ slice. cut_frame (nothing_of len) (header_of slice.now) (drop 14 slice.now)) c.new_unchecked.ensures
-    ∙ sym (taken captured_of (λ (n : ℕ). cut_frame (nothing_of n) (header_of bytes) (drop 14 bytes)) bytes len part (captured_of-long bytes (len - length bytes) (omega (arith, part)) long))
-
-pub returns-then-captured-lt-ETHERNET_HEADER_LEN-clause-cut : goal.returns-then-captured-lt-ETHERNET_HEADER_LEN-clause-cut
-returns-then-captured-lt-ETHERNET_HEADER_LEN-clause-cut c rest sum = read-cut c.args.captured.now rest c.args.len _ (returns-then-captured-lt-ETHERNET_HEADER_LEN-clause-value c) sum
-
-pub returns-else-captured-lt-ETHERNET_HEADER_LEN-clause-cut : goal.returns-else-captured-lt-ETHERNET_HEADER_LEN-clause-cut
-returns-else-captured-lt-ETHERNET_HEADER_LEN-clause-cut c rest sum = read-cut c.args.captured.now rest c.args.len _ (returns-else-captured-lt-ETHERNET_HEADER_LEN-clause-value c) sum
+pub returns-clause-cut : goal.returns-clause-cut
+returns-clause-cut c rest sum = read-cut c.args.captured.now rest c.args.len _ (returns-clause-value c) sum

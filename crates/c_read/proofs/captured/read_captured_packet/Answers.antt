@@ -1,33 +1,20 @@
-use Rattle.std.proofs.Common.{ℕ, ◌∙◌, ◌≤◌, ◌<◌, ◌-◌, ap, arith, length, rules, sym}
-use Rattle.c_structs.specs.declared.codes.Reason.TheVariants as reason
-use Rattle.c_read.proofs.CapturedOf.{captured_packet_of-long, captured_packet_of-short, taken}
+use Rattle.std.proofs.Common.{◌≡◌, ◌∙◌, ◌<◌, ◌-◌, List, ℕ, ap, arith, length, sym, take}
+use Rattle.std.proofs.lemmas.Grind.{common_steps}
+use Rattle.c_read.proofs.CapturedOf.{captured_packet_of-is}
 use Rattle.c_read.proofs.CutFrame.{read-packet-cut}
-use Rattle.c_read.specs.Captured.{captured_packet_of, cut_header, cut_packet}
-use Rattle.c_read.specs.FrameFields.{bare_of, rejected}
+use Rattle.c_read.specs.Captured.{captured_packet_headers}
+use Rattle.c_read.specs.FrameFields.{with_captured}
 use Rattle.c_read.proofs.captured.read_captured_packet.Goals as goal
 
-pub returns-then-is_empty-clause-value : goal.returns-then-is_empty-clause-value
-returns-then-is_empty-clause-value c =
+pub returns-clause-value : goal.returns-clause-value
+returns-clause-value c =
     let bytes = c.args.captured.now in
     let len = c.args.len in
     let part : length bytes < len = c.requires.part in
-    let few : length bytes < 1 = search rules in
-    c.reject_cut.ensures ∙ ap (λ (n : ℕ). cut_header (record c.nothing.result { reason = n }) 1) c.code-fields.ensures
-    ∙ ap (λ f. cut_header (rejected f reason.Read) 1) c.nothing.ensures
-    ∙ sym (taken captured_packet_of (λ (n : ℕ). cut_header (bare_of n) 1) bytes len part (captured_packet_of-short bytes (len - length bytes) (omega (arith, part)) few))
+    let all : take len bytes ≡ bytes = grind (arith, common_steps, part) in
+    c.store_captured.ensures ∙ ap (with_captured (length bytes)) c.store_captured_packet_headers.ensures.value
+    ∙ ap (λ (l : List ℕ). with_captured (length l) (captured_packet_headers (take len bytes) (len - length bytes))) (sym all)
+    ∙ sym (captured_packet_of-is (take len bytes) (len - length bytes))
 
-pub returns-else-is_empty-clause-value : goal.returns-else-is_empty-clause-value
-returns-else-is_empty-clause-value c =
-    let bytes = c.args.captured.now in
-    let len = c.args.len in
-    let part : length bytes < len = c.requires.part in
-    let some : 1 ≤ length bytes = search rules in
-    c.store_cut_packet.ensures.value ∙ ap (λ (n : ℕ). cut_packet (record c.nothing.result { reason = n }) bytes) c.code-fields.ensures
-    ∙ ap (λ f. cut_packet (rejected f reason.Read) bytes) c.nothing.ensures
-    ∙ sym (taken captured_packet_of (λ (n : ℕ). cut_packet (bare_of n) bytes) bytes len part (captured_packet_of-long bytes (len - length bytes) (omega (arith, part)) some))
-
-pub returns-then-is_empty-clause-cut : goal.returns-then-is_empty-clause-cut
-returns-then-is_empty-clause-cut c rest sum = read-packet-cut c.args.captured.now rest c.args.len _ (returns-then-is_empty-clause-value c) sum
-
-pub returns-else-is_empty-clause-cut : goal.returns-else-is_empty-clause-cut
-returns-else-is_empty-clause-cut c rest sum = read-packet-cut c.args.captured.now rest c.args.len _ (returns-else-is_empty-clause-value c) sum
+pub returns-clause-cut : goal.returns-clause-cut
+returns-clause-cut c rest sum = read-packet-cut c.args.captured.now rest c.args.len _ (returns-clause-value c) sum

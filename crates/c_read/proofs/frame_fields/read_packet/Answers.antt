@@ -1,18 +1,10 @@
-use Rattle.std.proofs.Common.{ℕ, ◌∙◌, ◌≤◌, ◌<◌, ap, sym, rules, length}
-use Rattle.c_structs.specs.declared.codes.Reason.TheVariants as reason
-use Rattle.c_read.specs.FrameFields.{rejected, with_packet}
-use Rattle.c_read.proofs.FieldsOf.{packet_fields_of-none, packet_fields_of-some}
+use Rattle.std.proofs.Common.{◌∙◌, ap, length, sym}
+use Rattle.c_read.proofs.FieldsOf.{all-captured, packet_fields_of-is}
+use Rattle.c_read.specs.FrameFields.{with_captured}
 use Rattle.c_read.proofs.frame_fields.read_packet.Goals as goal
 
-pub returns-then-not-is_empty-clause-value : goal.returns-then-not-is_empty-clause-value
-returns-then-not-is_empty-clause-value c =
+pub returns-clause-value : goal.returns-clause-value
+returns-clause-value c =
     let bytes = c.args.bytes.now in
-    let some : 1 ≤ length bytes = search rules in
-    c.store_packet.ensures.value ∙ ap (λ (n : ℕ). with_packet (record c.nothing.result { reason = n }) bytes) c.code-fields.ensures
-    ∙ ap (λ f. with_packet (rejected f reason.Read) bytes) c.nothing.ensures ∙ sym (packet_fields_of-some bytes some)
-
-pub returns-else-not-is_empty-clause-value : goal.returns-else-not-is_empty-clause-value
-returns-else-not-is_empty-clause-value c =
-    let bytes = c.args.bytes.now in
-    let none : length bytes < 1 = search rules in
-    c.nothing.ensures ∙ sym (packet_fields_of-none bytes none)
+    all-captured (length bytes) c.store_packet_headers.new.fields c.store_packet_headers.ensures.within
+    ∙ ap (with_captured (length bytes)) c.store_packet_headers.ensures.value ∙ sym (packet_fields_of-is bytes)
