@@ -877,6 +877,7 @@ struct lk_host {
  *   fault                                          code  pointer to
  *   an option with the highest bits 10 or 11       2     its type (section 4.2)
  *   an option that ends after its header           0     its length
+ *   an option with both faults                     0     its length
  *   a routing header with segments left            0     the routing type (section 4.4; RFC 5095, section 3)
  *   an unknown next header, as SCTP or AH (51)     1     its number
  *   hop-by-hop options after another header        1     the number 0

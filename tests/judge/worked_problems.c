@@ -25,6 +25,7 @@ static const struct {
     {&late_options6, {{0, 0}}, &late_problem6},
     {&sctp6, {{0, 0}}, &sctp_problem6},
     {&long_option6, {{0, 0}}, &length_problem6},
+    {&long_option6, {{60, 0x9e}}, &both_problem6},
     /* a frame of a group to the host itself (RFC 6085), and one to another group or another hardware address */
     {&group_option6, {{0, 2}, {1, 0}, {5, 2}}, &group_problem6},
     {&group_option6, {{53, 2}}, 0},
