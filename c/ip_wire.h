@@ -395,12 +395,16 @@ int lk_read_packet(const uint8_t *ptr, size_t len, struct lk_frame *frame);
  * above LK_MAX_LEN, it counts as 0.
  *
  * - A header that was not captured as a whole is rejected with LK_HEADER_CUT, unless the frame is too short for it
- *   (LK_TOO_SHORT). Nothing of it is stored. No field of it is tested, but the version by which a packet is read.
- *   A packet of which no byte was captured has no version: LK_TOO_SHORT only if `len` is 0.
- * - IPv4 options that were cut give LK_HEADER_CUT after the tests of version and lengths; nothing of the header is
- *   stored. TCP options that were cut give it after the tests of lengths, ports and flags; the fields are stored, and
- *   `rejected` is LK_TCP.
- * - An IPv6 extension header that was cut gives LK_HEADER_CUT, and the fields of the headers before it are stored.
+ *   (LK_TOO_SHORT). The fields of the headers before it are stored, and none of its own. No field of it is tested, but
+ *   the version by which a packet is read. A packet of which no byte was captured has no version: LK_TOO_SHORT only if
+ *   `len` is 0.
+ * - Of these headers, fields are tested before LK_HEADER_CUT, if so many bytes were captured:
+ *
+ *   header                  bytes  tested                       stored
+ *   IPv4 with options       20     version and lengths          nothing of it
+ *   IPv6 extension header   8      its length (LK_TOO_SHORT)    nothing of it
+ *   TCP with options        20     lengths, ports and flags     its fields; `rejected` is LK_TCP
+ *
  * - If a TCP, UDP or ICMP checksum covers bytes that were not captured, its verdict is LK_CHECKSUM_CUT. But a UDP
  *   checksum of 0 is LK_LEFT_OUT, or LK_WRONG over IPv6.
  * - An ICMP message of which fewer than 8 bytes were captured has no transport, and no header is rejected. A first

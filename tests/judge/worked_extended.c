@@ -58,6 +58,11 @@ static const struct row {
     {BEFORE "00132c" ADDRS "1100000081828384" UDP,
      69, LK_HEADER_CUT, 44, 17, LK_NO_TRANSPORT, 0, 0, 0x81828384, 0, 0, 62, 11},
     {BEFORE "00132c" ADDRS "1100000081828384" UDP, 72, LK_READ, 44, 17, LK_UDP, LK_CHECKSUM_CUT, 0, 0x81828384, 0, 62, 70, 3},
+    /* The second header ends after the packet. All of its first 8 bytes were captured, or 7. */
+    {BEFORE "001000" ADDRS "3c00050200000100" "1101010400000000",
+     70, LK_TOO_SHORT, 0, 60, LK_NO_TRANSPORT, 0, 0, 0, 0, 0, 62, 8},
+    {BEFORE "001000" ADDRS "3c00050200000100" "1101010400000000",
+     69, LK_HEADER_CUT, 0, 60, LK_NO_TRANSPORT, 0, 0, 0, 0, 0, 62, 8},
 };
 
 static void reads_extended(size_t i, const struct octets *frame, size_t front)
