@@ -781,6 +781,8 @@ ptrdiff_t lk_rebuild(const uint8_t *ptr, size_t len, uint8_t *out, size_t cap);
  * nothing if the frame carries none that is valid (RFC 4861, sections 7.1.1 and 7.1.2):
  *
  * - The hop limit must be 255, the checksum right, and the code 0.
+ * - The message must follow the IPv6 header directly: one after extension headers is ignored (RFC 6980, section 5, says so
+ *   of fragment headers).
  * - The target must be no multicast address. Each option must have a length above 0 and end within the message.
  * - The first link-layer address option (source in a solicitation, target in an advertisement) must have 8 bytes.
  *   Later ones and options of other kinds are skipped.
@@ -857,6 +859,8 @@ struct lk_host {
  *
  * - A frame gets an answer only if it is parsed as a whole and each checksum in it is valid. UDP over IPv4 may leave
  *   its checksum out.
+ * - IPv6 extension headers without a fault are skipped (RFC 8200, section 4), also the fragment header of a whole packet
+ *   (RFC 6946). The answer is that to the same packet without them, and has none. An ICMP error quotes them.
  * - Echo requests, UDP and TCP must be for `hardware` and one of the two addresses. They and solicitations must be
  *   from a unicast hardware address. The sender hardware address in ARP must be unicast, and the reply goes to it.
  * - No single host has an address in 0.0.0.0/8, 127.0.0.0/8, 224.0.0.0/4, 240.0.0.0/4, ::ffff:0:0/96 or ff00::/8, or
@@ -871,9 +875,10 @@ struct lk_host {
  * - No connection is kept: what follows the SYN gets RST, with window 0 and without options.
  * - The answer is a new IP packet, as that of lk_reply. An echo reply has the DSCP of the request (RFC 1812, section
  *   4.3.2.5), any other answer has DSCP 0.
- * - A solicitation must be valid for lk_read_ndisc. It is sent to `ipv6` and `hardware`, or to the solicited-node group
- *   of `ipv6` and the hardware address of the group or `hardware` (RFC 6085). The advertisement goes to the unicast
- *   hardware address in the option, or to the sender of the frame; for a solicitation from `::` to all nodes.
+ * - A solicitation must be valid for lk_read_ndisc, so it gets no answer after extension headers. It is sent to `ipv6`
+ *   and `hardware`, or to the solicited-node group of `ipv6` and the hardware address of the group or `hardware` (RFC
+ *   6085). The advertisement goes to the unicast hardware address in the option, or to the sender of the frame; for a
+ *   solicitation from `::` to all nodes.
  * - ICMP errors are written as by lk_emit_icmp_error.
  * - A parameter problem is about the first fault of the extension headers of a packet for `ipv6`. Its pointer counts from
  *   the start of the IPv6 header:
@@ -890,8 +895,8 @@ struct lk_host {
  *   and a header that does not end within the packet, get no answer.
  * - An option with the highest bits 10 gets an error also in a packet for a group (RFC 4443, section 2.4 e.3). The group
  *   is ff02::1 or the solicited-node group of `ipv6`. The frame is for `hardware` or the hardware address of the group.
- * - Known next headers are UDP, TCP, ICMPv6 and 59. What follows a fragment header is not looked at: call lk_reassemble
- *   before. Call lk_answer only for packets that the program does not process itself. */
+ * - Known next headers are UDP, TCP, ICMPv6 and 59. What follows the header of a fragment is not looked at: call
+ *   lk_reassemble before. Call lk_answer only for packets that the program does not process itself. */
 ptrdiff_t lk_answer(const struct lk_host *host, const uint8_t *ptr, size_t len, uint8_t *out, size_t cap);
 
 /* ---- ICMP errors ---- */

@@ -139,17 +139,26 @@ def ipv6_rows(v, name, ask, reply):
     yield row(f"{name}-flow-label-fffff", ask(v, label=0xFFFFF), reply(v))
     for length in [0, size - 1, size + 1, 0xFFFF]:
         yield row(f"{name}-payload-length-{length}", ask(v, payload_len=length), None)
-    # Extension headers are not supported (RFC 8200, sections 4.3, 4.5 and 4.6): hop-by-hop, fragment, destination options.
-    for kind in [0, 44, 60]:
-        yield row(f"{name}-extension-header-{kind}", extended(v, ask, kind), None)
+    for what, (is_skipped, *extensions) in EXTENSIONS.items():
+        yield row(f"{name}-after-{what}", extended(ask(v), *extensions), reply(v) if is_skipped else None)
 
 
-def extended(v, ask, kind):
-    """The frame with an extension header of 8 bytes after its IPv6 header."""
-    frame = ask(v)
-    extension = bytes([frame[20], 0, 1, 4, 0, 0, 0, 0]) if kind != 44 else bytes([frame[20], 0, 0, 0, 0, 0, 0, 1])
-    length = int.from_bytes(frame[18:20], "big") + 8
-    return frame[:18] + length.to_bytes(2, "big") + bytes([kind]) + frame[21:54] + extension + frame[54:]
+# Whether a host skips extension headers (RFC 8200, section 4; RFC 6946), and each of them: its number, and its bytes after the number
+# of what follows. Of unknown options the highest bits of the type count.
+PADDING, ATOMIC, ROUTED = (60, "00010400000000"), (44, "a5000600000001"), (43, "00fd0000000000")
+EXTENSIONS = {"hop-by-hop-padding": (True, (0, "00010400000000")), "destination-padding": (True, PADDING), "routing-without-segments": (True, ROUTED),
+              "atomic-fragment": (True, ATOMIC), "unknown-option-00": (True, (60, "001e0400000000")), "unknown-option-01": (False, (60, "005e0400000000")),
+              "four": (True, (0, "003e0400000000"), ROUTED, ATOMIC, PADDING), "two-atomic-fragments": (True, ATOMIC, ATOMIC),
+              "first-fragment": (False, (44, "00000100000001")), "last-fragment": (False, (44, "00000800000001")),
+              "option-01-in-an-atomic-fragment": (False, ATOMIC, (60, "00010041020000")), "longer-header": (False, (60, "ff010400000000"))}
+
+
+def extended(frame, *extensions):
+    """The frame with extension headers of 8 bytes after its IPv6 header."""
+    for number, rest in reversed(extensions):
+        length = int.from_bytes(frame[18:20], "big") + 8
+        frame = frame[:18] + length.to_bytes(2, "big") + bytes([number]) + frame[21:54] + frame[20:21] + bytes.fromhex(rest) + frame[54:]
+    return frame
 
 
 def cut_rows(v, name, ask, reply):
@@ -258,7 +267,10 @@ def solicited_rows():
         yield row(f"{name}-option-{what}", solicited(options=options), None)
     yield row(f"{name}-target-cut", solicited(target=Ipv6.ours[:15], options=b""), None)
     yield row(f"{name}-padding", solicited(padding=bytes(6)), advertised())
-    yield row(f"{name}-extension-header-0", extended(Ipv6, lambda v: solicited(), 0), None)
+    # A host ignores a solicitation after extension headers (RFC 6980, section 5, says so of fragment headers).
+    for what, (_, *extensions) in EXTENSIONS.items():
+        yield row(f"{name}-after-{what}", extended(solicited(), *extensions), None)
+        yield row(f"{name}-to-ours-after-{what}", extended(solicited(dst=Ipv6.ours), *extensions), None)
     frame, size = solicited(), len(advertised())
     for room, fits in [(0, False), (size - 1, False), (size, True), (size + 1, True)]:
         yield row(f"{name}-room-{room}", frame, advertised() if fits else None, room=room)

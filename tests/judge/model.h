@@ -178,6 +178,9 @@ size_t put_error_message(const struct lk_interface *own, const struct lk_frame *
 size_t put_parameter_problem(const struct lk_interface *own, const struct lk_frame *frame, const uint8_t *packet,
                              uint8_t *out);
 
+/* Copies an IPv6 packet without its extension headers, if a host skips them; 0: it does not. */
+size_t skip_headers(const uint8_t *packet, uint8_t *shorter);
+
 /* Whether one host may have this address. */
 int is_host(const struct lk_addr *addr);
 

@@ -191,15 +191,16 @@ static int is_open(const uint16_t *ports, size_t count, unsigned port)
     return 0;
 }
 
-static size_t answer_udp(const struct lk_host *host, struct lk_frame *frame, const uint8_t *ptr, size_t frame_len,
-                         uint8_t *out)
+/* `ptr` is the frame without extension headers, and `asked` with them. */
+static size_t answer_udp(const struct lk_host *host, struct lk_frame *frame, const uint8_t *ptr, const uint8_t *asked,
+                         size_t asked_len, uint8_t *out)
 {
     static uint8_t packet[MODEL_ROOM];
     struct lk_interface own = interface_of(host);
     size_t len;
     if (frame->dst.port != host->echo_port &&
         !is_open(host->open_udp_ports, host->open_udp_port_count, frame->dst.port))
-        return put_icmp_error(&own, LK_PORT_CLOSED, 0, ptr, frame_len, out);
+        return put_icmp_error(&own, LK_PORT_CLOSED, 0, asked, asked_len, out);
     if (frame->dst.port != host->echo_port || frame->src.port < 1024 || frame->src.port <= host->echo_port)
         return 0;
     model_reply(frame);
@@ -332,25 +333,44 @@ static int is_for(const struct lk_host *host, const struct lk_frame *frame)
            frame->transport != LK_NO_TRANSPORT && is_valid(frame->transport_checksum);
 }
 
-ptrdiff_t model_answer(const struct lk_host *host, const uint8_t *ptr, size_t len, uint8_t *out, size_t cap)
+/* Reads a frame without its IPv6 extension headers, if they are skipped, and returns it. */
+static const uint8_t *read_past(const uint8_t *ptr, struct lk_frame *frame)
+{
+    static uint8_t shorter[MODEL_ROOM];
+    size_t len;
+    if (frame->network != LK_IPV6 || frame->transport != LK_NO_TRANSPORT)
+        return ptr;
+    len = skip_headers(ptr + 14, shorter + 14);
+    if (len == 0)
+        return ptr;
+    memcpy(shorter, ptr, 14);
+    model_read_plain(shorter, 14 + len, frame);
+    return shorter;
+}
+
+ptrdiff_t model_answer(const struct lk_host *host, const uint8_t *asked, size_t asked_len, uint8_t *out, size_t cap)
 {
     static uint8_t answer[MODEL_ROOM];
+    const uint8_t *ptr;
     struct lk_frame frame;
     size_t answer_len = 0;
     if (host->ipv4.version != 4 || host->ipv6.version != 6)
         return LK_NO_VERSION;
-    if (len > LK_MAX_LEN)
+    if (asked_len > LK_MAX_LEN)
         return LK_NO_HEADER;
-    if (model_read_plain(ptr, len, &frame) != LK_READ)
+    if (model_read_plain(asked, asked_len, &frame) != LK_READ)
+        return 0;
+    ptr = read_past(asked, &frame);
+    if (frame.reason != LK_READ)
         return 0;
     if (frame.network == LK_ARP)
         answer_len = answer_arp(host, &frame, answer);
     else if (frame.network == LK_IPV6 && frame.icmp.type == 135)
-        answer_len = answer_solicitation(host, &frame, ptr, len, answer);
+        answer_len = answer_solicitation(host, &frame, asked, asked_len, answer);
     else if (frame.network == LK_IPV6 && frame.transport == LK_NO_TRANSPORT)
         answer_len = answer_headers(host, &frame, ptr, answer);
     else if (is_for(host, &frame) && frame.transport == LK_UDP)
-        answer_len = answer_udp(host, &frame, ptr, len, answer);
+        answer_len = answer_udp(host, &frame, ptr, asked, asked_len, answer);
     else if (is_for(host, &frame) && frame.transport == LK_ICMP)
         answer_len = answer_icmp(&frame, ptr, answer);
     else if (is_for(host, &frame))

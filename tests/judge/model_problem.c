@@ -34,30 +34,35 @@ static struct wrong wrong_options(const uint8_t *packet, size_t at, size_t end)
     return wrong;
 }
 
-/* The headers after the IPv6 header, by their numbers. Each one is at `at`, and `named` is where its number is. */
-static struct wrong wrong_headers(const uint8_t *packet, size_t len)
+/* The headers after the IPv6 header, by their numbers. Stores where the number of what follows them is, and where that
+ * begins. They end at the header of a fragment: an offset or the flag M (section 4.5; RFC 6946). */
+static struct wrong wrong_headers(const uint8_t *packet, size_t len, size_t *named, size_t *at)
 {
-    size_t named = 6, at = 40, header_len;
+    size_t header_len;
     struct wrong wrong = {NOTHING, 0, 0};
-    while (wrong.code == NOTHING && !memchr("\6\21\54\72\73", packet[named], 5)) {
-        const unsigned number = packet[named];
-        const int is_option = number == 60 || (number == 0 && named == 6);
-        if (!is_option && number != 43) {
+    *named = 6, *at = 40;
+    while (wrong.code == NOTHING && !memchr("\6\21\72\73", packet[*named], 4)) {
+        const unsigned number = packet[*named];
+        const int is_option = number == 60 || (number == 0 && *named == 6);
+        if (!is_option && number != 43 && number != 44) {
             wrong.code = 1;
-            wrong.pointer = named;
+            wrong.pointer = *named;
             return wrong;
         }
-        header_len = len - at < 8 ? 8 : 8u + 8u * packet[at + 1];
-        if (header_len > len - at) {
+        header_len = len - *at < 8 || number == 44 ? 8 : 8u + 8u * packet[*at + 1];
+        if (header_len > len - *at) {
             wrong.code = DROPPED;
         } else if (is_option) {
-            wrong = wrong_options(packet, at + 2, at + header_len);
-        } else if (packet[at + 3] != 0) {
+            wrong = wrong_options(packet, *at + 2, *at + header_len);
+        } else if (number == 44) {
+            if (get_word(packet + *at + 2) & 0xfff9)
+                return wrong;
+        } else if (packet[*at + 3] != 0) {
             wrong.code = 0;
-            wrong.pointer = at + 2;
+            wrong.pointer = *at + 2;
         }
-        named = at;
-        at += header_len;
+        *named = *at;
+        *at += header_len;
     }
     return wrong;
 }
@@ -84,7 +89,8 @@ size_t put_parameter_problem(const struct lk_interface *own, const struct lk_fra
                              uint8_t *out)
 {
     const size_t len = 40 + get_word(packet + 4);
-    const struct wrong wrong = wrong_headers(packet, len);
+    size_t named, at;
+    const struct wrong wrong = wrong_headers(packet, len, &named, &at);
     struct lk_icmp icmp = {(uint32_t)wrong.pointer, 4, (uint8_t)wrong.code};
     struct lk_frame asked = *frame;
     if (wrong.code < 0)
@@ -96,4 +102,18 @@ size_t put_parameter_problem(const struct lk_interface *own, const struct lk_fra
     if (!is_same(&asked.dst.addr, &own->ipv6) || !is_told_of(own, &asked, packet, len, 40))
         return 0;
     return put_error_message(own, frame, &icmp, packet, len, out);
+}
+
+size_t skip_headers(const uint8_t *packet, uint8_t *shorter)
+{
+    const size_t len = 40 + get_word(packet + 4);
+    size_t named, at;
+    const struct wrong wrong = wrong_headers(packet, len, &named, &at);
+    if (wrong.code != NOTHING || at == 40 || packet[named] == 44 || (packet[named] == 58 && at < len && packet[at] == 135))
+        return 0;
+    memcpy(shorter, packet, 40);
+    put_word(shorter + 4, (unsigned)(len - at));
+    shorter[6] = packet[named];
+    memcpy(shorter + 40, packet + at, len - at);
+    return 40 + len - at;
 }

@@ -31,14 +31,17 @@ static const struct {
     {&group_option6, {{53, 2}}, 0},
     {&group_option6, {{5, 2}}, 0},
     /* types with the highest bits 00, 01, and 11 to a group */
-    {&unknown_option6, {{61, 0x1e}}, 0},
+    {&unknown_option6, {{61, 0x1e}}, &option_reply6},
     {&unknown_option6, {{61, 0x5e}}, 0},
     {&group_option6, {{61, 0xde}}, 0},
-    /* no segments left; the option ends with its header; no next header; a fragment header before the options */
+    /* no segments left, and a checksum of UDP that is wrong with this destination; the option ends with its header; no next
+     * header; the header of a fragment before the options */
     {&routed6, {{65, 0}}, 0},
-    {&long_option6, {{61, 0}}, 0},
+    {&long_option6, {{61, 0}}, &option_reply6},
     {&sctp6, {{20, 59}}, 0},
     {&unknown_option6, {{20, 44}, {54, 60}}, 0},
+    /* the option of type 0x1e, and a neighbour solicitation after it */
+    {&unknown_option6, {{61, 0x1e}, {70, 135}}, 0},
     /* a header that is longer than the packet */
     {&late_options6, {{55, 3}}, 0},
     /* an ICMPv6 error after the option (RFC 4443, section 2.4 e.1) */

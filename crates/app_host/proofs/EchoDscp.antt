@@ -2,11 +2,13 @@
 use Rattle.std.proofs.Common.{ℕ, ◌≡◌, ◌∙◌, ◌≤◌, inl, inr, List, Option, Some, None, true, arith, drop, length, length-drop, ap, refl, subst, sym}
 use Rattle.std.specs.Prelude.{IfSome}
 use Rattle.app_host.proofs.HostOnce.{apart}
+use Rattle.app_host.proofs.Skips.{whole-long}
 use Rattle.app_host.specs.Host.{IsFrameReply, IsMessageReply, RepliesFrame, RepliesMessage, UnreachableFrame}
 use Rattle.app_host.specs.IcmpEcho.{HasDscpOf, IsIcmpEcho, KeepsDscp, RepliesEchoFrame, reply_dscp}
 use Rattle.app_host.specs.IcmpError.{header_from, quoted}
 use Rattle.app_host.specs.Neighbour.{AdvertisesFrame}
 use Rattle.app_host.specs.ParameterProblem.{ProblemFrame}
+use Rattle.app_host.specs.Skipped.{without_extensions}
 use Rattle.app_host.specs.Interface.{header_back}
 use Rattle.app_host.specs.Message as message
 use Rattle.app_host.specs.Message.{HasClass, IsMarked, dscp_of, values_of}
@@ -142,31 +144,34 @@ long-frame : (bytes : List ℕ) (header : EthernetRepr) (v : IpRepr) (t : frame.
 long-frame bytes header v t reads =
     let (type, packet, inner) = reads.reads_carried in omega (arith, long-packet v (drop 14 bytes) packet, length-drop 14 bytes)
 
--- a frame with a reply that has a message is so long
-long-asked : (host : Host) (bytes : List ℕ) (asked_header header : EthernetRepr) (asked c : frame.Carried) → IsReadWhole bytes asked_header asked
-    → IsMessageReply host bytes asked_header asked header c → 16 ≤ length bytes
-long-asked host bytes asked_header header asked c reads (inl e) = long-frame bytes asked_header e.ip _ (subst (IsReadWhole bytes asked_header) e.asks reads)
-long-asked host bytes asked_header header asked c reads (inr (inl e)) = long-frame bytes asked_header (Ipv6 e.ip) _ (subst (IsReadWhole bytes asked_header) e.asks reads)
-long-asked host bytes asked_header header asked c reads (inr (inr (inl e))) = long-frame bytes asked_header e.ip _ (subst (IsReadWhole bytes asked_header) e.asks reads)
-long-asked host bytes asked_header header asked c reads (inr (inr (inr e))) = long-frame bytes asked_header (Ipv6 e.ip) _ (subst (IsReadWhole bytes asked_header) e.asks reads)
+long-past : (bytes : List ℕ) (header : EthernetRepr) (v : IpRepr) (t : frame.Transport) → IsReadWhole (without_extensions bytes) header (frame.packet v t) → 16 ≤ length bytes
+long-past bytes header v t reads = whole-long bytes (long-frame (without_extensions bytes) header v t reads)
 
-pub message-marked : (host : Host) (request : Frame) (bytes : List ℕ) (f : MessageFrame) → IsParsed request bytes → message.Gives (RepliesMessage host bytes request) (Some f)
+-- a frame with a reply that has a message is so long
+long-asked : (host : Host) (bytes : List ℕ) (asked_header header : EthernetRepr) (asked c : frame.Carried) → IsReadWhole (without_extensions bytes) asked_header asked
+    → IsMessageReply host bytes asked_header asked header c → 16 ≤ length bytes
+long-asked host bytes asked_header header asked c reads (inl e) = long-past bytes asked_header e.ip _ (subst (IsReadWhole (without_extensions bytes) asked_header) e.asks reads)
+long-asked host bytes asked_header header asked c reads (inr (inl e)) = long-past bytes asked_header (Ipv6 e.ip) _ (subst (IsReadWhole (without_extensions bytes) asked_header) e.asks reads)
+long-asked host bytes asked_header header asked c reads (inr (inr (inl e))) = long-past bytes asked_header e.ip _ (subst (IsReadWhole (without_extensions bytes) asked_header) e.asks reads)
+long-asked host bytes asked_header header asked c reads (inr (inr (inr e))) = long-past bytes asked_header (Ipv6 e.ip) _ (subst (IsReadWhole (without_extensions bytes) asked_header) e.asks reads)
+
+pub message-marked : (host : Host) (request : Frame) (bytes : List ℕ) (f : MessageFrame) → IsParsed request (without_extensions bytes) → message.Gives (RepliesMessage host bytes request) (Some f)
     → (16 ≤ length bytes → f.dscp ≡ reply_dscp bytes (values_of f)) → f.dscp ≡ reply_dscp bytes (values_of f)
 message-marked host request bytes f parsed (sendable, (asked, is, r)) marked =
     let reads = (parsed request.header asked).0 (refl, is) in marked (long-asked host bytes request.header f.header asked (values_of f) reads r)
 
-pub keeps-dscp : (ours : Interface) (request : Frame) (bytes new : List ℕ) (f : MessageFrame) → IsParsed request bytes → HasDscpOf ours request bytes f → IsMarked f new → KeepsDscp ours bytes new
+pub keeps-dscp : (ours : Interface) (request : Frame) (bytes new : List ℕ) (f : MessageFrame) → IsParsed request (without_extensions bytes) → HasDscpOf ours request bytes f → IsMarked f new → KeepsDscp ours bytes new
 keeps-dscp ours request bytes new f parsed has marked = λ asked_header header asked carried reads e.
     let (link, is) = (parsed asked_header asked).1 reads in
-    let read = subst (IsReadWhole bytes asked_header) e.asks reads in
-    let long = long-frame bytes asked_header e.ip _ read in
+    let read = subst (IsReadWhole (without_extensions bytes) asked_header) e.asks reads in
+    let long = long-past bytes asked_header e.ip _ read in
     let step : (h : EthernetRepr) → request.header ≡ h → (g : IsIcmpEcho ours h asked header carried) → (version_of f.ip ≡ version_of g.ip) × (f.dscp ≡ dscp_of (version_of g.ip) (drop 14 bytes)) =
     λ h same. subst (λ x. (g : IsIcmpEcho ours x asked header carried) → (version_of f.ip ≡ version_of g.ip) × (f.dscp ≡ dscp_of (version_of g.ip) (drop 14 bytes))) same (has header asked carried long is) in
     let (version, dscp) = step asked_header link e in
     subst (λ n. HasClass (version_of e.ip) (drop 14 new) n) dscp (subst (λ v. HasClass v (drop 14 new) f.dscp) version marked)
 
 -- a reply of another kind is not to an echo request
-pub other-keeps : (host : Host) (request f : Frame) (bytes new : List ℕ) → IsParsed request bytes → Gives (RepliesFrame host request) (Some f) → KeepsDscp host.interface bytes new
+pub other-keeps : (host : Host) (request f : Frame) (bytes new : List ℕ) → IsParsed request (without_extensions bytes) → Gives (RepliesFrame host request) (Some f) → KeepsDscp host.interface bytes new
 other-keeps host request f bytes new parsed (sendable, (h, c, values, (asked, is, r))) = λ asked_header header other_asked other_carried reads e.
     let (link, also) = (parsed asked_header other_asked).1 reads in
     let same : other_asked ≡ asked = cc in

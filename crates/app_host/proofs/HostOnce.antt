@@ -1,5 +1,6 @@
 -- A host has at most one reply to a frame.
 use Rattle.std.proofs.Common.{ℕ, ◌≡◌, inl, inr, List, subst}
+use Rattle.app_host.specs.Skipped.{without_extensions}
 use Rattle.app_host.specs.Host.{Answers, IsFrameReply, IsMessageReply, IsReply, RepliesBytes}
 use Rattle.app_host.specs.declared.host.Host.{Host}
 use Rattle.app_host.proofs.MessagesOnce.{error-once, icmp-echo-once, neighbour-once, problem-once}
@@ -71,7 +72,7 @@ reply-once host bytes asked_header asked h k c d (inr e) (inl g) = absurd (apart
 
 pub bytes-once : (host : Host) (bytes : List ℕ) → IsOne (RepliesBytes host bytes)
 bytes-once host bytes h k c d (asked_header, asked, reads, r) (other_header, other, also, s) =
-    let same = frame-once all_checked bytes asked_header other_header asked other reads also in
+    let same = frame-once all_checked (without_extensions bytes) asked_header other_header asked other reads also in
     reply-once host bytes other_header other h k c d (subst (λ v. IsReply host bytes v other h c) same.0 (subst (λ a. IsReply host bytes asked_header a h c) same.1 r)) s
 
 -- two answers to the same bytes parse as the same values

@@ -4,6 +4,7 @@ use Rattle.std.specs.Prelude.{IfSome}
 use Rattle.app_host.specs.Host.{Answers, IsUnread, RepliesBytes, RepliesFrame, RepliesMessage}
 use Rattle.app_host.specs.declared.host.Host.{Host}
 use Rattle.app_host.proofs.RepliesOnce.{IsOne}
+use Rattle.app_host.proofs.Skips.{whole-read}
 use Rattle.app_host.specs.Arp.{ArpRepliesFrame}
 use Rattle.app_host.specs.IcmpEcho.{RepliesEchoFrame, reply_dscp}
 use Rattle.app_host.specs.Message as message
@@ -95,7 +96,10 @@ frame-sent dscp P f h c old new result sendable values p marked sent one =
 -- bytes that do not parse with valid checksums get no reply
 pub unanswered : (host : Host) (bytes old new : List ℕ) (result : Option ℕ) → Sends (reply_dscp bytes) (RepliesBytes host bytes) old new result → IsUnread bytes → result ≡ None
 unanswered host bytes old new None sends none = refl
-unanswered host bytes old new (Some len) sends none = let r = sends.replies in absurd (none r.0 r.1 r.2)
+unanswered host bytes old new (Some len) sends none =
+    let (header, asked, reads, r) = sends.replies in
+    let (link, c, whole) = whole-read bytes header asked reads in
+    absurd (none link c whole)
 
 -- a reply that was sent is a reply of the host to the bytes
 pub answers : (host : Host) (bytes old new : List ℕ) (result : Option ℕ) → Sends (reply_dscp bytes) (RepliesBytes host bytes) old new result → IfSome result (λ len. Answers host bytes new)

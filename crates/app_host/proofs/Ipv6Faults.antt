@@ -1,7 +1,9 @@
 -- The first fault of options, and of extension headers.
-use Rattle.std.proofs.Common.{ℕ, zero, suc, ◌≡◌, ◌≤◌, ◌<◌, ◌+◌, List, Some, None, arith, length, refl, slice_index, true, false}
-use Rattle.std.specs.Prelude.{nat_le}
-use Rattle.app_host.specs.Ipv6Fault.{fault_of, header_end, header_fault, headers_fault, is_last, option_end, option_fault, options_fault}
+use Rattle.std.proofs.Common.{ℕ, zero, suc, ◌≡◌, ◌≤◌, ◌<◌, ◌+◌, Bool, List, Some, None, arith, length, refl, slice_index, true, false}
+use Rattle.std.proofs.lemmas.Bool.Decides.{nat_tests}
+use Rattle.std.specs.Option.{option_or}
+use Rattle.std.specs.Prelude.{if◌then◌else◌, nat_le}
+use Rattle.app_host.specs.Ipv6Fault.{fault_of, header_end, header_fault, headers_fault, is_fragment, is_last, option_end, option_fault, options_fault}
 use Rattle.app_host.specs.declared.ipv6_fault.Fault.{Fault}
 
 -- ---- options
@@ -29,8 +31,8 @@ options-go (suc n) payload start end few more is =
 -- ---- headers
 
 -- an extension header has 8 bytes or more
-pub header_end-later : (payload : List ℕ) (start : ℕ) → start < header_end payload start
-header_end-later payload start = omega arith
+pub header_end-later : (payload : List ℕ) (number start : ℕ) → start < header_end payload number start
+header_end-later payload number start = grind (arith, nat_tests)
 
 pub headers-end : (n : ℕ) (payload : List ℕ) (number pointer start : ℕ) → is_last number ≡ true → headers_fault n payload number pointer start ≡ None
 headers-end zero payload number pointer start last = refl
@@ -41,13 +43,24 @@ pub headers-stop : (n : ℕ) (payload : List ℕ) (number pointer start : ℕ) (
 headers-stop zero payload number pointer start fault few within last is = absurd (omega arith)
 headers-stop (suc n) payload number pointer start fault few within last is = rw (last, is) refl
 
+-- the header of a fragment is the last one
+pub headers-part : (n : ℕ) (payload : List ℕ) (number pointer start : ℕ) → header_fault payload number pointer start ≡ None → is_fragment payload number start ≡ true
+    → headers_fault n payload number pointer start ≡ None
+headers-part zero payload number pointer start is part = refl
+headers-part (suc n) payload number pointer start is part = by-last (is_last number)
+  where
+    by-last : (b : Bool) → (if b then None else option_or (header_fault payload number pointer start) (if is_fragment payload number start then None
+        else headers_fault n payload (slice_index payload start) (40 + start) (header_end payload number start))) ≡ None
+    by-last true = refl
+    by-last false = rw (is, part) refl
+
 -- the headers from this one have the fault of those after it, if it has none
 pub headers-go : (n : ℕ) (payload : List ℕ) (number pointer start : ℕ) → length payload < n + start → start ≤ length payload → is_last number ≡ false
-    → header_fault payload number pointer start ≡ None
-    → (k : ℕ) × (length payload < k + header_end payload start)
-    × (headers_fault n payload number pointer start ≡ headers_fault k payload (slice_index payload start) (40 + start) (header_end payload start))
-headers-go zero payload number pointer start few within last is = absurd (omega arith)
-headers-go (suc n) payload number pointer start few within last is = (n, omega (arith, few, header_end-later payload start), rw (last, is) refl)
+    → header_fault payload number pointer start ≡ None → is_fragment payload number start ≡ false
+    → (k : ℕ) × (length payload < k + header_end payload number start)
+    × (headers_fault n payload number pointer start ≡ headers_fault k payload (slice_index payload start) (40 + start) (header_end payload number start))
+headers-go zero payload number pointer start few within last is whole = absurd (omega arith)
+headers-go (suc n) payload number pointer start few within last is whole = (n, omega (arith, few, header_end-later payload number start), rw (last, is, whole) refl)
 
 -- ---- the whole packet
 

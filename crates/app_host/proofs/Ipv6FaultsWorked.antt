@@ -65,3 +65,8 @@ nothing = refl
 fragment : fault_of 44 (60 ∷ 0 ∷ 0 ∷ 1 ∷ 0 ∷ 0 ∷ 0 ∷ 9 ∷ 58 ∷ 0 ∷ 158 ∷ 4 ∷ []) ≡ None
 unfolding fault_of
 fragment = refl
+
+-- destination options of type 0x9e after an atomic fragment header, whose reserved byte is 7 (RFC 6946)
+atomic : fault_of 44 (60 ∷ 7 ∷ 0 ∷ 0 ∷ 0 ∷ 0 ∷ 0 ∷ 9 ∷ 58 ∷ 0 ∷ 158 ∷ 4 ∷ 0 ∷ 0 ∷ 0 ∷ 0 ∷ 128 ∷ 0 ∷ []) ≡ Some (Reported 2 50 true)
+unfolding fault_of
+atomic = refl

@@ -4,6 +4,7 @@ use Rattle.std.specs.Prelude.{IfSome}
 use Rattle.app_host.proofs.EchoDscp.{frame-marked, if-kept, keeps-dscp, message-marked, other-keeps}
 use Rattle.app_host.proofs.HostOnce.{bytes-once}
 use Rattle.app_host.proofs.HostReplies.{frame-sent, message-sent}
+use Rattle.app_host.proofs.Skips.{whole-read}
 use Rattle.app_host.specs.Arp.{ArpRepliesFrame}
 use Rattle.app_host.specs.Host.{IsFrameReply, IsMessageReply, IsReply, RepliesBytes, RepliesFrame, RepliesMessage, UnreachableFrame}
 use Rattle.app_host.specs.IcmpEcho.{HasDscpOf, RepliesEchoFrame, reply_dscp}
@@ -12,6 +13,7 @@ use Rattle.app_host.specs.Message as message
 use Rattle.app_host.specs.Message.{IsMarked, values_of}
 use Rattle.app_host.specs.Neighbour.{AdvertisesFrame}
 use Rattle.app_host.specs.ParameterProblem.{ProblemFrame}
+use Rattle.app_host.specs.Skipped.{without_extensions}
 use Rattle.app_host.specs.TcpReply.{TcpRepliesFrame}
 use Rattle.app_host.specs.UdpEcho.{EchoesFrame}
 use Rattle.app_host.specs.declared.host.Host.{Host}
@@ -34,7 +36,7 @@ use Rattle.std.specs.Borrow.{Bor}
 
 -- ---- what is sent of a reply
 
-no-reply : (host : Host) (bytes : List ℕ) (request : Frame) → IsParsed request bytes → Gives (RepliesFrame host request) None → message.Gives (RepliesMessage host bytes request) None
+no-reply : (host : Host) (bytes : List ℕ) (request : Frame) → IsParsed request (without_extensions bytes) → Gives (RepliesFrame host request) None → message.Gives (RepliesMessage host bytes request) None
     → (h : EthernetRepr) (c : frame.Carried) → ¬ RepliesBytes host bytes h c
 no-reply host bytes request parsed no_frame no_message = λ h c (header, asked, reads, r). let same = (parsed header asked).1 reads in neither h c asked same.1 (subst (λ x. IsReply host bytes x asked h c) (sym same.0) r)
   where
@@ -61,10 +63,10 @@ pub record SendsMessage (host : Host) (bytes : List ℕ) (request : Frame) (old 
   pub keeps : HasDscpOf host.interface request bytes reply
   pub dscp : 16 ≤ length bytes → reply.dscp ≡ reply_dscp bytes (values_of reply)
 
-pub by-frame : (host : Host) (bytes : List ℕ) (request : Frame) (old new : List ℕ) (sent : Option ℕ) → Finds all_checked bytes request → SendsFrame host request old new sent
+pub by-frame : (host : Host) (bytes : List ℕ) (request : Frame) (old new : List ℕ) (sent : Option ℕ) → Finds all_checked (without_extensions bytes) request → SendsFrame host request old new sent
     → TriesReply host bytes old new (Some sent)
 by-frame host bytes request old new sent found s =
-    let parsed = gives-frame all_checked bytes request found in
+    let parsed = gives-frame all_checked (without_extensions bytes) request found in
     let (sendable, (h, c, values, (asked, is, e))) = s.gives in
     let p : RepliesBytes host bytes h c = (request.header, asked, (parsed request.header asked).0 (refl, is), inl e) in
     record {
@@ -75,10 +77,10 @@ by-frame host bytes request old new sent found s =
       dscp = always sent (other-keeps host request s.reply bytes new parsed s.gives);
     }
 
-pub by-message : (host : Host) (bytes : List ℕ) (request : Frame) (old new : List ℕ) (sent : Option ℕ) → Finds all_checked bytes request → SendsMessage host bytes request old new sent
+pub by-message : (host : Host) (bytes : List ℕ) (request : Frame) (old new : List ℕ) (sent : Option ℕ) → Finds all_checked (without_extensions bytes) request → SendsMessage host bytes request old new sent
     → TriesReply host bytes old new (Some sent)
 by-message host bytes request old new sent found s =
-    let parsed = gives-frame all_checked bytes request found in
+    let parsed = gives-frame all_checked (without_extensions bytes) request found in
     let (sendable, (asked, is, e)) = s.gives in
     let p : RepliesBytes host bytes s.reply.header (values_of s.reply) = (request.header, asked, (parsed request.header asked).0 (refl, is), inr e) in
     record {
@@ -90,23 +92,23 @@ by-message host bytes request old new sent found s =
     }
 
 -- there is no reply, and nothing is sent
-pub without : (host : Host) (bytes : List ℕ) (request : Frame) (old : List ℕ) → Finds all_checked bytes request → Gives (RepliesFrame host request) None
+pub without : (host : Host) (bytes : List ℕ) (request : Frame) (old : List ℕ) → Finds all_checked (without_extensions bytes) request → Gives (RepliesFrame host request) None
     → message.Gives (RepliesMessage host bytes request) None → TriesReply host bytes old old None
 without host bytes request old found no_frame no_message =
-    record { tries = (refl, no-reply host bytes request (gives-frame all_checked bytes request found) no_frame no_message); dscp = tt }
+    record { tries = (refl, no-reply host bytes request (gives-frame all_checked (without_extensions bytes) request found) no_frame no_message); dscp = tt }
 
 -- what does not parse gets no reply
-pub unread : (host : Host) (bytes : List ℕ) (request : Frame) (old : List ℕ) → Finds all_checked bytes request → carried_of request.carried ≡ None → TriesReply host bytes old old None
+pub unread : (host : Host) (bytes : List ℕ) (request : Frame) (old : List ℕ) → Finds all_checked (without_extensions bytes) request → carried_of request.carried ≡ None → TriesReply host bytes old old None
 unread host bytes request old found none = without host bytes request old found (λ h c (asked, is, e). absurd (cc)) (λ h c (asked, is, e). absurd (cc))
 
 pub no-link : (host : Host) (bytes old : List ℕ) → ((v : EthernetRepr) → ¬ ethernet.Reads bytes v) → TriesReply host bytes old old None
-no-link host bytes old none = record { tries = (refl, λ h c (header, asked, reads, r). none header reads.reads_header); dscp = tt }
+no-link host bytes old none = record { tries = (refl, λ h c (header, asked, reads, r). let (link, c, whole) = whole-read bytes header asked reads in none link whole.reads_header); dscp = tt }
 
 -- ---- no reply, by what a frame carries
 
 -- a frame with this header that carries this gets no reply
 abbrev pub Nothing : Host → List ℕ → EthernetRepr → Carried → List ℕ → Type 0
-Nothing host bytes link c old = Finds all_checked bytes (record { header = link; carried = c }) → TriesReply host bytes old old None
+Nothing host bytes link c old = Finds all_checked (without_extensions bytes) (record { header = link; carried = c }) → TriesReply host bytes old old None
 
 pub no-arp : (host : Host) (bytes : List ℕ) (link : EthernetRepr) (m : ArpRepr) (old : List ℕ) → Gives (ArpRepliesFrame host.interface (record { header = link; carried = carried.Arp m })) None → Nothing host bytes link (carried.Arp m) old
 no-arp host bytes link m old none found =

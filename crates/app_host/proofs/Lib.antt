@@ -18,5 +18,7 @@ pub mod Neighbours
 pub mod ParameterProblems
 pub mod RepliesOnce
 pub mod ReplyEnds
+mod SkippedWorked
+pub mod Skips
 pub mod TcpReplies
 pub mod Tried

@@ -3,15 +3,23 @@ use Rattle.std.proofs.Common.{ℕ, ◌≡◌, ◌∙◌, ◌⊎◌, inl, inr, []
 use Rattle.app_host.specs.Host.{Answers, IsErrorMessage, IsFinal, IsFrameReply, IsMessageReply, IsPortUnreachable, IsReply, IsReset, IsSegment, ServesPortOf}
 use Rattle.app_host.specs.declared.host.Host.{Host}
 use Rattle.app_host.proofs.MessageEnds.{IsErrorCarried, IsSilent, advert-silent, echo-silent, error-silent, icmp-faultless, problem-error, silent-echo, silent-neighbour, unreachable-error}
+use Rattle.app_host.proofs.Echoes.{echo_values}
+use Rattle.app_host.proofs.Skips.{IsPlain, without-plain}
+use Rattle.app_host.proofs.TcpReplies.{reply_values}
+use Rattle.app_host.specs.Skipped.{without_extensions}
 use Rattle.app_host.specs.TcpReply.{IsTcpReply, Replies, back, closed_by, listen_by, reset_by, reset_for, syn_ack}
 use Rattle.app_host.specs.declared.tcp_reply.Offer.{Offer}
 use Rattle.ip_wire.proofs.ReadsOnce.{frame-once}
 use Rattle.ip_wire.specs.Frame.{Carried, IsReadWhole, all_checked, other, packet, segment}
 use Rattle.ip_wire.specs.TcpRepr.{TcpHeader}
-use Rattle.ip_wire.specs.Types.{EthernetRepr, IpRepr}
+use Rattle.ip_wire.specs.Ip.{next_header_of, version_of}
+use Rattle.ip_wire.specs.Protocol.{number_of}
+use Rattle.ip_wire.specs.Types.{EthernetRepr, IpRepr, Ipv4, Ipv6, UdpRepr}
 use Rattle.ip_wire.specs.declared.TcpControl.{TcpControl}
 use Rattle.ip_wire.specs.declared.TcpControl.TheVariants as control
 use Rattle.ip_wire.specs.declared.TcpSeqNumber.{TcpSeqNumber}
+use Rattle.wire_extensions.specs.Extension.{is_extension}
+use Rattle.wire_icmp.specs.Icmp.{protocol_of}
 use Rattle.wire_icmp.specs.declared.Unreachable.TheVariants as unreachable
 
 -- ---- segments
@@ -198,11 +206,44 @@ as_error : (h : List ℕ) (header : EthernetRepr) (carried : Carried) → IsRead
 as_error h header carried reads (ip, message, carries, protocol, error) =
     record { header = header; ip = ip; message = message; reads = subst (λ c. IsReadWhole h header c) carries reads; protocol = protocol; error = error }
 
+-- ---- replies have no extension headers
+
+echo-plain : (v : IpRepr) (u : UdpRepr) (payload : List ℕ) → IsPlain (echo_values v u payload)
+echo-plain (Ipv4 v) u payload = refl
+echo-plain (Ipv6 v) u payload = refl
+
+segment-plain : (v : IpRepr) (reply : TcpHeader) → IsPlain (reply_values v reply)
+segment-plain (Ipv4 v) reply = refl
+segment-plain (Ipv6 v) reply = refl
+
+icmp-plain : (v : IpRepr) (m : List ℕ) → next_header_of v ≡ protocol_of (version_of v) → IsPlain (packet v (other m))
+icmp-plain (Ipv4 v) m is = ap (λ p. is_extension (number_of p)) is
+icmp-plain (Ipv6 v) m is = ap (λ p. is_extension (number_of p)) is
+
+reply-plain : (host : Host) (bytes : List ℕ) (asked_header header : EthernetRepr) (asked c : Carried) → IsReply host bytes asked_header asked header c → IsPlain c
+reply-plain host bytes asked_header header asked c (inl (inl e)) = subst IsPlain (sym e.carries) tt
+reply-plain host bytes asked_header header asked c (inl (inr (inl e))) = subst IsPlain (sym e.echoes) (echo-plain e.ip e.udp e.payload)
+reply-plain host bytes asked_header header asked c (inl (inr (inr e))) = subst IsPlain (sym e.carries) (segment-plain e.ip e.reply)
+reply-plain host bytes asked_header header asked c (inr e) =
+    let (v, m, is, not, types, protocol) = message_silent host bytes asked_header header asked c e in subst IsPlain (sym is) (icmp-plain v m protocol)
+
+-- a reply is taken as it is
+reply-itself : (first : Host) (f g : List ℕ) → Answers first f g → without_extensions g ≡ g
+reply-itself first f g a =
+    let (asked_header, asked, reads_f, replies) = a.replies in
+    without-plain g a.header a.carried a.reads (reply-plain first f asked_header a.header asked a.carried replies)
+
+-- so is a TCP segment
+segment-itself : (frame : List ℕ) (header : EthernetRepr) (ip : IpRepr) (tcp : TcpHeader) (payload : List ℕ) → IsReadWhole frame header (packet ip (segment tcp payload)) → without_extensions frame ≡ frame
+segment-itself frame header ip tcp payload reads =
+    let (type, read, following) = reads.reads_carried in
+    without-plain frame header (packet ip (segment tcp payload)) reads (ap (λ p. is_extension (number_of p)) following.0)
+
 -- the second reply is one to the values of the first
 reply_back : (first second : Host) (f g h : List ℕ) (a : Answers first f g) (b : Answers second g h) → IsReply second g b.replies.0 a.carried b.header b.carried
 reply_back first second f g h a b =
     let (back_header, back, reads_g, replies_back) = b.replies in
-    let once = frame-once all_checked g back_header a.header back a.carried reads_g a.reads in
+    let once = frame-once all_checked g back_header a.header back a.carried (subst (λ b. IsReadWhole b back_header back) (reply-itself first f g a) reads_g) a.reads in
     subst (λ c. IsReply second g back_header c b.header b.carried) once.1 replies_back
 
 answer_ends : (first second : Host) (f g h : List ℕ) (a : Answers first f g) (b : Answers second g h)
@@ -229,7 +270,8 @@ answer_resets first second f g h serves a b = elim (answer_ends first second f g
 pub segment_answered : (first second : Host) (f g h : List ℕ) → IsSegment f → Answers first f g → Answers second g h → IsReset h
 segment_answered first second f g h (header, ip, tcp, payload, reads) a b =
     let (asked_header, asked, reads_f, replies) = a.replies in
-    let once = frame-once all_checked f asked_header header asked (packet ip (segment tcp payload)) reads_f reads in
+    let itself = segment-itself f header ip tcp payload reads in
+    let once = frame-once all_checked f asked_header header asked (packet ip (segment tcp payload)) (subst (λ b. IsReadWhole b asked_header asked) itself reads_f) reads in
     let e = segment_reply first f asked_header a.header asked a.carried ip tcp payload once.1 replies in
     as_reset h b.header b.carried b.reads
     (segment_resets first second g asked_header a.header b.replies.0 b.header asked a.carried b.carried e (reply_back first second f g h a b))
@@ -238,9 +280,11 @@ segment_answered first second f g h (header, ip, tcp, payload, reads) a b =
 pub final_unanswered : (third : Host) (h k : List ℕ) → IsFinal h → ¬ Answers third h k
 final_unanswered third h k (inl r) a =
     let (asked_header, asked, reads, replies) = a.replies in
-    let once = frame-once all_checked h r.header asked_header (packet r.ip (segment r.tcp r.payload)) asked r.reads reads in
+    let itself = segment-itself h r.header r.ip r.tcp r.payload r.reads in
+    let once = frame-once all_checked h r.header asked_header (packet r.ip (segment r.tcp r.payload)) asked r.reads (subst (λ b. IsReadWhole b asked_header asked) itself reads) in
     unanswered third h asked_header a.header asked a.carried (inl (r.ip, r.tcp, r.payload, sym once.1, r.reset)) replies
 final_unanswered third h k (inr r) a =
     let (asked_header, asked, reads, replies) = a.replies in
-    let once = frame-once all_checked h r.header asked_header (packet r.ip (other r.message)) asked r.reads reads in
+    let itself = without-plain h r.header (packet r.ip (other r.message)) r.reads (icmp-plain r.ip r.message r.protocol) in
+    let once = frame-once all_checked h r.header asked_header (packet r.ip (other r.message)) asked r.reads (subst (λ b. IsReadWhole b asked_header asked) itself reads) in
     unanswered third h asked_header a.header asked a.carried (inr (r.ip, r.message, sym once.1, r.protocol, r.error)) replies

@@ -12,6 +12,7 @@ use Rattle.app_host.specs.Interface.{IsForUs}
 use Rattle.app_host.specs.Kinds.{Tries, TriesReply}
 use Rattle.app_host.specs.Message as message
 use Rattle.app_host.specs.Message.{values_of}
+use Rattle.app_host.specs.Skipped.{without_extensions}
 use Rattle.app_host.specs.UdpEcho.{EchoesFrame}
 use Rattle.app_host.specs.declared.host.Host.{Host}
 use Rattle.app_host.specs.declared.message.MessageFrame.{MessageFrame}
@@ -80,10 +81,10 @@ sends-one dscp P Q old new (Some n) h c to p one w =
     }
 
 -- an error about a packet for a closed port is the reply of the host
-pub by-error : (host : Host) (bytes : List ℕ) (request : Frame) (old new : List ℕ) (sent : Option ℕ) → Finds all_checked bytes request → message.Gives (RepliesEchoFrame host.interface request) None
+pub by-error : (host : Host) (bytes : List ℕ) (request : Frame) (old new : List ℕ) (sent : Option ℕ) → Finds all_checked (without_extensions bytes) request → message.Gives (RepliesEchoFrame host.interface request) None
     → Tries unmarked (UnreachableFrame host bytes request) old new (Some sent) → TriesReply host bytes old new (Some sent)
 by-error host bytes request old new sent found no_echo ((h, c, u), sends) =
-    let parsed = gives-frame all_checked bytes request found in
+    let parsed = gives-frame all_checked (without_extensions bytes) request found in
     let one = bytes-once host bytes in
     let to : (k : EthernetRepr) (d : Carried) → UnreachableFrame host bytes request k d → RepliesBytes host bytes k d =
     λ k d (asked, is, e). (request.header, asked, (parsed request.header asked).0 (refl, is), inr (inr (inr (inl e))))
@@ -105,7 +106,7 @@ by-error host bytes request old new sent found no_echo ((h, c, u), sends) =
 pub closed-tried : (host : Host) (bytes : List ℕ) (link : EthernetRepr) (v : IpRepr) (u : UdpRepr) (payload : Bor (List ℕ)) (old new : List ℕ) (tried : Option (Option ℕ))
     → Gives (EchoesFrame host.interface host.echo_port (record { header = link; carried = carried.Packet v (transport.Udp u payload) })) None
     → Tries unmarked (UnreachableFrame host bytes (record { header = link; carried = carried.Packet v (transport.Udp u payload) })) old new tried
-    → Finds all_checked bytes (record { header = link; carried = carried.Packet v (transport.Udp u payload) }) → TriesReply host bytes old new tried
+    → Finds all_checked (without_extensions bytes) (record { header = link; carried = carried.Packet v (transport.Udp u payload) }) → TriesReply host bytes old new tried
 closed-tried host bytes link v u payload old new None no_echo (stays, none) found =
     subst (λ l. TriesReply host bytes old l None) (sym stays) (no-udp host bytes link v u payload old no_echo none found)
 closed-tried host bytes link v u payload old new (Some sent) no_echo tries found =

@@ -8,6 +8,7 @@ use Rattle.app_host.specs.IcmpError.{IsError}
 use Rattle.app_host.specs.Interface.{IsForUs}
 use Rattle.app_host.specs.Neighbour.{IsNeighbourReply}
 use Rattle.app_host.specs.ParameterProblem.{IsParameterProblem}
+use Rattle.app_host.specs.Skipped.{without_extensions}
 use Rattle.app_host.specs.TcpReply.{IsTcpReply}
 use Rattle.app_host.specs.UdpEcho.{IsEcho}
 use Rattle.ip_wire.specs.Field.{field}
@@ -74,10 +75,11 @@ abbrev pub IsReply : Host → List ℕ → EthernetRepr → Carried → Ethernet
 IsReply host bytes asked_header asked header carried =
     IsFrameReply host asked_header asked header carried ⊎ IsMessageReply host bytes asked_header asked header carried
 
--- the values of the host's reply to the frame that the bytes parse as
+-- The values of the host's reply to the frame that the bytes parse as. If the host skips the extension headers of its packet,
+-- that is the reply to the same packet without them. An error quotes the packet with them.
 abbrev pub RepliesBytes : Host → List ℕ → EthernetRepr → Carried → Type 0
 RepliesBytes host bytes header carried =
-    (asked_header : EthernetRepr) × (asked : Carried) × IsReadWhole bytes asked_header asked × IsReply host bytes asked_header asked header carried
+    (asked_header : EthernetRepr) × (asked : Carried) × IsReadWhole (without_extensions bytes) asked_header asked × IsReply host bytes asked_header asked header carried
 
 -- if the bytes parse as a UDP packet, the host serves the port that it goes to
 abbrev pub ServesPortOf : Host → List ℕ → Type 0

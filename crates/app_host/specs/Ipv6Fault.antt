@@ -1,20 +1,26 @@
 -- Why a host discards an IPv6 packet: the first fault of its extension headers, in their order (RFC 8200, section 4). A
 -- position counts from the end of the IPv6 header, a pointer from its start.
 -- Pinned by: `worked/hosts`, `Ipv6FaultsWorked`, `judge`
-use Rattle.std.specs.Prelude.{ℕ, zero, suc, ◌+◌, ◌*◌, ◌==◌, ◌&&◌, ◌||◌, not, nat_le, nat_lt, if◌then◌else◌, Bool, false, Option, None, Some, List, length, slice_index}
+use Rattle.std.specs.Prelude.{ℕ, zero, suc, ◌+◌, ◌*◌, ◌==◌, ◌&&◌, ◌||◌, not, nat_le, nat_lt, if◌then◌else◌, Bool, false, Option, None, Some, List, drop, length, slice_index}
 use Rattle.std.specs.Option.{option_or}
+use Rattle.ip_wire.specs.Ipv6Fragment as fragment
+use Rattle.wire_extensions.specs.Chain.{is_part}
 use Rattle.app_host.specs.declared.ipv6_fault.Fault.{Fault}
 use Rattle.app_host.specs.declared.ipv6_fault.Fault.TheVariants.{Silent, Reported}
 
--- whether the number ends the extension headers: TCP (6), UDP (17), ICMPv6 (58) and "no next header" (59); and a fragment
--- header (44), since what follows it is processed in the whole packet only
+-- whether the number ends the extension headers: TCP (6), UDP (17), ICMPv6 (58) and "no next header" (59)
 abbrev pub is_last : ℕ → Bool
-is_last number = number == 6 || number == 17 || number == 44 || number == 58 || number == 59
+is_last number = number == 6 || number == 17 || number == 58 || number == 59
 
 -- whether a host processes the extension header with this number at this position: hop-by-hop options (0) directly after
--- the IPv6 header, routing (43), and destination options (60)
+-- the IPv6 header, routing (43), fragment (44), and destination options (60)
 abbrev pub is_processed : ℕ → ℕ → Bool
-is_processed number start = (number == 0 && start == 0) || number == 43 || number == 60
+is_processed number start = (number == 0 && start == 0) || number == 43 || number == 44 || number == 60
+
+-- whether the header with this number is that of a fragment: what follows it is processed in the whole packet only. An
+-- atomic fragment is a whole packet (RFC 6946).
+abbrev pub is_fragment : List ℕ → ℕ → ℕ → Bool
+is_fragment payload number start = (number == 44) && is_part (fragment.header_of (drop (start + 2) payload))
 
 -- where the option that starts here ends: Pad1 (type 0) is one byte, any other option has a length
 abbrev pub option_end : List ℕ → ℕ → ℕ
@@ -43,9 +49,9 @@ options_fault (suc n) payload start end =
 abbrev pub routing_fault : List ℕ → ℕ → Option Fault
 routing_fault payload start = if slice_index payload (start + 3) == 0 then None else Some (Reported 0 (42 + start) false)
 
--- where the extension header that starts here ends
-abbrev pub header_end : List ℕ → ℕ → ℕ
-header_end payload start = start + 8 * (slice_index payload (start + 1) + 1)
+-- where the extension header with this number that starts here ends: a fragment header has 8 bytes
+abbrev pub header_end : List ℕ → ℕ → ℕ → ℕ
+header_end payload number start = start + (if number == 44 then 8 else 8 * (slice_index payload (start + 1) + 1))
 
 -- The fault of the header with this number, to which the byte at `pointer` leads. A number that the host does not process
 -- is reported, and 0 in any header but the IPv6 header too. A header that is cut is discarded. Each option has a byte or
@@ -53,16 +59,19 @@ header_end payload start = start + 8 * (slice_index payload (start + 1) + 1)
 abbrev pub header_fault : List ℕ → ℕ → ℕ → ℕ → Option Fault
 header_fault payload number pointer start =
     if not (is_processed number start) then Some (Reported 1 pointer false)
-    else if nat_lt (length payload) (header_end payload start) then Some Silent
+    else if nat_lt (length payload) (header_end payload number start) then Some Silent
     else if number == 43 then routing_fault payload start
-    else options_fault (length payload) payload (start + 2) (header_end payload start)
+    else if number == 44 then None
+    else options_fault (length payload) payload (start + 2) (header_end payload number start)
 
--- the first fault from the header with this number on, of at most n headers
+-- the first fault from the header with this number on, of at most n headers and up to that of a fragment
 abbrev pub headers_fault : ℕ → List ℕ → ℕ → ℕ → ℕ → Option Fault
 headers_fault zero payload number pointer start = None
 headers_fault (suc n) payload number pointer start =
     if is_last number then None
-    else option_or (header_fault payload number pointer start) (headers_fault n payload (slice_index payload start) (40 + start) (header_end payload start))
+    else option_or (header_fault payload number pointer start)
+    (if is_fragment payload number start then None
+    else headers_fault n payload (slice_index payload start) (40 + start) (header_end payload number start))
 
 -- the first fault of the extension headers of a packet, with this next header in its IPv6 header and this payload; each
 -- header has a byte or more

@@ -9,6 +9,7 @@ pub mod Kinds
 pub mod Message
 pub mod Neighbour
 pub mod ParameterProblem
+pub mod Skipped
 pub mod Source
 pub mod TcpReply
 pub mod UdpEcho

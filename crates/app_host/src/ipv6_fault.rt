@@ -1,7 +1,10 @@
 //! Why a host discards an IPv6 packet because of its extension headers (RFC 8200, section 4).
 
 ghost use Rattle.std.specs.Prelude.{◌≡◌, ◌+◌, ◌≤◌, ◌<◌, None, false, length, slice_index};
-ghost use Rattle.app_host.specs.Ipv6Fault.{fault_of, header_end, header_fault, is_last, is_processed, option_end, option_fault, options_fault, routing_fault, type_fault};
+ghost use Rattle.app_host.specs.Ipv6Fault.{fault_of, header_end, header_fault, is_fragment, is_last, is_processed, option_end, option_fault, options_fault, routing_fault, type_fault};
+
+use ip_wire::Ipv6FragmentHeader;
+use wire_extensions::{EXTENSION_UNIT, FRAGMENT};
 
 const HOP_BY_HOP: u8 = 0;
 
@@ -42,18 +45,35 @@ pub fn first_fault(next_header: u8, payload: &[u8]) -> Option<Fault>
         if let Some(fault) = header_fault(payload, number, pointer, start) {
             return Some(fault);
         }
+        if is_fragment(payload, number, start) {
+            return None;
+        }
+        let end = header_end(payload, number, start);
         number = byte_at(payload, start);
         pointer = pointer_to(start);
-        start = header_end(payload, start);
+        start = end;
     }
     None
 }
 
-// Whether the number ends the extension headers of a packet, or is that of a fragment header.
+// Whether the number ends the extension headers of a packet.
 fn is_last(number: u8) -> bool
     ensures { result ≡ is_last number }
 {
-    matches!(number, 6 | 17 | 44 | 58 | 59)
+    matches!(number, 6 | 17 | 58 | 59)
+}
+
+// Whether the header with this number that starts here is that of a fragment.
+fn is_fragment(payload: &[u8], number: u8, start: usize) -> bool
+    requires position { start ≤ length payload.now }
+    requires whole { number ≡ 44 → start + 8 ≤ length payload.now }
+    ensures { result ≡ is_fragment payload.now number start }
+{
+    if number != FRAGMENT {
+        return false;
+    }
+    let header = Ipv6FragmentHeader::new_unchecked(&payload[start + 2..]);
+    header.more_frags() || header.frag_offset() != 0
 }
 
 // The fault of the extension header with this number, to which the byte at `pointer` leads.
@@ -61,35 +81,39 @@ fn header_fault(payload: &[u8], number: u8, pointer: u32, start: usize) -> Optio
     requires position { start ≤ length payload.now }
     requires short { length payload.now ≤ 65535 }
     ensures fault { result ≡ header_fault payload.now number pointer start }
-    ensures whole { result ≡ None → header_end payload.now start ≤ length payload.now }
+    ensures whole { result ≡ None → header_end payload.now number start ≤ length payload.now }
 {
     if !is_processed(number, start) {
         return Some(reported(1, pointer));
     }
-    let end = header_end(payload, start);
+    let end = header_end(payload, number, start);
     if payload.len() < end {
         return Some(Fault::Silent);
     }
-    if number == ROUTING {
-        return routing_fault(payload, start);
+    match number {
+        ROUTING => routing_fault(payload, start),
+        FRAGMENT => None,
+        _ => options_fault(payload, start + 2, end),
     }
-    options_fault(payload, start + 2, end)
 }
 
 // Whether the host processes the extension header with this number here.
 fn is_processed(number: u8, start: usize) -> bool
     ensures { result ≡ is_processed number start }
 {
-    (number == HOP_BY_HOP && start == 0) || number == ROUTING || number == DESTINATION
+    (number == HOP_BY_HOP && start == 0) || matches!(number, ROUTING | FRAGMENT | DESTINATION)
 }
 
-// Where the extension header ends that starts here.
-fn header_end(payload: &[u8], start: usize) -> usize
+// Where the extension header with this number ends that starts here.
+fn header_end(payload: &[u8], number: u8, start: usize) -> usize
     requires position { start ≤ length payload.now }
     requires short { length payload.now ≤ 65535 }
-    ensures { result ≡ header_end payload.now start }
+    ensures { result ≡ header_end payload.now number start }
 {
-    start + 8 * (usize::from(byte_at(payload, start + 1)) + 1)
+    if number == FRAGMENT {
+        return start + EXTENSION_UNIT;
+    }
+    start + EXTENSION_UNIT * (usize::from(byte_at(payload, start + 1)) + 1)
 }
 
 // The fault of the routing header that starts here.

@@ -3,6 +3,7 @@
 
 ghost use Rattle.std.specs.Prelude.{◌≡◌, List, drop, ℕ};
 ghost use Rattle.app_host.specs.Kinds.{TriesReply};
+ghost use Rattle.app_host.specs.Skipped.{without_extensions};
 ghost use Rattle.ip_wire.specs.Ethernet as ethernet;
 ghost use Rattle.ip_wire.specs.Frame.{ReadsPacket, all_checked, packet_payload, type_of};
 ghost use Rattle.ip_wire.specs.FrameValue.{Finds};
@@ -12,6 +13,7 @@ ghost use Rattle.ip_wire.specs.declared.EthernetProtocol.TheVariants as ethertyp
 ghost use Rattle.ip_wire.specs.declared.Transport.TheVariants as transport;
 
 use crate::host::{Host, dscp_in};
+use crate::skipped::without_extensions;
 use crate::tcp_reply::reply_to;
 use crate::{arp, icmp_echo, icmp_error, neighbour, parameter_problem, tcp_answer, udp_echo};
 use ip_wire::{
@@ -50,7 +52,7 @@ fn answer_arp(
     message: ArpRepr,
     out: &mut [u8],
 ) -> Option<Option<usize>>
-    ensures { (bytes : List ℕ) → Finds all_checked bytes (record { header = link; carried = carried.Arp message }) → TriesReply host.now bytes out.old out.new result }
+    ensures { (bytes : List ℕ) → Finds all_checked (without_extensions bytes) (record { header = link; carried = carried.Arp message }) → TriesReply host.now bytes out.old out.new result }
 {
     let request = Frame {
         header: link,
@@ -107,19 +109,15 @@ fn answer_ipv6(
 {
     let packet = Ipv6Packet::new_unchecked(bytes);
     match Ipv6Repr::parse(&packet) {
-        Ok(value) => answer_packet(
-            host,
-            link,
-            IpRepr::Ipv6(value),
-            packet.payload(),
-            frame,
-            out,
-        ),
+        Ok(value) => {
+            let (value, payload) = without_extensions(value, packet.payload());
+            answer_packet(host, link, IpRepr::Ipv6(value), payload, frame, out)
+        }
         Err(_) => None,
     }
 }
 
-// The reply to a packet with this header and payload.
+// The reply to a packet with this header and payload, which have no extension headers that a host skips.
 #[inline(always)]
 fn answer_packet(
     host: &Host<'_>,
@@ -129,10 +127,10 @@ fn answer_packet(
     frame: &[u8],
     out: &mut [u8],
 ) -> Option<Option<usize>>
-    requires link { ethernet.Reads frame.now link }
+    requires link { ethernet.Reads (without_extensions frame.now) link }
     requires ethertype { link.ethertype ≡ type_of header }
-    requires header { ReadsPacket all_checked (drop 14 frame.now) header }
-    requires payload { payload.now ≡ packet_payload header (drop 14 frame.now) }
+    requires header { ReadsPacket all_checked (drop 14 (without_extensions frame.now)) header }
+    requires payload { payload.now ≡ packet_payload header (drop 14 (without_extensions frame.now)) }
     ensures { TriesReply host.now frame.now out.old out.new result }
 {
     let (src_addr, dst_addr) = (header.src_addr(), header.dst_addr());
@@ -168,7 +166,7 @@ fn answer_udp(
     frame: &[u8],
     out: &mut [u8],
 ) -> Option<Option<usize>>
-    requires { Finds all_checked frame.now (record { header = link; carried = carried.Packet header (transport.Udp ports payload) }) }
+    requires { Finds all_checked (without_extensions frame.now) (record { header = link; carried = carried.Packet header (transport.Udp ports payload) }) }
     ensures { TriesReply host.now frame.now out.old out.new result }
 {
     match header {
@@ -194,7 +192,7 @@ fn answer_udp_in<const V6: bool>(
     frame: &[u8],
     out: &mut [u8],
 ) -> Option<Option<usize>>
-    requires { Finds all_checked frame.now (record { header = link; carried = carried.Packet header (transport.Udp ports payload) }) }
+    requires { Finds all_checked (without_extensions frame.now) (record { header = link; carried = carried.Packet header (transport.Udp ports payload) }) }
     ensures { TriesReply host.now frame.now out.old out.new result }
 {
     let is_for_us = host.interface.accepts(&link, &header);
@@ -224,7 +222,7 @@ fn answer_tcp(
     frame: &[u8],
     out: &mut [u8],
 ) -> Option<Option<usize>>
-    requires { Finds all_checked frame.now (record { header = link; carried = carried.Packet header (transport.Tcp segment) }) }
+    requires { Finds all_checked (without_extensions frame.now) (record { header = link; carried = carried.Packet header (transport.Tcp segment) }) }
     ensures { TriesReply host.now frame.now out.old out.new result }
 {
     match header {
@@ -249,7 +247,7 @@ fn answer_tcp_in<const V6: bool>(
     frame: &[u8],
     out: &mut [u8],
 ) -> Option<Option<usize>>
-    requires { Finds all_checked frame.now (record { header = link; carried = carried.Packet header (transport.Tcp segment) }) }
+    requires { Finds all_checked (without_extensions frame.now) (record { header = link; carried = carried.Packet header (transport.Tcp segment) }) }
     ensures { TriesReply host.now frame.now out.old out.new result }
 {
     if !host.interface.accepts(&link, &header) {
@@ -274,7 +272,7 @@ fn answer_other(
     frame: &[u8],
     out: &mut [u8],
 ) -> Option<Option<usize>>
-    requires { Finds all_checked frame.now (record { header = link; carried = carried.Packet header (transport.Other payload) }) }
+    requires { Finds all_checked (without_extensions frame.now) (record { header = link; carried = carried.Packet header (transport.Other payload) }) }
     ensures { TriesReply host.now frame.now out.old out.new result }
 {
     let request = Frame {

@@ -15,6 +15,7 @@ pub mod laws;
 mod message;
 pub mod neighbour;
 pub mod parameter_problem;
+mod skipped;
 pub mod tcp_answer;
 pub mod tcp_reply;
 pub mod udp_echo;

@@ -1,9 +1,11 @@
 use Rattle.std.proofs.Common.{◌≡◌, ◌∙◌, drop, refl, rules, sym}
 use Rattle.app_host.proofs.KindReplies.{no-link, unread}
+use Rattle.app_host.proofs.Skips.{itself, without-header}
 use Rattle.ip_wire.proofs.Found.{reads-nothing}
 use Rattle.ip_wire.specs.Ethernet as ethernet
 use Rattle.ip_wire.specs.Frame.{all_checked}
 use Rattle.ip_wire.specs.declared.Carried.TheVariants as carried
+use Rattle.ip_wire.specs.declared.Frame.{Frame}
 use Rattle.ip_wire.specs.Arp as arp
 use Rattle.app_host.proofs.kinds.answer.Goals as goal
 
@@ -20,7 +22,9 @@ returns-in-Ok-parse c =
     let reads = rw view at c.parse.ensures.reads in
     let inside : arp.packet_bytes c.new_unchecked.result ≡ drop 14 frame = search rules in
     let message = rw inside at c.parse-in-Arp.ensures.reads in
-    c.answer_arp.ensures frame (record { header = (reads c.in-Ok.link).0 c.in-Ok.is; carried = (c.in-Arp.is, (message c.in-Ok-parse.message).0 c.in-Ok-parse.is) })
+    let link_reads = (reads c.in-Ok.link).0 c.in-Ok.is in
+    let request : Frame = record { header = c.in-Ok.link; carried = carried.Arp c.in-Ok-parse.message } in
+    c.answer_arp.ensures frame (itself frame request (without-header frame c.in-Ok.link link_reads (rw c.in-Arp.is refl)) (record { header = link_reads; carried = (c.in-Arp.is, (message c.in-Ok-parse.message).0 c.in-Ok-parse.is) }))
 
 pub returns-in-Err : goal.returns-in-Err
 returns-in-Err c =
@@ -32,14 +36,14 @@ returns-in-Err c =
     let following : c.payload-bytes.result.now ≡ drop 14 frame = search rules in
     let link = c.in-Ok.link in
     unread c.args.host.now frame (record { header = link; carried = carried.Unread c.payload-bytes.result }) c.args.out.now
-    (record {
+    (itself frame _ (without-header frame link ((reads link).0 c.in-Ok.is) (rw c.in-Arp.is refl)) (record {
       header = (reads link).0 c.in-Ok.is;
       carried = (
         reads-nothing all_checked link.ethertype (drop 14 frame) (λ w type r. let ok = (message w).1 r in let is = c.in-Err.is in cc)
             (λ w type r. let apart = sym c.in-Arp.is ∙ type in cc) (λ w type r. let apart = sym c.in-Arp.is ∙ type in cc),
         following,
       );
-    })
+    }))
     refl
 
 pub returns-in-Unknown : goal.returns-in-Unknown
@@ -50,14 +54,14 @@ returns-in-Unknown c =
     let following : c.payload-bytes.result.now ≡ drop 14 frame = search rules in
     let link = c.in-Ok.link in
     unread c.args.host.now frame (record { header = link; carried = carried.Unread c.payload-bytes.result }) c.args.out.now
-    (record {
+    (itself frame _ (without-header frame link ((reads link).0 c.in-Ok.is) (rw c.in-Unknown.is refl)) (record {
       header = (reads link).0 c.in-Ok.is;
       carried = (
         reads-nothing all_checked link.ethertype (drop 14 frame) (λ w type r. let apart = sym c.in-Unknown.is ∙ type in cc)
             (λ w type r. let apart = sym c.in-Unknown.is ∙ type in cc) (λ w type r. let apart = sym c.in-Unknown.is ∙ type in cc),
         following,
       );
-    })
+    }))
     refl
 
 pub answer_ipv4-requires-clause-link : goal.answer_ipv4-requires-clause-link

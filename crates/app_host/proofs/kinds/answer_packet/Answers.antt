@@ -1,5 +1,6 @@
 use Rattle.std.proofs.Common.{◌≡◌, ◌≢◌, ◌∙◌, None, drop, refl, rules, sym, true}
 use Rattle.app_host.proofs.KindReplies.{unread}
+use Rattle.app_host.specs.Skipped.{without_extensions}
 use Rattle.ip_wire.proofs.Found.{unread-transport}
 use Rattle.ip_wire.specs.Frame.{all_checked, packet_payload, transport_by}
 use Rattle.ip_wire.specs.Ip.{dst_addr_of, next_header_of, src_addr_of}
@@ -13,7 +14,7 @@ use Rattle.app_host.proofs.kinds.answer_packet.Goals as goal
 pub answer_udp-requires : goal.answer_udp-requires
 answer_udp-requires c =
     let caps : c.default-caps.result ≡ all_checked = search rules in
-    let bytes = packet_payload c.args.header (drop 14 c.args.frame.now) in
+    let bytes = packet_payload c.args.header (drop 14 (without_extensions c.args.frame.now)) in
     let read = ((rw (c.new_unchecked-packet.ensures, c.src_addr-src_addr.ensures, c.dst_addr-dst_addr.ensures, caps, c.requires.payload) at c.in-Ok.ensures.reads) c.in-Ok.ports).0 refl in
     let payload : c.payload.result.now ≡ udp.payload_of bytes = rw (c.new_unchecked-packet.ensures, c.requires.payload) at c.payload.ensures in
     record { header = c.requires.link; carried = (c.requires.ethertype, c.requires.header, (sym c.next_header.ensures ∙ c.in-Udp.is, rw payload read)) }
@@ -22,7 +23,7 @@ pub returns-in-Err : goal.returns-in-Err
 returns-in-Err c =
     let caps : c.default-caps.result ≡ all_checked = search rules in
     let v = c.args.header in
-    let bytes = packet_payload v (drop 14 c.args.frame.now) in
+    let bytes = packet_payload v (drop 14 (without_extensions c.args.frame.now)) in
     let named : next_header_of v ≡ protocol.Udp = sym c.next_header.ensures ∙ c.in-Udp.is in
     let none : udp.udp_of (src_addr_of v) (dst_addr_of v) true bytes ≡ None =
     rw (c.new_unchecked-packet.ensures, c.src_addr-src_addr.ensures, c.dst_addr-dst_addr.ensures, caps, c.requires.payload) at c.in-Err.ensures.value in
@@ -41,7 +42,7 @@ pub returns-in-Err-parse : goal.returns-in-Err-parse
 returns-in-Err-parse c =
     let caps : c.default-caps.result ≡ all_checked = search rules in
     let v = c.args.header in
-    let bytes = packet_payload v (drop 14 c.args.frame.now) in
+    let bytes = packet_payload v (drop 14 (without_extensions c.args.frame.now)) in
     let named : next_header_of v ≡ protocol.Tcp = sym c.next_header.ensures ∙ c.in-Tcp.is in
     let none : tcp_of (src_addr_of v) (dst_addr_of v) true bytes ≡ None =
     rw (c.new_unchecked-packet-in-Tcp.ensures, c.src_addr-src_addr.ensures, c.dst_addr-dst_addr.ensures, caps, c.requires.payload) at c.in-Err-parse.ensures.value in
