@@ -1,6 +1,7 @@
 -- What C gets for the answer of a host.
 use Rattle.std.proofs.Common.{◌≡◌, ◌≤◌, inl, inr, ℤ, pos, SFits, to_z, of_z, w64, List, ℕ, Option, Some, length, subst, sym}
 use Rattle.std.proofs.lemmas.Int.{to_z-of_z}
+use Rattle.app_host.proofs.Skips.{whole-read}
 use Rattle.app_host.specs.Host.{IsUnread, RepliesBytes}
 use Rattle.app_host.specs.IcmpEcho.{reply_dscp}
 use Rattle.app_host.specs.declared.host.Host.{Host}
@@ -11,8 +12,13 @@ use Rattle.c_structs.specs.Written.{max_len}
 
 -- bytes that are not parsed have no reply
 pub unanswered : (host : Host) (bytes old new : List ℕ) (answer : ℤ) → WritesReply (reply_dscp bytes) (RepliesBytes host bytes) old new answer → IsUnread bytes → answer ≡ pos 0
-unanswered host bytes old new answer (inl (len, is, room, written)) unread = let r = written.replies in absurd (unread r.0 r.1 r.2)
-unanswered host bytes old new answer (inr (inl (is, stays, (h, c, r, short)))) unread = absurd (unread r.0 r.1 r.2)
+unanswered host bytes old new answer (inl (len, is, room, written)) unread =
+    let (header, asked, reads, r) = written.replies in
+    let (link, carried, whole) = whole-read bytes header asked reads in
+    absurd (unread link carried whole)
+unanswered host bytes old new answer (inr (inl (is, stays, (h, c, (header, asked, reads, r), short)))) unread =
+    let (link, carried, whole) = whole-read bytes header asked reads in
+    absurd (unread link carried whole)
 unanswered host bytes old new answer (inr (inr (is, stays, none))) unread = is
 
 -- the answer of the host that a struct describes
