@@ -1553,9 +1553,9 @@ int lk_connection_state(const struct lk_connection *connection);
 int lk_connection_is_ended(const struct lk_connection *connection);
 
 /* Returns how many numbers the peer has not acknowledged: one for each byte that was written, one for the SYN, and after
- * lk_connection_close one for the FIN. The SYN counts before it is sent too: after lk_connection_init and lk_connection_listen the
- * result is 1. If a connection ends before all is acknowledged, as by lk_connection_abort, the number stays. The ring
- * `outgoing` has room for at least `outgoing_len` without this many bytes. */
+ * lk_connection_close one for the FIN. The SYN counts before it is sent too: after lk_connection_init and
+ * lk_connection_listen the result is 1. If a connection ends before all is acknowledged, as by lk_connection_abort,
+ * the number stays. The ring `outgoing` has room for at least `outgoing_len` without this many bytes. */
 size_t lk_connection_waiting(const struct lk_connection *connection);
 
 /* An ICMP error says that the segment with `seq_number`, which it quotes, was too big (RFC 1191, RFC 8201). `mss` is the MTU

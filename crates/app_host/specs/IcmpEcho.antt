@@ -39,8 +39,8 @@ reply_dscp bytes (packet v (other m)) =
     if msg_type_of m == icmp.type_of (version_of v) (EchoReply 0 0) then dscp_of (version_of v) (drop 14 bytes) else 0
 reply_dscp bytes _ = 0
 
--- If these bytes are an echo request for us, also after extension headers that we skip, the packet in the other bytes has the DSCP of the request (RFC 1812,
--- section 4.3.2.5), and ECN 0.
+-- If these bytes are an echo request for us, also after extension headers that we skip, the packet in the other bytes has
+-- the DSCP of the request (RFC 1812, section 4.3.2.5), and ECN 0.
 abbrev pub KeepsDscp : Interface → List ℕ → List ℕ → Type 0
 KeepsDscp ours bytes answer =
     (asked_header header : EthernetRepr) (asked carried : Carried) → IsReadWhole (without_extensions bytes) asked_header asked → (e : IsIcmpEcho ours asked_header asked header carried)
