@@ -1,17 +1,16 @@
 #!/usr/bin/env python3
 """The kernel's side of tests/kernel, for addresses that another host has.
 
-tests/kernel/claims.py ROUTER NAT HOST PROVED_HOST
+tests/kernel/claims.py CLOCK ROUTER NAT HOST PROVED_HOST
 
 The kernel has addresses of the programs when they ask for them: then they are not used (RFC 5227, section 2.1.1; RFC 4862,
-section 5.4.5). And the hosts ask for their addresses, announce and defend them, and have a link-local one. The status is 1
-if something was wrong.
+section 5.4.5). And the hosts ask for their addresses, announce and defend them, and have a link-local one. CLOCK is a clock
+to be preloaded, which goes slowly while a program waits for an answer. The status is 1 if something was wrong.
 """
 import ipaddress
 import os
 import signal
 import socket
-import subprocess
 import sys
 import time
 
@@ -23,13 +22,15 @@ from links import ELSEWHERE, Namespace, Program, WideSide, ping, settle, udp_ech
 from own import ARP, PAIRS, announcement, is_nd, probe, request, sent_by_router
 from routed_frames import HARDWARE, HOSTS
 from router import CONFIG, compare_lists, make_pairs
-from waits import LATEST, until
+from waits import LATEST, Clock, until
 
 LINK = "tap6"
 OWN = bytes.fromhex("02000000aa07")
 FOUR, SIX, LOCAL = (ipaddress.ip_address(text).packed for text in ("10.83.0.2", "fd83::2", "fe80::ff:fe00:aa07"))
 ALL, WORDS = (FOUR, LOCAL, SIX), ["02:00:00:00:aa:07", "10.83.0.2", "fd83::2"]
 KERNEL = ("10.83.0.1/24", "fd83::1/64")
+# Of the slow clock. Not less: a host asks again after a second of its clock, in case the first answer was lost.
+SLOW = 0.1
 NOT_USED = "02-00-00-00-02-02 uses the router's address {}, which is not used here\n"
 
 
@@ -65,14 +66,15 @@ def is_unused(side, name, addr):
     check("no answer for an address of another host", found == [], (addr, [frame.hex() for frame in found]))
 
 
-def taken(program):
+def taken(program, clock):
     """Another host has addresses of the router. After that it has them no more, and the file is read again."""
     room, there, others = Namespace(), Namespace(), ("10.2.0.1", "fd02::1")
     make_pairs(room, there)
     there.run("".join(f"ip address add {addr} dev right {'nodad' if ':' in addr else ''}\n" for addr in others))
     side = WideSide(there.process, "right")
-    router = Program(room, program, CONFIG, PAIRS)
-    said = until(lambda: router.messages().count("\n") >= len(others))
+    with clock.slowly():
+        router = Program(room, program, CONFIG, PAIRS, env=clock.env)
+        said = until(lambda: router.messages().count("\n") >= len(others))
     expected = "".join(sorted(f"router: right: {NOT_USED.format(addr)}" for addr in others))
     check("addresses of another host", said and "".join(sorted(router.messages().splitlines(True))) == expected, router.messages())
     time.sleep(2)  # it would announce them now
@@ -92,22 +94,24 @@ def taken(program):
     router.ends("whose addresses another host had")
 
 
-def taken_outside(program):
+def taken_outside(program, clock):
     """Another host outside has the address of the NAT: no packet gets it."""
     room, there = Namespace(), Namespace()
     make_pairs(room, there)
     there.run("ip address add 10.2.0.1 dev right")
     server, side = there.serve("10.2.0.2"), WideSide(there.process, "right")
     of_server = f"neighbour 10.2.0.2 lladdr {HOSTS['right'].hex('-')} dev right\n"
-    router = Program(room, program, nat.CONFIG + of_server, ["packet:right", "packet:left"])
-    check("the outside address", until(lambda: f"nat: right: {NOT_USED.format('10.2.0.1')}" in router.messages()), router.messages())
+    with clock.slowly():
+        router = Program(room, program, nat.CONFIG + of_server, ["packet:right", "packet:left"], env=clock.env)
+        check("the outside address", router.waits_for(f"nat: right: {NOT_USED.format('10.2.0.1')}"), router.messages())
     there.run("ip address delete 10.2.0.1/32 dev right")
     side.forget()
     for _ in range(3):
         check("UDP to outside", not isinstance(udp_echo(socket.AF_INET, ("10.2.0.2", 7), b"data", wait=0.3), bytes))
+    are_dropped = until(lambda: router.counters().get("address of another host", 0) >= 3)
     settle(side)
     found = [frame for frame in side.came_out if frame[12:14] == b"\x08\0"]
-    check("no packet outside", found == [] and router.counters().get("address of another host", 0) >= 3, found)
+    check("no packet outside", are_dropped and found == [], found)
     server.terminate()
     router.ends("whose outside address another host had")
 
@@ -118,12 +122,13 @@ def taken_outside(program):
 class Host:
     """A host on the TAP device of a namespace in which the kernel has addresses too."""
 
-    def __init__(self, program, *addresses):
+    def __init__(self, program, clock, *addresses):
         self.room = Namespace()
         self.room.run(f"ip tuntap add {LINK} mode tap && ip link set {LINK} addrgenmode none && ip link set {LINK} up")
         self.room.run("".join(f"ip address add {addr} dev {LINK} {'nodad' if ':' in addr else ''}\n" for addr in (*KERNEL, *addresses)))
-        self.side, self.name = WideSide(self.room.process, LINK), os.path.basename(program)
-        self.process = in_namespace(self.room.process, program, LINK, *WORDS, stderr=subprocess.PIPE)
+        self.side, self.name, self.errors = WideSide(self.room.process, LINK), os.path.basename(program), f"{program}.err"
+        with open(self.errors, "w", encoding="ascii") as errors:
+            self.process = in_namespace(self.room.process, program, LINK, *WORDS, stderr=errors, env=clock.env)
 
     def is_ready(self):
         return self.process.stdout.readline() == "ready\n"
@@ -133,10 +138,19 @@ class Host:
         self.side.take()
         return [frame for frame in self.side.came_out if frame[6:12] == OWN and frame[0] & 1 and (frame[12:14] == ARP or is_nd(frame))]
 
+    def messages(self):
+        """In any order, because the first frames that come over a new device may be lost."""
+        with open(self.errors, encoding="ascii") as errors:
+            return sorted(errors.read().splitlines())
+
+    def hears_of_all(self):
+        """Waits until it has heard that another host has each of its addresses."""
+        return until(lambda: len(self.messages()) >= len(ALL))
+
     def ends(self, messages):
         self.process.send_signal(signal.SIGTERM)
-        found = self.process.communicate(timeout=LATEST)[1]
-        expected = "".join(f"{self.name}: {LINK}: {text}\n" for text in messages)
+        self.process.communicate(timeout=LATEST)
+        found, expected = self.messages(), sorted(f"{self.name}: {LINK}: {text}" for text in messages)
         check("messages of a host", self.process.returncode == 0 and found == expected, (found, expected))
 
     def is_unused(self, addr):
@@ -165,9 +179,9 @@ def announced(addr):
     return icmp.framed(icmp.advertisement(addr, addr, all_nodes, OWN, 1), addr, all_nodes, OWN, b"\x33\x33\0\0\0\1", 255)
 
 
-def introduces(program):
+def introduces(program, clock):
     """It asks for its addresses, and uses and announces them after that. It defends them."""
-    host = Host(program)
+    host = Host(program, clock)
     check("ready", host.is_ready())
     expected = [*(2 * [on_tap(probe(addr, OWN)) for addr in ALL]), *(2 * [announced(addr) for addr in ALL])]
     until(lambda: len(host.sent()) >= len(expected))
@@ -199,9 +213,11 @@ def introduces(program):
     host.ends(f"02-00-00-00-ee-0e uses the address {ipaddress.ip_address(addr)}" for addr in ALL)
 
 
-def is_beside(program):
+def is_beside(program, clock):
     """The kernel has all of its addresses."""
-    host = Host(program, "10.83.0.2", "fd83::2", "fe80::ff:fe00:aa07/64")
+    with clock.slowly():
+        host = Host(program, clock, "10.83.0.2", "fd83::2", "fe80::ff:fe00:aa07/64")
+        host.hears_of_all()
     hardware = host.side.sock.getsockname()[4].hex("-")
     check("ready", host.is_ready())
     time.sleep(3)  # it would announce its addresses now
@@ -213,14 +229,16 @@ def is_beside(program):
     host.ends(f"{hardware} uses the address {ipaddress.ip_address(addr)}: it is not used here" for addr in ALL)
 
 
-def asks_too(program):
+def asks_too(program, clock):
     """Another host asks for the same addresses at the same time: neither uses them."""
-    host, lines = Host(program), []
-    pid = os.fork()
-    while pid == 0:
-        for addr in ALL:
-            host.side.sock.send(probe(addr, ELSEWHERE))
-        time.sleep(0.002)
+    with clock.slowly():
+        host, lines = Host(program, clock), []
+        pid = os.fork()
+        while pid == 0:
+            for addr in ALL:
+                host.side.sock.send(probe(addr, ELSEWHERE))
+            time.sleep(0.002)
+        host.hears_of_all()
     check("ready", host.is_ready())
     os.kill(pid, signal.SIGKILL)
     os.waitpid(pid, 0)
@@ -230,13 +248,14 @@ def asks_too(program):
     host.ends(lines)
 
 
-def claims(router, nat_program, *hosts):
-    taken(router)
-    taken_outside(nat_program)
+def claims(library, router, nat_program, *hosts):
+    taken(router, Clock(library, router, SLOW))
+    taken_outside(nat_program, Clock(library, nat_program, SLOW))
     for host in hosts:
-        introduces(host)
-        is_beside(host)
-        asks_too(host)
+        clock = Clock(library, host, SLOW)
+        introduces(host, clock)
+        is_beside(host, clock)
+        asks_too(host, clock)
 
 
 if __name__ == "__main__":

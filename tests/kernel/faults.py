@@ -229,6 +229,8 @@ def mappings_end(program, env):
     room, there = Namespace(), Namespace()
     nat = kernel_nat.start_on_pairs(room, there, program, env=env)
     server = there.serve(*kernel_nat.SERVERS)
+    for address in kernel_nat.SERVERS:  # it waits 15 ms for a new neighbour
+        check("the start", until(lambda: udp_echo(socket.AF_INET, (address, 7), b"start", wait=1) == b"start"), address)
     with bound(socket.SOCK_DGRAM, (INSIDE[0], 5000)) as sock, there.entered(), bound(socket.SOCK_DGRAM, ("10.2.0.3", 99)) as far:
         check("port that is kept", seen_by(sock, "10.2.0.2") == (OUTSIDE, 5000))
         for n in range(5):

@@ -340,7 +340,7 @@ def ping_discovers(server):
     length = 1300 - (48 if ":" in server else 28)
     if not has("ping"):
         return True
-    told_mtu = subprocess.run(["ping", "-c", "1", "-W", "1", "-M", "do", "-s", str(length + 1), server], capture_output=True,
+    told_mtu = subprocess.run(["ping", "-c", "1", "-W", str(LATEST), "-M", "do", "-s", str(length + 1), server], capture_output=True,
                               text=True, check=False)
     passes = run("ping", "-c", "2", "-W", str(LATEST), "-i", "0.2", "-M", "do", "-s", str(length), server)
     return "1300" in told_mtu.stdout + told_mtu.stderr and " 0% packet loss" in passes

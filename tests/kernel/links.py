@@ -24,6 +24,7 @@ ERROR_OPTIONS = {socket.AF_INET: (socket.IPPROTO_IP, 11, socket.IP_TTL, MTU_DISC
                  socket.AF_INET6: (socket.IPPROTO_IPV6, 25, socket.IPV6_UNICAST_HOPS, 23, slice(24, 40))}
 # The interface's MTU counts, with DF and without.
 PMTUDISC_PROBE, PMTUDISC_INTERFACE = 3, 4
+IP_FREEBIND = 15  # for an address that is not there yet
 SELF = str(os.getpid())
 # No host has this address, so no kernel takes a frame to it.
 ELSEWHERE = bytes.fromhex("02000000ee0e")
@@ -50,6 +51,16 @@ class Namespace:
     def serve(self, *addresses):
         server = in_namespace(self.process, f"{TOP}/tests/kernel/echo_server.py", *addresses)
         server.stdout.readline()
+        return server
+
+    def listens(self, family, address, device):
+        """A UDP socket with an address that the host has from now on."""
+        with self.entered():
+            server = socket.socket(family, socket.SOCK_DGRAM)
+        server.settimeout(LATEST)
+        server.setsockopt(socket.IPPROTO_IP, IP_FREEBIND, 1)
+        server.bind((address, 7))
+        self.run(f"ip address add {address}/{'32' if family == socket.AF_INET else '128 nodad'} dev {device}")
         return server
 
     def errors(self):
@@ -107,6 +118,12 @@ class Program:
     def waits_for(self, message, lines=0):
         """Whether it prints this message, after so many lines."""
         return until(lambda: message in "\n".join(self.messages().split("\n")[lines:]))
+
+    def looks(self):
+        """Waits until it has looked at its interfaces, as it does each second and whenever it is woken after one."""
+        time.sleep(1.1)
+        for _ in range(2):
+            self.counters()
 
     def read_lines(self):
         """The lines up to that of the last interface."""

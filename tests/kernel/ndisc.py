@@ -34,11 +34,14 @@ def becomes_stale(sides):
     section 7.2.5)."""
     side, true, false = sides["right"], HOSTS["right"], bytes.fromhex("020000000299")
     own, host = (socket.inet_pton(socket.AF_INET6, text) for text in ("fd02::1", "fd02::2"))
-    is_asked(side, host, true)
-    time.sleep(1.2)  # an answer has come, and it may be asked again
-    settle(side)
-    side.forget()
-    check("a fresh neighbour", not is_asked(side, host, true))
+
+    def is_fresh():
+        time.sleep(1.2)  # it may be asked again
+        settle(side)
+        side.forget()
+        return not is_asked(side, host, true)
+
+    check("a fresh neighbour", until(is_fresh))
     side.sock.send(icmp.framed(icmp.advertisement(host, host, own, false, 0), host, own, false, HARDWARE["right"], 255))
     settle(side)
     check("a stale neighbour", until(lambda: is_asked(side, host, true), 20))

@@ -97,6 +97,7 @@ def introductions(program):
     router = Program(room, program, CONFIG, PAIRS)
     introduces("at the start", sides, HARDWARE)
     room.run("ip link set right down")
+    router.looks()
     introduces("of an interface that is down", {"left": sides["left"]}, ())
     sides["right"].forget()
     room.run("ip link set right up")

@@ -36,8 +36,8 @@ part_host() {
 # With a slow clock from when the host has its addresses on, so that it sends nothing again while a busy machine makes the next
 # segment.
 part_segments() {
-    host_on_tap0 env LD_PRELOAD="$clock" FAST_CLOCK=0.01 FAST_CLOCK_FROM="$programs/slow" "$programs/host" &&
-        touch "$programs/slow" && tests/kernel/segments.py host tap0 && ends_well 'with a slow clock'
+    host_on_tap0 "${slowly[@]}" "$programs/host" && touch "$slow" && tests/kernel/segments.py host tap0 &&
+        ends_well 'with a slow clock'
 }
 
 part_proved_host() {
@@ -76,12 +76,12 @@ part_retransmitting() { hostile retransmitting; }
 part_full() { hostile full; }
 
 part_timers() {
-    local fast=(env LD_PRELOAD="$clock" FAST_CLOCK=100 ASAN_OPTIONS=verify_asan_link_order=0)
+    local fast=(env LD_PRELOAD="$clock" FAST_CLOCK=100 "$any_order")
     host_on_tap0 "${fast[@]}" "$checked/host" && tests/kernel/timers.py tap0 100 && ends_well 'with a fast clock'
 }
 
 part_silent() {
-    host_on_tap0 "$checked/host" && tests/kernel/losses.py silent tap0 && tests/kernel/losses.py down tap0 &&
+    host_on_tap0 "${slowly[@]}" "$checked/host" && tests/kernel/losses.py silent tap0 "$slow" && tests/kernel/losses.py down tap0 &&
         ip link set tap0 down && sleep 0.1 && ends_well 'while the device is down'
 }
 
@@ -99,7 +99,7 @@ part_web() {
         ip address add fd74::1/64 dev web nodad &&
         start_and_wait "$programs/http.out" "$checked/http" tap2 "$hardware" 10.74.0.2 fd74::2 "$programs/file" &&
         tests/kernel/web.py lost tap2 web "$programs/file" && ends_well 'to the web server' || return 1
-    local fast=(env LD_PRELOAD="$clock" FAST_CLOCK=20 ASAN_OPTIONS=verify_asan_link_order=0)
+    local fast=(env LD_PRELOAD="$clock" FAST_CLOCK=20 "$any_order")
     local start=(start_and_wait "$programs/http.out") of_web=("$checked/http" "${host[@]}" "$programs/file")
     adds_tap tap0 && "${start[@]}" "${fast[@]}" "${of_web[@]}" &&
         tests/kernel/web.py slow 20 && ends_well 'after slow requests' &&
@@ -166,16 +166,16 @@ part_faulty_bridges() {
 
 # ---- the router and the NAT
 
-part_router_taps() { tests/kernel/router.py taps "$programs/router"; }
+part_router_taps() { tests/kernel/router.py taps "$programs/router" "$clock"; }
 part_icmp_router() { tests/kernel/icmp_tests.py router "$programs/router"; }
 part_nat_taps() { tests/kernel/nat.py taps "$programs/nat" "$clock"; }
 part_fragments_router() { tests/kernel/fragments.py router "$programs/router" "$clock"; }
 part_fragments_nat() { tests/kernel/fragments.py nat "$programs/nat"; }
 part_faults_taps() { tests/kernel/faults.py taps "$checked/router"; }
 part_faults_flood() { tests/kernel/faults.py flood "$checked/nat"; }
-part_routes() { tests/kernel/routes.py "$checked/router"; }
+part_routes() { tests/kernel/routes.py "$checked/router" "$clock"; }
 part_operation() { tests/kernel/operation.py "$checked" "$clock"; }
-part_ports() { tests/kernel/ports.py "$programs/nat"; }
+part_ports() { tests/kernel/ports.py "$programs/nat" "$clock"; }
 part_noticed() { tests/kernel/faults.py noticed "$programs/faulty_router" "$programs/faulty_nat"; }
 part_limit() { "$programs/limit"; }
 
@@ -185,7 +185,7 @@ part_nat_sockets() { tests/kernel/nat.py sockets "$programs/nat"; }
 part_fragments_sockets() { tests/kernel/fragments.py sockets "$programs/nat"; }
 part_icmp_link() { tests/kernel/icmp_tests.py link "$programs/router"; }
 part_icmp_nat() { tests/kernel/icmp_tests.py nat "$programs/nat"; }
-part_claims() { tests/kernel/claims.py "$checked"/{router,nat,host,proved_host}; }
+part_claims() { tests/kernel/claims.py "$clock" "$checked"/{router,nat,host,proved_host}; }
 part_edges() { tests/kernel/edges.py "$checked/router" "$clock"; }
 part_own_addresses() { tests/kernel/own.py "$checked"/{router,nat,host,proved_host}; }
 part_faults_sockets() { tests/kernel/faults.py sockets "$checked/router"; }

@@ -1,7 +1,7 @@
 #!/usr/bin/env python3
 """The ports of examples/nat.c, on TAP devices: those that two inside addresses want, and those that are forwarded.
 
-tests/kernel/ports.py NAT
+tests/kernel/ports.py NAT CLOCK    a clock to be preloaded, which goes slowly, so that no mapping ends
 """
 import os
 import socket
@@ -14,13 +14,14 @@ from links import ELSEWHERE, settle
 from nat import INSIDE, OUTSIDE, start_on_taps
 from operation import comes_out, frame_from_left, on_taps, send_from
 from routed_frames import HARDWARE
-from waits import until
+from waits import Clock, until
 
 FLOWS = 20_000
 
-def shared_ports(program):
+
+def shared_ports(program, clock):
     """Ports that one inside address uses, most of all, and another one wants: it gets others, until all are taken."""
-    with on_taps(start_on_taps, program, options=("-m", "60000")) as (nat, sides):
+    with clock.slowly(), on_taps(start_on_taps, program, options=("-m", "60000"), env=clock.env) as (nat, sides):
         for source, count in ((INSIDE[0], 60000), (INSIDE[1], 4512)):
             found = send_from(nat, sides, (frame_from_left(port=1024 + n, source=source) for n in range(count)))
             check("ports that two addresses want", found == (count, 0), (source, found))
@@ -72,8 +73,8 @@ def forwarded_ports(program):
     check("a port that is not forwarded", status.returncode == 2, status)
 
 
-def all_ports(program):
-    shared_ports(program)
+def all_ports(program, library):
+    shared_ports(program, Clock(library, program))
     forwarded_ports(program)
 
 

@@ -1,10 +1,10 @@
 #!/usr/bin/env python3
 """The kernel's side of tests/kernel, for examples/router.c.
 
-tests/kernel/router.py taps PROGRAM     exchanges packets through a router on TAP devices, and compares all frames
-tests/kernel/router.py sockets PROGRAM  through a router on packet sockets, with the offloads of the kernel
+tests/kernel/router.py taps PROGRAM CLOCK  exchanges packets through a router on TAP devices, and compares all frames
+tests/kernel/router.py sockets PROGRAM     through a router on packet sockets, with the offloads of the kernel
 
-This process is a host on one side, and a namespace of its own is the host on the other side. Prints how many exchanges
+CLOCK is a clock to be preloaded, which goes slowly while packets wait for a neighbour. This process is a host on one side, and a namespace of its own is the host on the other side. Prints how many exchanges
 were right. The status is 1 if one was wrong, or if a kernel counted an error.
 """
 import ipaddress
@@ -21,7 +21,7 @@ from links import (ELSEWHERE, MTU_DISCOVER, PMTUDISC_INTERFACE, PMTUDISC_PROBE, 
                    no_errors, ping, reads_smaller_mtu, reads_whole_mtu, settle, udp_echo, wait_until_idle)
 from rebuilt import MAX_SEG_SIZE, last_options, number
 from routed_frames import HARDWARE, HOSTS, RANDOM_FRAMES, hostile_frames
-from waits import LATEST, until
+from waits import LATEST, Clock, until
 
 CONFIG = """
 # The links, and what is behind the host on the left and behind another router on the right.
@@ -53,7 +53,6 @@ HOST = """
     ip route replace default via 10.{n}.0.1 && ip -6 route replace default via fd0{n}::1 dev {name}
 """
 AT_ONCE, MOST_WRONG = 64, 3
-IP_FREEBIND = 15  # for an address that is not there yet
 CLAMP = "clamp dev right\n"
 ARP = b"\x08\x06"
 
@@ -256,7 +255,7 @@ def asked_for(side, addr):
                frame[62:78] == addr and frame[20] == icmp.ICMPV6 and frame[54] == icmp.SOLICITATION for frame in side.came_out)
 
 
-def silent_neighbour(router, sides, there):
+def silent_neighbour(router, sides, there, clock):
     """One request a second at most for an address, fewer where the packets are late, and the latest ones wait for the reply."""
     for family, front in ((socket.AF_INET, "10.2.0."), (socket.AF_INET6, "fd02::")):
         absent, late = front + "99", front + "98"
@@ -265,16 +264,15 @@ def silent_neighbour(router, sides, there):
             for _ in range(24):
                 sock.sendto(b"", (absent, 7))
                 time.sleep(0.1)
+            until(lambda: asked_for(sides["right"], socket.inet_pton(family, absent)) > 1)
             count, seconds = asked_for(sides["right"], socket.inet_pton(family, absent)), time.monotonic() - start
             check("requests", 1 < count < seconds + 1, (absent, count, seconds))
-            for n in range(80):
-                sock.sendto(bytes([n]), (late, 7))
-            wait_until_idle()  # a second before the next request
-            with there.entered(), socket.socket(family, socket.SOCK_DGRAM) as server:
-                server.settimeout(LATEST)
-                server.setsockopt(socket.IPPROTO_IP, IP_FREEBIND, 1)
-                server.bind((late, 7))
-                there.run(f"ip address add {late}/{'32' if family == socket.AF_INET else '128 nodad'} dev right")
+            with clock.slowly():
+                for n in range(80):
+                    sock.sendto(bytes([n]), (late, 7))
+                wait_until_idle()
+                server = there.listens(family, late, "right")
+            with server:  # the next request gets a reply
                 check("packets that waited", [server.recv(9)[0] for _ in range(64)] == list(range(16, 80)), late)
             compare_counters(router, before, ["no neighbour"] * (24 + 16))
         there.run(f"ip address delete {late}/{32 if family == socket.AF_INET else 128} dev right")
@@ -316,14 +314,14 @@ def three_interfaces(room, program):
     router.ends("with three interfaces")
 
 
-def on_taps(program):
-    room, there = Namespace(), Namespace()
+def on_taps(program, library):
+    room, there, clock = Namespace(), Namespace(), Clock(library, program)
     three_interfaces(room, program)
-    router = start_on_taps(room, there, program)
+    router = start_on_taps(room, there, program, env=clock.env)
     server = there.serve(*(address for _, address in SERVERS))
     sides = {"left": WideSide(SELF, "left"), "right": WideSide(there.process, "right")}
     for exchange, place in ((udp, (sides,)), (echo_requests, ()), (tcp, (sides,)), (last_hop, (router,)),
-                            (silent_neighbour, (router, sides, there)), (arp_replies, (sides,)),
+                            (silent_neighbour, (router, sides, there, clock)), (arp_replies, (sides,)),
                             (random_frames, (router, sides, RANDOM_FRAMES))):
         exchange(*place)
     # Short queues lose packets.

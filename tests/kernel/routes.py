@@ -1,9 +1,9 @@
 #!/usr/bin/env python3
 """The kernel's side of tests/kernel, for routes of examples/router.c that change, and packets from elsewhere.
 
-tests/kernel/routes.py PROGRAM
+tests/kernel/routes.py PROGRAM CLOCK
 
-Prints how many exchanges were right. The status is 1 if one was wrong.
+CLOCK is a clock to be preloaded, which goes slowly while packets wait for a neighbour. Prints how many exchanges were right. The status is 1 if one was wrong.
 """
 import contextlib
 import signal
@@ -17,7 +17,7 @@ from links import ELSEWHERE, settle
 from operation import on_taps
 from router import MODEL, OF_TAPS, compare_counters, random_frames, start_on_taps
 from routed_frames import HARDWARE, HOSTS, RANDOM_FRAMES
-from waits import LATEST, until
+from waits import LATEST, Clock, until
 
 # The most packets that wait for a neighbour, and the most frames that the router reads at once.
 MOST_HELD, AT_ONCE = 64, 64
@@ -68,11 +68,11 @@ def send_at_once(router, side):
     return ports
 
 
-def moved_routes(program):
+def moved_routes(program, clock):
     """SIGHUP moves the route of packets that wait for a neighbour. They leave by the new one once the neighbour has replied,
     by an interface whose queue has half of the other packets then."""
     before, after = (OF_TAPS + f"route 10.60.0.0/16 via {hop} dev {name}\n" for hop, name in (("10.2.0.77", "right"), ("10.1.0.9", "left")))
-    with on_taps(start_on_taps, program, config=before) as (router, sides):
+    with on_taps(start_on_taps, program, config=before, env=clock.env) as (router, sides), clock.slowly():
         held = held_frames(router, sides)
         router.has_again(after)
         check("SIGHUP", router.waits_for("read again"), router.messages())
@@ -112,8 +112,8 @@ def sources(program):
         random_frames(router, sides, RANDOM_FRAMES // 4, MODEL.but(takes_any_way=True))
 
 
-def all_routes(program):
-    moved_routes(program)
+def all_routes(program, library):
+    moved_routes(program, Clock(library, program))
     sources(program)
 
 

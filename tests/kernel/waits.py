@@ -1,4 +1,7 @@
 """Waiting, for the scripts of tests/kernel: for an event, and not for a time within which it should have happened."""
+import contextlib
+import os
+import pathlib
 import time
 
 # Seconds, until what has not happened counts as missing. On a quiet machine nothing takes a tenth of this.
@@ -14,6 +17,27 @@ def until(holds, seconds=LATEST):
             return bool(holds())
         time.sleep(0.005)
     return True
+
+
+@contextlib.contextmanager
+def slowly(file):
+    """While this file is there, the clock of a program goes slowly (fast_clock.c): its own limits are no limits for others."""
+    pathlib.Path(file).touch()
+    yield
+    os.remove(file)
+
+
+class Clock:
+    """A clock for a program: the library to be preloaded. It goes as always, but within `slowly`."""
+
+    def __init__(self, library, program, factor=0.01):
+        self.file = f"{program}.slow"
+        # The run-time of the sanitizers need not be the first library.
+        self.env = {**os.environ, "LD_PRELOAD": library, "FAST_CLOCK": str(factor), "FAST_CLOCK_WHILE": self.file,
+                    "ASAN_OPTIONS": "verify_asan_link_order=0"}
+
+    def slowly(self):
+        return slowly(self.file)
 
 
 def state_of(process):
