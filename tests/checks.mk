@@ -6,12 +6,11 @@ ONLY ?=
 PROGRAM := crates/ip_frames/out/ip_frames
 CALLS := crates/ip_calls/out/ip_calls
 STEPS := crates/tcp_steps/out/tcp_steps
-# check COMMAND: runs it for this rule, if what its line names before | has passed
-check = @tests/check $@ '$^' $(1)
+# check COMMAND: runs it for this rule, if ONLY names it, and those that its line names before | have passed. It sees what
+# these have built, and of others nothing.
+check = $(if $(filter $@,$(CHOSEN)),@tests/check $@ '$^' '$(filter $(CHOSEN),$^)' $(1))
 # Long work that needs no clock takes the processors that the gate leaves idle.
 beside = $(call check,$(if $(ONLY),,nice -n 19 )$(1))
-# Checks that are run by themselves wait for nothing.
-after = $(if $(ONLY),,$(1))
 
 LINT := reference manual statements markdown requirements c_calls definitions layout diagrams speed cases bench one_version abi
 UNPROVED := $(shell sed -n 's/^\(test_\w*\):.*/\1/p' crates.txt)
@@ -23,13 +22,15 @@ OF_BOTH := counts tools dump install deb
 CHECKS := $(LINT) gate library $(PROGRAMS) wrong_bodies $(UNPROVED) $(MODELS) goals \
 	$(OF_PROGRAMS) $(OF_LIBRARY) $(OF_BOTH) commands dist
 TRIED := $(PROGRAMS:%=try_%)
+QUICK := worked $(UNPROVED) $(TRIED)
+CHOSEN := $(or $(patsubst quick,$(QUICK),$(patsubst lint,$(LINT),$(ONLY))),$(CHECKS))
 .PHONY: all lint quick worked $(CHECKS) $(TRIED)
 
 all: $(CHECKS)
 lint: $(LINT)
 # What reads only the sources comes first, and then the gate, which takes longest.
-$(filter-out $(LINT),$(CHECKS)): | $(call after,$(LINT))
-quick: worked $(UNPROVED) $(TRIED)
+$(filter-out $(LINT),$(CHECKS)): | $(LINT)
+quick: $(QUICK)
 
 # What reads only the sources
 markdown statements requirements c_calls manual definitions diagrams speed reference:
@@ -72,41 +73,41 @@ goals:
 	$(call check,tests/install/make_checks)
 
 # What uses the programs
-recorded failures: $(call after,ip_frames ip_calls)
+recorded failures: ip_frames ip_calls
 	$(call check,tests/frames/$@ $(PROGRAM) $(CALLS))
-written: $(call after,ip_calls)
+written: ip_calls
 	$(call check,tests/frames/written.py check $(CALLS))
-bad_input: $(call after,ip_frames ip_calls)
+bad_input: ip_frames ip_calls
 	$(call check,tests/install/bad_input $(PROGRAM) $(CALLS))
-compare: $(call after,tcp_steps)
+compare: tcp_steps
 	$(call beside,tests/tcp/compare.py $(STEPS) 1 300000)
-network: $(call after,tcp_steps)
+network: tcp_steps
 	$(call beside,tests/tcp/network.py $(STEPS) 1 3000)
-linux: $(call after,tcp_steps)
+linux: tcp_steps
 	$(call check,tests/tcp/linux.py $(STEPS) 1 24)
 
 # What uses the C library
-judge kernel: $(call after,library)
+judge kernel: library
 	$(call check,tests/$@/run)
-other_stack: $(call after,library)
+other_stack: library
 	$(call check,tests/kernel/other_stack)
-lwip: $(call after,library)
+lwip: library
 	$(call check,tests/tcp/lwip)
-c_example examples peers: $(call after,library)
+c_example examples peers: library
 	$(call check,tests/docs/$@)
-two_borrows: $(call after,library)
+two_borrows: library
 	$(call check,tests/gate/two_borrows)
-baseline: $(call after,library)
+baseline: library
 	$(call check,bench/bench.py --equal 200000)
 
 # What uses both
-counts: $(call after,library ip_frames)
+counts: library ip_frames
 	$(call check,tests/counts/run)
-tools dump: $(call after,library ip_frames)
+tools dump: library ip_frames
 	$(call check,tests/install/$@.py)
-install deb: $(call after,library $(PROGRAMS))
+install deb: library $(PROGRAMS)
 	$(call check,tests/install/$(patsubst install,run,$@))
-commands: $(call after,gate library $(PROGRAMS))
+commands: gate library $(PROGRAMS)
 	$(call check,tests/docs/commands)
-dist: $(call after,gate library $(PROGRAMS))
+dist: gate library $(PROGRAMS)
 	$(call check,tests/install/dist)
