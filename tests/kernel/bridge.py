@@ -21,7 +21,7 @@ import compare
 from client import check, echoed, kernel_counters, kernel_errors, report, tcp_at_once, wrong
 from dice import ANY as random
 from rebuilt import rebuilt, recorded
-from waits import LATEST, until
+from waits import LATEST, joins_groups, until
 
 SERVERS = ((socket.AF_INET, "10.78.0.2"), (socket.AF_INET6, "fd78::2"))
 # No device has this address, so the kernel takes no frame to it.
@@ -117,6 +117,8 @@ def in_namespace(process, *command, **words):
 
 def with_servers(process, exchange):
     """An exchange over each version of IP with a server behind the bridge."""
+    for namespace in ("self", process):
+        joins_groups(namespace)
     for family, address in SERVERS:
         server = in_namespace(process, ECHO_SERVER, address)
         server.stdout.readline()

@@ -22,7 +22,7 @@ from links import ELSEWHERE, Namespace, Program, WideSide, ping, settle, udp_ech
 from own import ARP, PAIRS, announcement, is_nd, probe, request, sent_by_router
 from routed_frames import HARDWARE, HOSTS
 from router import CONFIG, compare_lists, make_pairs
-from waits import LATEST, Clock, until
+from waits import LATEST, Clock, joins_groups, until
 
 LINK = "tap6"
 OWN = bytes.fromhex("02000000aa07")
@@ -71,6 +71,7 @@ def taken(program, clock):
     room, there, others = Namespace(), Namespace(), ("10.2.0.1", "fd02::1")
     make_pairs(room, there)
     there.run("".join(f"ip address add {addr} dev right {'nodad' if ':' in addr else ''}\n" for addr in others))
+    joins_groups(there.process)
     side = WideSide(there.process, "right")
     with clock.slowly():
         router = Program(room, program, CONFIG, PAIRS, env=clock.env)
@@ -126,6 +127,7 @@ class Host:
         self.room = Namespace()
         self.room.run(f"ip tuntap add {LINK} mode tap && ip link set {LINK} addrgenmode none && ip link set {LINK} up")
         self.room.run("".join(f"ip address add {addr} dev {LINK} {'nodad' if ':' in addr else ''}\n" for addr in (*KERNEL, *addresses)))
+        joins_groups(self.room.process)
         self.side, self.name, self.errors = WideSide(self.room.process, LINK), os.path.basename(program), f"{program}.err"
         with open(self.errors, "w", encoding="ascii") as errors:
             self.process = in_namespace(self.room.process, program, LINK, *WORDS, stderr=errors, env=clock.env)

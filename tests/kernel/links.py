@@ -14,7 +14,7 @@ import time
 from bridge import Side, in_namespace, set_namespace
 from client import check, kernel_errors
 from packets import word_sum
-from waits import LATEST, is_idle, until
+from waits import LATEST, is_idle, joins_groups, until
 
 TOP = os.path.dirname(os.path.dirname(os.path.dirname(os.path.abspath(__file__))))
 SO_RCVBUFFORCE, SOL_PACKET, PACKET_STATISTICS = 33, 263, 6
@@ -61,6 +61,7 @@ class Namespace:
         server.setsockopt(socket.IPPROTO_IP, IP_FREEBIND, 1)
         server.bind((address, 7))
         self.run(f"ip address add {address}/{'32' if family == socket.AF_INET else '128 nodad'} dev {device}")
+        joins_groups(self.process)
         return server
 
     def errors(self):

@@ -22,7 +22,7 @@ from links import (ELSEWHERE, SELF, Here, Namespace, Program, WideSide, no_error
                    udp_error)
 from routed_frames import HARDWARE, HOSTS
 from router import ADDRESSES, ARP, CONFIG, compare_lists, make_pairs
-from waits import until
+from waits import joins_groups, until
 
 PAIRS = ["packet:left", "packet:right"]
 ALL_NODES, ALL_NODES_HARDWARE = socket.inet_pton(socket.AF_INET6, "ff02::1"), b"\x33\x33\0\0\0\1"
@@ -204,6 +204,7 @@ def kernel_answers(program):
     room.run(KERNEL)
     for text, name in ADDRESSES:
         room.run(f"ip address add {text} dev {name} {'nodad' if ':' in text else ''}")
+    joins_groups(room.process)
     side, servers = WideSide(SELF, "left"), ("10.2.0.2", "fd02::2")
     router = Program(room, program, CONFIG, PAIRS, options=["-k"])
     server = there.serve(*servers)
@@ -239,6 +240,7 @@ def kernel_inside(program):
         ip tuntap add self mode tap && ip address add 10.3.0.2/30 dev self && ip link set self up && ip route add default via 10.3.0.1
     """)
     there.run("ip route delete default")
+    joins_groups(room.process)
     side, outside = WideSide(SELF, "left"), WideSide(there.process, "right")
     router = Program(room, program, nat.CONFIG + "address 10.3.0.1/30 dev self\n", [*reversed(PAIRS), "tap:self"], options=["-k"])
     server = there.serve("10.2.0.2", "fd02::2")

@@ -21,7 +21,7 @@ from links import (ELSEWHERE, MTU_DISCOVER, PMTUDISC_INTERFACE, PMTUDISC_PROBE, 
                    no_errors, ping, reads_smaller_mtu, reads_whole_mtu, settle, udp_echo, wait_until_idle)
 from rebuilt import MAX_SEG_SIZE, last_options, number
 from routed_frames import HARDWARE, HOSTS, RANDOM_FRAMES, hostile_frames
-from waits import LATEST, Clock, until
+from waits import LATEST, Clock, joins_groups, until
 
 CONFIG = """
 # The links, and what is behind the host on the left and behind another router on the right.
@@ -60,6 +60,7 @@ ARP = b"\x08\x06"
 def set_host(namespace, name):
     namespace.run(HOST.format(name=name, n=1 + (name == "right"), hardware=HOSTS[name].hex(":")))
     namespace.waits_for_neighbours(name)
+    joins_groups(namespace.process)
 
 
 def start_on_taps(room, there, program, config=OF_TAPS, **words):

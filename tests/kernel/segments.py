@@ -17,6 +17,7 @@ from client import (ACK, CLOSED, ECHO, FIN, HOST_HARDWARE, HOSTS, RST, SYN, SYN_
 from dice import ANY, Random
 from hostile import close, opened, wires
 from links import Here, Namespace
+from waits import joins_groups
 
 PSH, URG, ECE, CWR = 8, 32, 64, 128
 ALL, SCALE = 1 << 32, 3  # of the host's window
@@ -268,6 +269,8 @@ def behind_a_smaller_link(device):
              " ip address add fd76::1/128 dev near nodad && ip -6 route add fd76::/64 dev near mtu lock 1300")
     there.run("ip link set far up && ip address add 10.76.0.2/24 dev far && ip address add fd76::2/64 dev far nodad &&"
               " ip route add 10.77.0.0/24 via 10.76.0.1 && ip route add fd77::/64 via fd76::1")
+    for namespace in (here, there):
+        joins_groups(namespace.process)
     with there.entered():
         for family, _, host in HOSTS:
             data = ANY.randbytes(100_000)

@@ -40,6 +40,18 @@ class Clock:
         return slowly(self.file)
 
 
+def joins_groups(process="self"):
+    """Waits until the kernel of a process hears questions for its IPv6 addresses. It may have them long before it joins their
+    groups: other namespaces take the lock for that too."""
+    def has_joined():
+        with open(f"/proc/{process}/net/if_inet6", encoding="ascii") as file:
+            own = {(name, f"ff02{19 * '0'}1ff{addr[-6:]}") for addr, *_, name in map(str.split, file) if name != "lo"}
+        with open(f"/proc/{process}/net/igmp6", encoding="ascii") as file:
+            return own <= {tuple(line.split()[1:3]) for line in file}
+
+    return until(has_joined)
+
+
 def state_of(process):
     """The letter of a process's state, as S for one that waits, or nothing if there is none."""
     try:
