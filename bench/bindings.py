@@ -181,9 +181,9 @@ def go_rows(room, data, total):
 
 def rust_rows(room, data, total):
     environment = {**os.environ, "CARGO_TARGET_DIR": f"{room}/cargo", "IP_WIRE_SHARED": "1"}
-    crate, program = f"{room}/cargo/release/libip_wire.rlib", room / "bench"
+    crate, program = f"{room}/cargo/release/libip_wire_c.rlib", room / "bench"
     build = ["cargo", "build", "-q", "--release", "--offline", "--locked", "--manifest-path", TOP / "bindings/rust/Cargo.toml"]
-    link = ["rustc", "-O", "--edition", "2021", "--extern", f"ip_wire={crate}", "-L", room / "lib", "-o", program]
+    link = ["rustc", "-O", "--edition", "2021", "--extern", f"ip_wire_c={crate}", "-L", room / "lib", "-o", program]
     for command in build, [*link, TOP / "bench/bindings/main.rs"]:
         subprocess.run(command, env=environment, check=True)
     lines = subprocess.run([program], capture_output=True, text=True, check=True).stdout

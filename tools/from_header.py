@@ -38,7 +38,7 @@ VERSIONS = [
     ("SECURITY.md", "the newest version, {series}."),
     ("bindings/go/README.md", "require lerkvist.example/ipwire v{version}"),
     ("bindings/rust/Cargo.toml", '\nversion = "{version}"'),
-    ("bindings/rust/Cargo.lock", '\nname = "ip_wire"\nversion = "{version}"'),
+    ("bindings/rust/Cargo.lock", '\nname = "ip_wire_c"\nversion = "{version}"'),
     ("bindings/rust/build.rs", "ip_wire >= {version} ip_wire < {next}"),
     ("bindings/rust/build.rs", "the C library ip_wire {series} ("),
     ("bindings/rust/src/lib.rs", "another version than {series} of"),

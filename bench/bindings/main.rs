@@ -1,6 +1,6 @@
-//! Times the crate `ip_wire` beside the call in C and the standard library. `bench/bindings.py` runs it.
+//! Times the crate `ip_wire_c` beside the call in C and the standard library. `bench/bindings.py` runs it.
 
-use ip_wire::Frame;
+use ip_wire_c::Frame;
 use std::env;
 use std::hint::black_box;
 use std::net::{IpAddr, SocketAddr};
@@ -54,7 +54,7 @@ fn jobs<'a>(frames: &'a [&'a [u8]], texts: &'a [Vec<&'a str>]) -> Vec<Job<'a>> {
     for texts in texts {
         let text = texts[0];
         found.push(job(&format!("`parse_addr` {text}"), texts, |text| {
-            black_box(ip_wire::parse_addr(text).is_err()).into()
+            black_box(ip_wire_c::parse_addr(text).is_err()).into()
         }));
         found.push(job(&format!("std `parse` {text}"), texts, |text| {
             black_box(text.parse::<IpAddr>().is_err()).into()

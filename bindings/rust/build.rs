@@ -16,7 +16,7 @@ const VARIABLES: [&str; 5] =
     ["DOCS_RS", "IP_WIRE_SHARED", "PKG_CONFIG", "PKG_CONFIG_PATH", "PKG_CONFIG_LIBDIR"];
 
 fn fail(message: &str) -> ! {
-    eprintln!("ip_wire: {message}");
+    eprintln!("ip_wire_c: {message}");
     exit(1)
 }
 

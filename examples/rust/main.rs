@@ -1,8 +1,8 @@
-//! Reads a frame, as examples/quick.c does, by the crate `ip_wire` of bindings/rust:
+//! Reads a frame, as examples/quick.c does, by the crate `ip_wire_c` of bindings/rust:
 //!
 //!     cd bindings/rust && cargo run --example quick
 
-use ip_wire::{Frame, Transport};
+use ip_wire_c::{Frame, Transport};
 
 const BYTES: &[u8] = b"\x02\0\0\0\0\x02\x02\0\0\0\0\x01\x08\0\
     \x45\0\0\x20\0\0\x40\0\x40\x11\xb6\xc9\xc0\0\x02\x01\xc0\0\x02\x02\

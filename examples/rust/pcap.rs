@@ -2,7 +2,7 @@
 //!
 //!     cd bindings/rust && cargo run -q --example pcap ../../examples/echo.pcap
 
-use ip_wire::{Frame, Link, Reason};
+use ip_wire_c::{Frame, Link, Reason};
 use std::error::Error;
 use std::fs::File;
 use std::io::{self, BufReader, BufWriter, Read, Write};

@@ -24,9 +24,9 @@ packs() {
     local file
     cargo_at "$prefix" package --allow-dirty > "$room/packing" 2>&1 || { cat "$room/packing"; return 1; }
     ! grep '^warning' "$room/packing" || return 1
-    tar -tzf "$room/cargo/package/ip_wire-$(c/version).crate" > "$room/packed" || return 1
+    tar -tzf "$room/cargo/package/ip_wire_c-$(c/version).crate" > "$room/packed" || return 1
     for file in Cargo.toml LICENSE README.md build.rs examples/quick.rs examples/pcap.rs src/lib.rs "$@"; do
-        grep -q "^ip_wire-[0-9.]*/$file$" "$room/packed" || { echo "no $file is packed"; return 1; }
+        grep -q "^ip_wire_c-[0-9.]*/$file$" "$room/packed" || { echo "no $file is packed"; return 1; }
     done
 }
 
@@ -38,8 +38,8 @@ packs_by_cargo() (
     DOCS_RS=1 cargo_at / doc -q --no-deps || exit 1
     crate=$room/crate
     packs bundled/libip_wire.a bundled/ip_wire.h &&
-        tar -xzf "$room/cargo/package/ip_wire-$(c/version).crate" -C "$room/crate" || exit 1
-    crate=$room/crate/ip_wire-$(c/version)
+        tar -xzf "$room/cargo/package/ip_wire_c-$(c/version).crate" -C "$room/crate" || exit 1
+    crate=$room/crate/ip_wire_c-$(c/version)
     cargo_at / run -q --example quick | diff - examples/quick.txt && cargo_at / test -q
 )
 

@@ -93,8 +93,8 @@ pub(crate) fn print<const CAP: usize>(
 /// [`ParseError`] if the text is no address, or has more than an address, such as a scope.
 ///
 /// ```
-/// assert_eq!(ip_wire::parse_addr("192.0.2.010").unwrap().to_string(), "192.0.2.10");
-/// assert!(ip_wire::parse_addr("fe80::1%eth0").is_err());
+/// assert_eq!(ip_wire_c::parse_addr("192.0.2.010").unwrap().to_string(), "192.0.2.10");
+/// assert!(ip_wire_c::parse_addr("fe80::1%eth0").is_err());
 /// ```
 pub fn parse_addr(text: &str) -> Result<IpAddr, ParseError> {
     // SAFETY: the text has `len` bytes, and only `addr` is written.
@@ -109,8 +109,8 @@ pub fn parse_addr(text: &str) -> Result<IpAddr, ParseError> {
 /// [`ParseError`] if the text is neither, or the port is above 65535.
 ///
 /// ```
-/// assert_eq!(ip_wire::parse_endpoint("[2001:db8::1]:53").unwrap().port(), 53);
-/// assert_eq!(ip_wire::parse_endpoint("192.0.2.1").unwrap().port(), 0);
+/// assert_eq!(ip_wire_c::parse_endpoint("[2001:db8::1]:53").unwrap().port(), 53);
+/// assert_eq!(ip_wire_c::parse_endpoint("192.0.2.1").unwrap().port(), 0);
 /// ```
 pub fn parse_endpoint(text: &str) -> Result<SocketAddr, ParseError> {
     // SAFETY: the text has `len` bytes, and only `endpoint` is written.
@@ -129,7 +129,7 @@ pub fn is_unicast(addr: IpAddr) -> bool {
 /// An Ethernet address. Its text is six groups of 1 or 2 hex digits, all joined by '-' or all by ':'.
 ///
 /// ```
-/// let addr: ip_wire::EthernetAddr = "2:0:0:0:aa:7".parse().unwrap();
+/// let addr: ip_wire_c::EthernetAddr = "2:0:0:0:aa:7".parse().unwrap();
 /// assert_eq!(addr.to_string(), "02-00-00-00-aa-07");
 /// ```
 #[derive(Clone, Copy, Debug, Default, PartialEq, Eq, PartialOrd, Ord, Hash)]
@@ -168,7 +168,7 @@ impl fmt::Display for EthernetAddr {
 /// A CIDR block: the addresses that have the first `prefix_len` bits of `addr`.
 ///
 /// ```
-/// let block: ip_wire::Block = "10.1.2.3/8".parse().unwrap();
+/// let block: ip_wire_c::Block = "10.1.2.3/8".parse().unwrap();
 /// assert!(block.contains("10.255.0.1".parse().unwrap()));
 /// assert_eq!(block.to_string(), "10.1.2.3/8"); // the address keeps all its bits
 /// ```

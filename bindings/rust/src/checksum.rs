@@ -6,7 +6,7 @@
 //! that there is no checksum, stays 0, and a computed 0 becomes 0xffff (RFC 768).
 //!
 //! ```
-//! use ip_wire::checksum;
+//! use ip_wire_c::checksum;
 //!
 //! let sum = checksum::sum(&[0x12, 0x34, 0x56, 0x78]);
 //! assert_eq!(checksum::update(!sum, 0x5678, 0x0001), !checksum::sum(&[0x12, 0x34, 0, 1]));
@@ -47,7 +47,7 @@ pub fn update_addr(checksum: u16, before: IpAddr, after: IpAddr) -> u16 {
 /// follows the bytes. A length field that changes too is another part.
 ///
 /// ```
-/// # use ip_wire::checksum;
+/// # use ip_wire_c::checksum;
 /// // An MSS of 1440 after one no-operation becomes 1220.
 /// let (before, after) = ([1, 2, 4, 5, 160], [1, 2, 4, 4, 196]);
 /// let field = checksum::update_bytes(!checksum::sum(&before), 3, &before[3..], &after[3..]);

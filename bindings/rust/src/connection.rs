@@ -66,7 +66,7 @@ impl<'a> Segment<'a> {
 ///   [`tick`](Self::tick) until it returns `None`.
 ///
 /// ```
-/// use ip_wire::{Connection, ConnectionConfig, ConnectionState, SeqNumber};
+/// use ip_wire_c::{Connection, ConnectionConfig, ConnectionState, SeqNumber};
 /// # use std::time::Duration;
 /// # let (random, now) = (|| 4, Duration::ZERO);
 ///

@@ -19,8 +19,8 @@
 //!   valid one wrong.
 //!
 //! ```
-//! use ip_wire::{edit, Frame, Side, Verdict};
-//! # use ip_wire::{Ethernet, Headers, Ip};
+//! use ip_wire_c::{edit, Frame, Side, Verdict};
+//! # use ip_wire_c::{Ethernet, Headers, Ip};
 //! # let (src, dst) = ("192.0.2.1:4000".parse().unwrap(), "198.51.100.7:53".parse().unwrap());
 //! # let mut out = [0; 64];
 //! # let bytes = Headers { ethernet: Ethernet::default(), src, dst, ip: Ip::default() }.emit_udp(b"ping", &mut out).unwrap();
@@ -98,7 +98,7 @@ pub fn set_port_as(frame: &mut [u8], side: Side, port: u16, offload: Offload) ->
 /// - all from the addresses to the end of the packet, if a checksum covers the addresses and is not found ([`set_addr`]).
 ///
 /// ```
-/// # use ip_wire::{edit, Ethernet, Frame, Headers, Ip};
+/// # use ip_wire_c::{edit, Ethernet, Frame, Headers, Ip};
 /// # let (src, dst) = ("192.0.2.1:4000".parse().unwrap(), "198.51.100.7:53".parse().unwrap());
 /// # let mut out = [0; 64];
 /// # let bytes = Headers { ethernet: Ethernet::default(), src, dst, ip: Ip::default() }.emit_udp(b"ping", &mut out).unwrap();

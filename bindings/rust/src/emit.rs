@@ -29,7 +29,7 @@ impl Headers {
     /// - [`Error::NoRoom`]
     ///
     /// ```
-    /// use ip_wire::{Error, Ethernet, Headers, Ip};
+    /// use ip_wire_c::{Error, Ethernet, Headers, Ip};
     ///
     /// let headers = Headers {
     ///     ethernet: Ethernet::new([2, 0, 0, 0, 0, 1].into(), [2, 0, 0, 0, 0, 2].into()),
@@ -108,7 +108,7 @@ impl Headers {
     /// Those of [`Headers::emit_udp`].
     ///
     /// ```
-    /// # use ip_wire::{Ethernet, Headers, Ip};
+    /// # use ip_wire_c::{Ethernet, Headers, Ip};
     /// # let headers = Headers {
     /// #     ethernet: Ethernet::default(),
     /// #     src: "192.0.2.1:4000".parse().unwrap(),
@@ -162,7 +162,7 @@ impl Arp {
     /// [`Error::NoRoom`]
     ///
     /// ```
-    /// use ip_wire::{Arp, Ethernet, EthernetAddr, Frame};
+    /// use ip_wire_c::{Arp, Ethernet, EthernetAddr, Frame};
     ///
     /// let own = EthernetAddr([2, 0, 0, 0, 0, 1]);
     /// let arp = Arp {

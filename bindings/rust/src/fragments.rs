@@ -7,7 +7,7 @@ use crate::Error;
 /// The packet and each fragment are in Ethernet frames with the same header. A packet that fits is its only fragment.
 ///
 /// ```
-/// # use ip_wire::{Ethernet, Error, Fragments, Frame, Headers, Ip};
+/// # use ip_wire_c::{Ethernet, Error, Fragments, Frame, Headers, Ip};
 /// # let (src, dst) = ("192.0.2.1:4000".parse().unwrap(), "192.0.2.2:53".parse().unwrap());
 /// # let mut frame = [0; 3000];
 /// # let headers = Headers { ethernet: Ethernet::default(), src, dst, ip: Ip::default() };

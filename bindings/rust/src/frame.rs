@@ -34,8 +34,8 @@ fn first_bytes(captured: &[u8], len: usize) -> (&[u8], usize) {
 ///
 /// ```compile_fail,E0502
 /// let mut bytes = [0; 64];
-/// let frame = ip_wire::Frame::parse(&bytes);
-/// let _ = ip_wire::rebuild(frame.payload(), &mut bytes);
+/// let frame = ip_wire_c::Frame::parse(&bytes);
+/// let _ = ip_wire_c::rebuild(frame.payload(), &mut bytes);
 /// ```
 #[derive(Clone, Copy, Debug, PartialEq, Eq, Hash)]
 pub struct Frame<'a> {
@@ -56,7 +56,7 @@ impl<'a> Frame<'a> {
     /// [`Frame::parse`].
     ///
     /// ```
-    /// # use ip_wire::Frame;
+    /// # use ip_wire_c::Frame;
     /// fn payload_len(frames: &[&[u8]]) -> usize {
     ///     let mut frame = Frame::parse(&[]);
     ///     let mut len = 0;
@@ -126,7 +126,7 @@ impl<'a> Frame<'a> {
     /// [`Reason::TooShort`] if `len` has room for the header.
     ///
     /// ```
-    /// # use ip_wire::{Frame, Reason};
+    /// # use ip_wire_c::{Frame, Reason};
     /// // A capture of the loopback device of BSD: the address family of IPv4, and the packet.
     /// # let mut captured = [0; 24];
     /// # captured[..8].copy_from_slice(&[2, 0, 0, 0, 0x45, 0, 0, 20]);
@@ -154,7 +154,7 @@ impl<'a> Frame<'a> {
     /// - Extensions of RFC 4884 may count as bytes of the quoted packet.
     ///
     /// ```
-    /// # use ip_wire::{Ethernet, EthernetAddr, Frame, Headers, Interface, Ip, Problem};
+    /// # use ip_wire_c::{Ethernet, EthernetAddr, Frame, Headers, Interface, Ip, Problem};
     /// # let (src, dst) = ("192.0.2.1:4000".parse().unwrap(), "198.51.100.7:53".parse().unwrap());
     /// # let (mut out, mut error) = ([0; 64], [0; 590]);
     /// # let hardware = EthernetAddr([2, 0, 0, 0, 0, 1]);
@@ -170,7 +170,7 @@ impl<'a> Frame<'a> {
     ///     assert_eq!(quoted.dst(), "198.51.100.7:53".parse().ok());
     /// }
     /// # assert!(frame.parse_quoted().is_some() && Frame::parse(sent).parse_quoted().is_none());
-    /// # Ok::<(), ip_wire::Defect>(())
+    /// # Ok::<(), ip_wire_c::Defect>(())
     /// ```
     #[must_use]
     pub fn parse_quoted(&self) -> Option<Self> {
@@ -382,7 +382,7 @@ impl<'a> Frame<'a> {
     /// request does not have the hardware address of the reply. `None` unless it is an ARP packet.
     ///
     /// ```
-    /// # use ip_wire::{Arp, Ethernet, EthernetAddr, Frame};
+    /// # use ip_wire_c::{Arp, Ethernet, EthernetAddr, Frame};
     /// fn answer<'o>(request: &Frame, own: EthernetAddr, out: &'o mut [u8]) -> Option<&'o mut [u8]> {
     ///     let (ethernet, arp) = request.reply_arp()?;
     ///     let arp = Arp { operation: Arp::REPLY, src_hardware: own, ..arp };
@@ -413,7 +413,7 @@ impl<'a> Frame<'a> {
 /// # bytes[28..32].copy_from_slice(&[192, 0, 2, 1]);
 /// # bytes[38..42].copy_from_slice(&[192, 0, 2, 2]);
 /// # bytes[22..28].copy_from_slice(&[2, 0, 0, 0, 0, 1]);
-/// let line = ip_wire::Frame::parse(&bytes).to_string();
+/// let line = ip_wire_c::Frame::parse(&bytes).to_string();
 /// assert_eq!(line, "ARP 192.0.2.1 > 192.0.2.2 op=1 hardware=02-00-00-00-00-01 len=0");
 /// ```
 impl fmt::Display for Frame<'_> {

@@ -218,7 +218,7 @@ fn name(text: *const c_char) -> &'static str {
 /// The name of an IP protocol in the registry of IANA, or `"unknown"`.
 ///
 /// ```
-/// assert_eq!((ip_wire::protocol_name(17), ip_wire::protocol_name(255)), ("UDP", "unknown"));
+/// assert_eq!((ip_wire_c::protocol_name(17), ip_wire_c::protocol_name(255)), ("UDP", "unknown"));
 /// ```
 #[must_use]
 pub fn protocol_name(protocol: u8) -> &'static str {
@@ -229,7 +229,7 @@ pub fn protocol_name(protocol: u8) -> &'static str {
 /// The name of an EtherType, or `"unknown"`.
 ///
 /// ```
-/// assert_eq!((ip_wire::ethertype_name(0x86dd), ip_wire::ethertype_name(0)), ("IPv6", "unknown"));
+/// assert_eq!((ip_wire_c::ethertype_name(0x86dd), ip_wire_c::ethertype_name(0)), ("IPv6", "unknown"));
 /// ```
 #[must_use]
 pub fn ethertype_name(ethertype: u16) -> &'static str {

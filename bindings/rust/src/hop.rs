@@ -14,7 +14,7 @@ use core::net::SocketAddrV4;
 /// unchanged then. For an expired one a router sends [`Problem::HopLimitExpired`](crate::Problem::HopLimitExpired).
 ///
 /// ```
-/// # use ip_wire::{forward, Ethernet, EthernetAddr, Frame, Headers, Ip, Rejection};
+/// # use ip_wire_c::{forward, Ethernet, EthernetAddr, Frame, Headers, Ip, Rejection};
 /// # let ip = Ip { hop_limit: 2, ..Ip::default() };
 /// # let (src, dst) = ("192.0.2.1:4000".parse().unwrap(), "198.51.100.7:53".parse().unwrap());
 /// # let mut out = [0; 64];
@@ -59,7 +59,7 @@ impl Side {
 /// [`Expired`](Rejection::Expired). The frame is unchanged then. The source port of UDP may be 0.
 ///
 /// ```
-/// # use ip_wire::{translate, Ethernet, Frame, Headers, Ip, Rejection, Side};
+/// # use ip_wire_c::{translate, Ethernet, Frame, Headers, Ip, Rejection, Side};
 /// # let (src, dst) = ("192.0.2.1:4000".parse().unwrap(), "198.51.100.7:53".parse().unwrap());
 /// # let mut out = [0; 64];
 /// # let frame = Headers { ethernet: Ethernet::default(), src, dst, ip: Ip::default() }.emit_udp(b"ping", &mut out).unwrap();
@@ -108,7 +108,7 @@ impl Offload {
 ///   IPv4 header checksum, or has IPv6 extension headers before TCP.
 ///
 /// ```
-/// # use ip_wire::{clamp_mss, Ethernet, Frame, Headers, Ip, Tcp, TcpFlags, TcpOptions};
+/// # use ip_wire_c::{clamp_mss, Ethernet, Frame, Headers, Ip, Tcp, TcpFlags, TcpOptions};
 /// # let (src, dst) = ("192.0.2.1:4000".parse().unwrap(), "198.51.100.7:80".parse().unwrap());
 /// # let headers = Headers { ethernet: Ethernet::default(), src, dst, ip: Ip::default() };
 /// # let tcp = Tcp { flags: TcpFlags::SYN, ..Tcp::default() };

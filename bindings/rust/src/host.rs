@@ -45,8 +45,8 @@ impl Host<'_> {
     /// [`Error::NoRoom`]
     ///
     /// ```
-    /// use ip_wire::{EthernetAddr, Frame, Host, SeqNumber};
-    /// # use ip_wire::{Ethernet, Headers, Icmp, Ip};
+    /// use ip_wire_c::{EthernetAddr, Frame, Host, SeqNumber};
+    /// # use ip_wire_c::{Ethernet, Headers, Icmp, Ip};
     /// # let random = || 4;
     ///
     /// let host = Host {
@@ -73,7 +73,7 @@ impl Host<'_> {
     ///     assert_eq!(Frame::parse(answer).icmp().unwrap().icmp_type, 0); // an echo reply
     /// }
     /// # assert!(host.answer(ping, &mut out)?.is_some());
-    /// # Ok::<(), ip_wire::Error>(())
+    /// # Ok::<(), ip_wire_c::Error>(())
     /// ```
     pub fn answer<'o>(&self, frame: &[u8], out: &'o mut [u8]) -> Result<Option<&'o mut [u8]>, Error> {
         let host = sys::Host {

@@ -63,7 +63,7 @@ impl Ndisc {
     /// [`Error::NoRoom`]
     ///
     /// ```
-    /// use ip_wire::{Ethernet, EthernetAddr, Ndisc};
+    /// use ip_wire_c::{Ethernet, EthernetAddr, Ndisc};
     ///
     /// let own = EthernetAddr([2, 0, 0, 0, 0, 1]);
     /// let ask = Ndisc::solicitation("fe80::2".parse().unwrap(), own);
@@ -156,8 +156,8 @@ impl Interface {
     /// [`Error::NoRoom`]. A buffer of 1294 bytes always suffices.
     ///
     /// ```
-    /// use ip_wire::{EthernetAddr, Frame, Interface, Problem};
-    /// # use ip_wire::{Ethernet, Headers, Ip};
+    /// use ip_wire_c::{EthernetAddr, Frame, Interface, Problem};
+    /// # use ip_wire_c::{Ethernet, Headers, Ip};
     /// # let (src, dst) = ("192.0.2.1:4000".parse().unwrap(), "198.51.100.7:53".parse().unwrap());
     /// # let mut room = [0; 64];
     /// # let ethernet = Ethernet::new(EthernetAddr([2, 0, 0, 0, 0, 9]), EthernetAddr([2, 0, 0, 0, 0, 1]));
@@ -174,7 +174,7 @@ impl Interface {
     ///     assert_eq!(error.icmp().unwrap().icmp_type, 3); // destination unreachable
     /// }
     /// # assert!(own.emit_error(Problem::RouteMissing, frame, &mut out)?.is_some());
-    /// # Ok::<(), ip_wire::Error>(())
+    /// # Ok::<(), ip_wire_c::Error>(())
     /// ```
     pub fn emit_error<'o>(
         &self,

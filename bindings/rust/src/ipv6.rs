@@ -35,7 +35,7 @@ impl Ipv6Header<'_> {
 /// - [`Reason::BadLength`] if the next header does not end within the packet and its captured bytes.
 ///
 /// ```
-/// # use ip_wire::{Ipv6Headers, Reason};
+/// # use ip_wire_c::{Ipv6Headers, Reason};
 /// # let mut packet = [0; 56];
 /// # packet[..8].copy_from_slice(&[0x60, 0, 0, 0, 0, 16, 0, 64]);
 /// # packet[40..48].copy_from_slice(&[17, 0, 5, 2, 0, 0, 1, 0]);

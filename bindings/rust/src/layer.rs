@@ -5,8 +5,8 @@
 //! failure `out` is unchanged.
 //!
 //! ```
-//! use ip_wire::layer::{self, Checksum};
-//! use ip_wire::{Ethernet, Frame, Ip};
+//! use ip_wire_c::layer::{self, Checksum};
+//! use ip_wire_c::{Ethernet, Frame, Ip};
 //!
 //! // A UDP packet after a VLAN tag: EtherType 0x8100, then the tag and the EtherType of IPv4.
 //! let (src, dst) = ("192.0.2.1:4000".parse()?, "192.0.2.2:53".parse()?);

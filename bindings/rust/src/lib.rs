@@ -17,7 +17,7 @@
 //! | compute checksums | [`checksum`] |
 //!
 //! ```
-//! use ip_wire::{Frame, Transport};
+//! use ip_wire_c::{Frame, Transport};
 //!
 //! fn pong<'o>(bytes: &[u8], out: &'o mut [u8]) -> Option<&'o mut [u8]> {
 //!     let frame = Frame::parse(bytes);
@@ -28,7 +28,7 @@
 //!     frame.reply()?.emit_udp(b"pong", out).ok()
 //! }
 //!
-//! # use ip_wire::{Ethernet, Headers, Ip};
+//! # use ip_wire_c::{Ethernet, Headers, Ip};
 //! # let headers = Headers {
 //! #     ethernet: Ethernet::default(),
 //! #     src: "192.0.2.1:46563".parse().unwrap(),

@@ -22,7 +22,7 @@ pub(crate) const ETHERNET: u32 = 1;
 /// | 276 | LINUX_SLL2 | the second version of LINUX_SLL, 20 bytes |
 ///
 /// ```
-/// # use ip_wire::{Frame, Link};
+/// # use ip_wire_c::{Frame, Link};
 /// # let mut frame = [0; 46];
 /// # frame[12..19].copy_from_slice(&[0x81, 0, 0xe0, 100, 8, 0, 0x45]);
 /// // A frame of VLAN 100.
@@ -31,7 +31,7 @@ pub(crate) const ETHERNET: u32 = 1;
 /// assert_eq!(link.tags()[0] & 0xfff, 100);
 /// let packet = &frame[link.offset()..];
 /// # assert_eq!(packet[0], 0x45);
-/// # Ok::<(), ip_wire::Reason>(())
+/// # Ok::<(), ip_wire_c::Reason>(())
 /// ```
 #[derive(Clone, Copy, Debug, PartialEq, Eq, Hash)]
 pub struct Link {

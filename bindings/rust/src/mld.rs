@@ -18,7 +18,7 @@ use core::time::Duration;
 /// [`Error::NoRoom`]
 ///
 /// ```
-/// use ip_wire::{emit_mld_report, Frame};
+/// use ip_wire_c::{emit_mld_report, Frame};
 ///
 /// let mut out = [0; 86];
 /// let own = [2, 0, 0, 0, 0, 1].into();
@@ -26,7 +26,7 @@ use core::time::Duration;
 /// let frame = Frame::parse(report);
 /// assert_eq!(frame.check(), Ok(()));
 /// assert_eq!(frame.icmp().unwrap().icmp_type, 131);
-/// # Ok::<(), ip_wire::Error>(())
+/// # Ok::<(), ip_wire_c::Error>(())
 /// ```
 pub fn emit_mld_report(
     hardware: EthernetAddr,

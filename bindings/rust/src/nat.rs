@@ -93,9 +93,9 @@ impl Mapping {
 /// since the last packet of this endpoint. `ip_wire.h` describes ports, TCP connections and ICMP messages.
 ///
 /// ```
-/// use ip_wire::{Frame, Mapping, Nat, NatConfig, Rejection};
+/// use ip_wire_c::{Frame, Mapping, Nat, NatConfig, Rejection};
 /// use std::time::Instant;
-/// # use ip_wire::{Ethernet, Headers, Ip};
+/// # use ip_wire_c::{Ethernet, Headers, Ip};
 /// # let random = || 4;
 /// # let (src, dst) = ("192.0.2.1:4000".parse().unwrap(), "198.51.100.7:53".parse().unwrap());
 /// # let mut out = [0; 64];

@@ -66,9 +66,9 @@ impl Partial {
 /// each other.
 ///
 /// ```
-/// use ip_wire::{Error, Frame, Partial, Reassembler};
+/// use ip_wire_c::{Error, Frame, Partial, Reassembler};
 /// use std::time::Instant;
-/// # use ip_wire::{Ethernet, Fragments, Headers, Ip};
+/// # use ip_wire_c::{Ethernet, Fragments, Headers, Ip};
 /// # let (src, dst) = ("192.0.2.1:4000".parse().unwrap(), "192.0.2.2:53".parse().unwrap());
 /// # let (mut frame, mut fragment) = ([0; 3000], [0; 1514]);
 /// # let headers = Headers { ethernet: Ethernet::default(), src, dst, ip: Ip::default() };

@@ -56,7 +56,7 @@ pub struct RouteNode(sys::RouteNode);
 /// forward packets for itself, multicast and link-local packets.
 ///
 /// ```
-/// use ip_wire::{InterfaceId, Rejection, Route, RouteNode, RouteTable};
+/// use ip_wire_c::{InterfaceId, Rejection, Route, RouteNode, RouteTable};
 ///
 /// let (lan, wan) = (InterfaceId(1), InterfaceId(2));
 /// let routes = [

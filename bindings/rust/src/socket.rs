@@ -149,8 +149,8 @@ const FRAMES: usize = 64;
 /// needs larger buffers.
 ///
 /// ```no_run
-/// use ip_wire::{poll, Connection, ConnectionConfig, Device, Host, Socket};
-/// # fn serve(mut device: impl Device, host: Host, random: fn() -> u32) -> Result<(), ip_wire::Error> {
+/// use ip_wire_c::{poll, Connection, ConnectionConfig, Device, Host, Socket};
+/// # fn serve(mut device: impl Device, host: Host, random: fn() -> u32) -> Result<(), ip_wire_c::Error> {
 /// let ring = || vec![0; 65536];
 /// let mut sockets = [0; 8].map(|_| Socket::new(&ConnectionConfig::default(), ring(), ring()));
 /// let (start, mut buffers, mut bytes) = (std::time::Instant::now(), [[0; 1514]; 2], [0; 4096]);

@@ -68,11 +68,11 @@ pub fn library() -> Library {
 
 #[cold]
 fn check() {
-    assert!(cpu_supported(), "ip_wire needs an x86-64-v2 processor (SSE4.2 and POPCNT)");
+    assert!(cpu_supported(), "ip_wire_c needs an x86-64-v2 processor (SSE4.2 and POPCNT)");
     let (major, minor, patch) = version_of_library();
     assert!(
         (major, minor) == VERSION,
-        "the crate ip_wire needs version {}.{} of the C library, and the linked one is {major}.{minor}.{patch}",
+        "the crate ip_wire_c needs version {}.{} of the C library, and the linked one is {major}.{minor}.{patch}",
         VERSION.0,
         VERSION.1,
     );

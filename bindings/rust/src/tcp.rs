@@ -9,7 +9,7 @@ use core::ops::{Add, BitAnd, BitAndAssign, BitOr, BitOrAssign, Deref, Not, Sub};
 /// A sequence number, modulo 2^32. There is no order on them, only a distance (RFC 9293, section 3.4).
 ///
 /// ```
-/// use ip_wire::SeqNumber;
+/// use ip_wire_c::SeqNumber;
 ///
 /// let last = SeqNumber(u32::MAX);
 /// assert!(last.is_before(last + 2));
@@ -49,7 +49,7 @@ impl Sub for SeqNumber {
 /// A set of flags of a TCP header.
 ///
 /// ```
-/// use ip_wire::TcpFlags;
+/// use ip_wire_c::TcpFlags;
 ///
 /// let flags = TcpFlags::SYN | TcpFlags::ACK;
 /// assert!(flags.contains(TcpFlags::SYN) && !flags.contains(TcpFlags::RST));
@@ -315,7 +315,7 @@ pub struct RawOption<'a> {
 /// malformed option gives [`Reason::BadOptions`], and is the last.
 ///
 /// ```
-/// # use ip_wire::{Reason, RawOptions};
+/// # use ip_wire_c::{Reason, RawOptions};
 /// let mut header = [0; 24];
 /// header[12] = 6 << 4; // the length of the header, in words
 /// header[20..].copy_from_slice(&[1, 254, 3, 7]);

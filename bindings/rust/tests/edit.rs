@@ -3,7 +3,7 @@
 
 mod worked;
 
-use ip_wire::{clamp_mss_as, edit, Error, Fragments, Offload, Partial, Reassembler, Side};
+use ip_wire_c::{clamp_mss_as, edit, Error, Fragments, Offload, Partial, Reassembler, Side};
 use std::net::IpAddr;
 use std::time::Duration;
 use worked::{bytes, changed, frame};

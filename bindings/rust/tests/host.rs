@@ -2,10 +2,10 @@
 
 mod worked;
 
-use ip_wire::{
+use ip_wire_c::{
     emit_mld_report, parse_mld_query, AdvertFlags, Ethernet, EthernetAddr, Frame, Ndisc, SeqNumber,
 };
-use ip_wire::{Error, Host, Interface, Problem};
+use ip_wire_c::{Error, Host, Interface, Problem};
 use std::net::Ipv6Addr;
 use std::time::Duration;
 use worked::{changed, frame};

@@ -2,9 +2,9 @@
 
 mod worked;
 
-use ip_wire::layer::{self, Checksum};
-use ip_wire::{Arp, Error, Ethernet, EthernetAddr, Frame, Icmp, Ip, Transport};
-use ip_wire::{SackRange, Tcp, TcpFlags, TcpOptions, Timestamp};
+use ip_wire_c::layer::{self, Checksum};
+use ip_wire_c::{Arp, Error, Ethernet, EthernetAddr, Frame, Icmp, Ip, Transport};
+use ip_wire_c::{SackRange, Tcp, TcpFlags, TcpOptions, Timestamp};
 use std::net::SocketAddr;
 use worked::{changed, frame};
 

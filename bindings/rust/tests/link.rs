@@ -3,7 +3,7 @@
 #[allow(dead_code, reason = "other tests use the rest")]
 mod worked;
 
-use ip_wire::*;
+use ip_wire_c::*;
 use worked::{bytes, frame};
 
 /// UDP from port 54731 to 5353 with the payload "ping".

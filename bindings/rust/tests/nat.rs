@@ -2,7 +2,7 @@
 
 mod worked;
 
-use ip_wire::{translate, Mapping, Nat, NatConfig, Rejection, Side};
+use ip_wire_c::{translate, Mapping, Nat, NatConfig, Rejection, Side};
 use std::net::{Ipv4Addr, SocketAddrV4};
 use std::time::Duration;
 use worked::{changed, frame};

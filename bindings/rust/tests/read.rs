@@ -5,7 +5,7 @@ mod common;
 mod worked;
 
 use common::{ipv4, ipv6, CLIENT, SERVER};
-use ip_wire::*;
+use ip_wire_c::*;
 use worked::bytes;
 
 fn udp(headers: &Headers, payload: &[u8]) -> Vec<u8> {

@@ -2,8 +2,8 @@
 
 mod worked;
 
-use ip_wire::{clamp_mss, forward, EthernetAddr};
-use ip_wire::{Block, Error, InterfaceId, Rejection, Route, RouteNode, RouteTable};
+use ip_wire_c::{clamp_mss, forward, EthernetAddr};
+use ip_wire_c::{Block, Error, InterfaceId, Rejection, Route, RouteNode, RouteTable};
 use std::net::IpAddr;
 use worked::{changed, frame};
 

@@ -1,7 +1,9 @@
 //! Two hosts over a device in memory, which drops frames.
 
-use ip_wire::{checksum, edit, Frame, Interface, Ip, Problem, SeqNumber, Socket};
-use ip_wire::{poll, Connection, ConnectionConfig, ConnectionState, Device, Error, Ethernet, Headers, Host};
+use ip_wire_c::{checksum, edit, Frame, Interface, Ip, Problem, SeqNumber, Socket};
+use ip_wire_c::{
+    poll, Connection, ConnectionConfig, ConnectionState, Device, Error, Ethernet, Headers, Host,
+};
 use std::cell::RefCell;
 use std::collections::{HashSet, VecDeque};
 use std::rc::Rc;

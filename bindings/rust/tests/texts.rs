@@ -1,6 +1,6 @@
 //! Texts, CIDR blocks, checksums and sequence numbers.
 
-use ip_wire::*;
+use ip_wire_c::*;
 use std::net::{IpAddr, SocketAddr};
 
 #[test]

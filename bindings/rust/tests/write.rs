@@ -3,7 +3,7 @@
 mod common;
 
 use common::{headers, ipv4, ipv6, CLIENT, SERVER};
-use ip_wire::*;
+use ip_wire_c::*;
 
 const OUT: [u8; 200] = [0xee; 200];
 

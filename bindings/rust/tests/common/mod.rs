@@ -1,6 +1,6 @@
 //! Headers that the tests share.
 
-use ip_wire::{Ethernet, Headers, Ip};
+use ip_wire_c::{Ethernet, Headers, Ip};
 
 pub const CLIENT: [u8; 6] = [2, 0, 0, 0, 0, 1];
 pub const SERVER: [u8; 6] = [2, 0, 0, 0, 0, 2];
