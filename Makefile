@@ -7,7 +7,9 @@
 # make deb            packs them as Debian packages in out/deb, with dpkg-dev
 # make lint           compares the pages, the C header and the definitions with the sources
 # make quick          runs the tests of the libraries and the programs, without proofs
-# make sketch         compiles the C library with rustc, without proofs, in out/sketch
+# make sketch         compiles the C library with rustc, without proofs, in out/unproved
+# make native         writes the library in Rust, as a package for cargo: out/native
+# make test-native    tests this package with cargo, and compares its text with the proved one
 # make check          proves one crate, CRATE=name, over the libraries that make test proved
 # make affected       proves what the change since SINCE=HEAD reaches, with tests and wrong bodies
 # make test           proves and tests everything, or repeats some checks: ONLY='judge kernel'
@@ -26,6 +28,9 @@
 # ANEW=yes proves again what the kit kept. make dist needs a make test of these sources; its log is out/test.log. make
 # compare gives both programs LINES generated lines, from SEED on. make bench also times hand-written C (bench/floor.c)
 # and a shared library with the same calls (bench/reference.rs wraps smoltcp). It prints tables in Markdown.
+#
+# Without the Rattle kit, make install and make crate need UNPROVED=yes: cargo compiles the C library from the same text, and
+# nothing is proved.
 
 FRAMES ?= examples/frames.hex
 CRATE ?=
@@ -39,15 +44,25 @@ ANEW ?=
 SINCE ?= HEAD
 LIBDIR ?=
 ONLY ?=
+UNPROVED ?=
 # Recipes read these as environment variables, so that a value may contain any character. On the command line of make a
 # dollar is written twice.
-export FRAMES CRATE REFERENCE_BENCH SEED LINES PREFIX DESTDIR LIBDIR ANEW SINCE ONLY
+export FRAMES CRATE REFERENCE_BENCH SEED LINES PREFIX DESTDIR LIBDIR ANEW SINCE ONLY UNPROVED
 
 PROGRAM := crates/ip_frames/out/ip_frames
 CALLS := crates/ip_calls/out/ip_calls
 ARCHIVE := crates/c_exports/out/libc_exports.a
 LIBRARY := out/lib/libip_wire.a
 SHARED := out/lib/libip_wire.so.$(shell c/version)
+ifeq ($(UNPROVED),yes)
+ifneq ($(filter-out install uninstall crate out/unproved/%,$(or $(MAKECMDGOALS),run)),)
+$(error make $(MAKECMDGOALS): UNPROVED=yes is for make install, uninstall and crate)
+endif
+PROGRAM := out/unproved/ip_frames
+ARCHIVE := out/unproved/libc_exports.a
+LIBRARY := out/unproved/libip_wire.a
+SHARED := out/unproved/libip_wire.so.$(shell c/version)
+endif
 # The last page that c/pages writes stands for all of them.
 PAGES := out/man/man3/ip_wire.3
 FIND_SOURCES := find crates.txt crates -name out -prune -o \( -name '*.rt' -o -name '*.antt' -o -name crates.txt \)
@@ -58,7 +73,10 @@ PYTHON := python3 -S
 
 # fail MESSAGE: ends the recipe with one line
 fail = { echo "make $(or $(MAKECMDGOALS),run): $(1)" >&2; exit 1; }
-HAS_RT = command -v rt > /dev/null || $(call fail,rt is not on the path; it comes with the Rattle kit)
+# Two goals have another way.
+OR_CARGO := $(if $(filter install crate,$(MAKECMDGOALS)),. Without it make $(MAKECMDGOALS) UNPROVED=yes compiles the same text with cargo and proves nothing)
+HAS_RT = command -v rt > /dev/null || $(call fail,rt is not on the path; it comes with the Rattle kit$(OR_CARGO))
+HAS_CARGO = command -v cargo > /dev/null || $(call fail,cargo is not on the path)
 CAN_WRITE = test -w . || $(call fail,this folder is not writable)
 
 ifneq ($(filter compare compare-calls,$(MAKECMDGOALS)),)
@@ -71,15 +89,17 @@ endif
 .PRECIOUS: $(PROGRAM) $(CALLS) $(ARCHIVE) $(LIBRARY) $(SHARED) $(PAGES)
 # rt uses all processors by itself.
 .NOTPARALLEL:
-.PHONY: run build install uninstall crate dist deb lint quick sketch check affected mutants new test reference statements size \
-	compare compare-calls bench help
+.PHONY: run build install uninstall crate dist deb lint quick sketch native test-native check affected mutants new test reference \
+	statements size compare compare-calls bench help
 
 run:
 	@test -r "$$FRAMES" && ! test -d "$$FRAMES" || $(call fail,cannot read $$FRAMES)
 	@if test -x $(PROGRAM) && test -z "$$($(FIND_SOURCES) -newer $(PROGRAM) -print)"; then \
 		$(PROGRAM) < "$$FRAMES"; \
+	elif ! command -v rt > /dev/null; then \
+		command -v cargo > /dev/null || $(call fail,neither rt nor cargo is on the path); \
+		$(MAKE) -s --no-print-directory UNPROVED=yes out/unproved/ip_frames >&2 && exec out/unproved/ip_frames < "$$FRAMES"; \
 	else \
-		$(HAS_RT); \
 		test -x $(PROGRAM) && why='older than its sources' || why='not built yet'; \
 		echo "$$why, so run without proofs, in half a minute each time (make build proves first)" >&2; \
 		exec < "$$FRAMES" 3>&1; cd crates/ip_frames || exit; \
@@ -135,8 +155,17 @@ quick:
 	@tools/alone - tests/all quick
 
 sketch:
+	@$(MAKE) -s --no-print-directory UNPROVED=yes out/unproved/libip_wire.a
+	@echo out/unproved/libip_wire.a
+
+native:
 	@$(CAN_WRITE)
-	@tools/sketch
+	@tools/alone - tools/native/make.py
+
+test-native:
+	@$(HAS_CARGO)
+	@$(CAN_WRITE)
+	@tests/native/run
 
 check:
 	@test -n "$$CRATE" && test -d "crates/$$CRATE/src" || $(call fail,name a crate of crates.txt as CRATE=name)
@@ -176,6 +205,13 @@ compare-calls: $(CALLS)
 bench: $(PROGRAM) $(LIBRARY)
 	@bench/bench.py $${REFERENCE_BENCH:+--calls "$$REFERENCE_BENCH"} $(if $(REFERENCE),--program $(REFERENCE))
 
+ifeq ($(UNPROVED),yes)
+$(PROGRAM) $(ARCHIVE): $(SOURCES) $(shell find tools/native -type f)
+	@$(HAS_CARGO)
+	@$(CAN_WRITE)
+	@echo 'compiling $(@F) with cargo, without proofs'
+	@tools/alone $@ tools/native/build $@
+else
 $(PROGRAM) $(CALLS): COMMAND := run
 $(ARCHIVE): COMMAND := archive
 $(PROGRAM) $(CALLS) $(ARCHIVE): $(SOURCES)
@@ -184,6 +220,7 @@ $(PROGRAM) $(CALLS) $(ARCHIVE): $(SOURCES)
 	@echo 'proving $(@F)'
 	@mkdir -p $(@D)
 	@tools/alone $@ tests/gate/build $(notdir $(@D:/out=)) $(COMMAND)
+endif
 
 $(PAGES): c/pages c/ip_wire.h man/ip_wire.3 $(wildcard examples/*.[ch] examples/*/*.c)
 	@$(CAN_WRITE)

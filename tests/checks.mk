@@ -12,14 +12,14 @@ check = $(if $(filter $@,$(CHOSEN)),@tests/check $@ '$^' '$(filter $(CHOSEN),$^)
 # Long work that needs no clock takes the processors that the gate leaves idle.
 beside = $(call check,$(if $(ONLY),,nice -n 19 )$(1))
 
-LINT := reference manual statements markdown requirements c_calls definitions layout diagrams speed cases bench one_version abi
+LINT := reference manual statements markdown requirements c_calls definitions layout diagrams speed cases bench one_version abi native_text
 UNPROVED := $(shell sed -n 's/^\(test_\w*\):.*/\1/p' crates.txt)
 MODELS := rebuilt model_counts model_faults model_answers
 PROGRAMS := ip_frames ip_calls tcp_steps
 OF_PROGRAMS := recorded written failures bad_input compare network linux
 OF_LIBRARY := judge kernel other_stack lwip c_example examples two_borrows peers baseline
 OF_BOTH := counts tools dump install deb
-CHECKS := $(LINT) gate library $(PROGRAMS) wrong_bodies $(UNPROVED) $(MODELS) goals \
+CHECKS := $(LINT) gate library $(PROGRAMS) wrong_bodies $(UNPROVED) $(MODELS) goals native \
 	$(OF_PROGRAMS) $(OF_LIBRARY) $(OF_BOTH) commands dist
 TRIED := $(PROGRAMS:%=try_%)
 QUICK := worked $(UNPROVED) $(TRIED)
@@ -43,6 +43,8 @@ one_version:
 	$(call check,tests/install/one_version)
 abi:
 	$(call check,tests/install/abi.py)
+native_text:
+	$(call check,tests/native/text)
 
 # What is proved and built
 gate:
@@ -71,6 +73,8 @@ model_answers:
 	$(call beside,sh -c 'tests/tcp/compare.py --answers < crates/tcp_steps/stdin | cmp - crates/tcp_steps/stdout')
 goals:
 	$(call check,tests/install/make_checks)
+native:
+	$(call beside,tests/native/run --offline)
 
 # What uses the programs
 recorded failures: ip_frames ip_calls

@@ -29,7 +29,7 @@ FOREIGN = {"ip_nat", "pretty_print", "AsMut", "is_private", "to_ipv6_mapped", "C
 # Pages of old names, and of names that another test compares.
 UNNAMED = {"CHANGELOG.md", "docs/audit/REQUIREMENTS.md"}
 EXCERPTS = {
-    "rust": ["crates/**/*.rt", "crates/**/*.antt", "bindings/rust/**/*.rs", "examples/rust/*.rs", "crates.txt"],
+    "rust": ["crates/**/*.rt", "crates/**/*.antt", "bindings/rust/**/*.rs", "examples/rust/*.rs", "examples/native/*.rs", "crates.txt"],
     "c": ["c/*.[ch]", "examples/**/*.[ch]", "bench/*.[ch]"],
     "python": ["bindings/python/**/*.py", "examples/**/*.py"],
     "go": ["bindings/go/*.go", "examples/go/**/*.go", "examples/go/go.mod"],
