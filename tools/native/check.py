@@ -2,8 +2,7 @@
 """Compares the package of cargo with the proved sources, token by token: tools/native/check.py [OUT [--plant N]]
 
 OUT is out/native. Of each module the tokens of the source without contracts, changed by RULES, must be those of the package.
-The last lines count the tokens, and the changes of each rule. The parts that are no text of the sources are named: the root
-of the package, `native.rs`, and the pointers of the calls for C.
+The last line counts the tokens, and the changes of each rule. Files of the package that are no text of the sources are in OWN.
 
 It shares no code with `make.py`: the reader of `tools/contracts.py`, which the reference uses, says what is a contract. With
 --plant N it changes one token N times. It must find each of these changes.
@@ -218,6 +217,14 @@ def modules(out):
                 yield out / package / "src" / place, (package, crate, path, place)
 
 
+def unlisted():
+    """The crates of the library and its tests that the package lacks."""
+    listed = {crate for crates in PACKAGES.values() for crate in crates}
+    for name in re.findall(r"^((?:wire|app|c|test)_\w+):", (TOP / "crates.txt").read_text(), re.M):
+        if name not in listed:
+            yield name
+
+
 def packed(file):
     return " ".join(token.text for token in tokens_of(file.read_text())[0])
 
@@ -263,9 +270,11 @@ def main():
     for file in sorted(there - seen - {out / name for name in OWN}):
         wrong += 1
         print(f"{file.relative_to(out)}: no module of the sources")
+    for name in unlisted():
+        wrong += 1
+        print(f"crates.txt: {name} is in no list of tools/native/rules.py")
     changed = ", ".join(f"{count} {rule}" for rule, count in counts.most_common())
-    print(f"changed by rules: {changed}")
-    print(f"{total} tokens of {len(seen)} modules, {sum(counts.values())} changes by rules, {wrong} files differ")
+    print(f"{total} tokens of {len(seen)} modules, {sum(counts.values())} changed by rules ({changed}), {wrong} faults")
     return 1 if wrong else 0
 
 

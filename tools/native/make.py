@@ -184,6 +184,8 @@ def store(out, files):
 
 def main():
     out = pathlib.Path(sys.argv[1] if len(sys.argv) > 1 else TOP / "out" / "native")
+    if out.exists() and list(out.iterdir()) and not (out / "frames").exists():
+        sys.exit(f"make native: {out} is no package of make native")
     files, modules = dict(own_files()), Modules()
     for package, crates in PACKAGES.items():
         for crate in crates:
