@@ -853,6 +853,7 @@ struct lk_host {
  *   a UDP packet to `echo_port`            the same payload, to its sender (RFC 862)
  *   a UDP packet to a closed port          an ICMP error, port unreachable (RFC 1122, 4.1.3.1; RFC 4443, 3.1)
  *   an IPv6 packet with a faulty header    an ICMP error, parameter problem (RFC 8200, section 4; RFC 4443, 3.4)
+ *   a faulty IPv6 fragment                 the same (RFC 8200, section 4.5)
  *   SYN without ACK to an open TCP port    SYN and ACK (RFC 9293, section 3.10.7.2)
  *   ACK without RST to an open TCP port    RST
  *   any but RST to a closed TCP port       RST (section 3.10.7.1)
@@ -890,13 +891,23 @@ struct lk_host {
  *   a routing header with segments left            0     the routing type (section 4.4; RFC 5095, section 3)
  *   an unknown next header, as SCTP or AH (51)     1     its number
  *   hop-by-hop options after another header        1     the number 0
+ *   a fragment whose bytes are no multiple of 8,   0     the payload length (section 4.5)
+ *     if more fragments follow
+ *   a fragment whose whole packet would have       0     its fragment offset (section 4.5)
+ *     a payload above 65,535 bytes
+ *   a first fragment without all headers           3     byte 0 (section 4.5; RFC 7112, section 5)
  *
  * - Pad1 and PadN are the only known options. Unknown ones with the highest bits 00 are skipped. One with the bits 01,
  *   and a header that does not end within the packet, get no answer.
  * - An option with the highest bits 10 gets an error also in a packet for a group (RFC 4443, section 2.4 e.3). The group
  *   is ff02::1 or the solicited-node group of `ipv6`. The frame is for `hardware` or the hardware address of the group.
- * - Known next headers are UDP, TCP, ICMPv6 and 59. What follows the header of a fragment is not looked at: call
- *   lk_reassemble before. Call lk_answer only for packets that the program does not process itself. */
+ * - A first fragment has all headers if it has those up to the first that is no extension header, and of that one 20
+ *   bytes of TCP, 8 of UDP, 4 of ICMPv6, none of 59 and 1 of any other.
+ * - Errors about fragments are also sent if their extension headers end early. No error is sent about a fragment of an
+ *   ICMPv6 error, or about a later one of ICMPv6, which may be part of one (RFC 4443, section 2.4 e.1).
+ * - Known next headers are UDP, TCP, ICMPv6 and 59. Nothing else of what follows the header of a fragment is looked at:
+ *   if a fragment gets no answer, call lk_reassemble. For a whole packet call lk_answer only if the program does not
+ *   process the packet itself. */
 ptrdiff_t lk_answer(const struct lk_host *host, const uint8_t *ptr, size_t len, uint8_t *out, size_t cap);
 
 /* ---- ICMP errors ---- */
@@ -1144,6 +1155,8 @@ struct lk_partial {
  *   another, while one is not in use     the first of those that are not in use: what has expired waits for lk_expire
  *   another                              the first of those with the least `expires`, also if it has not expired
  *
+ * - A host calls lk_answer for each fragment before (`is_fragment` of `struct lk_frame`). One that gets an answer has a
+ *   fault: send the answer, and discard the fragment (RFC 8200, section 4.5).
  * - Messages of neighbour discovery must not come in fragments (RFC 6980): drop a whole packet with one.
  *
  * The first row that is true has the result. The rows with a star leave `partials` and `memory` unchanged:

@@ -82,8 +82,8 @@ static inline void make_room(struct fragments *fragments, int64_t now, const str
         *oldest = (struct lk_partial){.expires = 0};
 }
 
-/* Takes a fragment, which is read in `in`. Returns the length of the frame in `whole`, or what lk_reassemble returns
- * instead. */
+/* Takes a fragment, which is read in `in`. A host calls lk_answer before, and discards a fragment that gets an answer. Returns
+ * the length of the frame in `whole`, or what lk_reassemble returns instead. */
 static inline ptrdiff_t reassemble(struct fragments *fragments, int64_t now, const struct lk_frame *in, const uint8_t *frame,
                                    size_t len)
 {

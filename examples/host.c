@@ -42,11 +42,13 @@ static void send_out(ptrdiff_t len)
         frames_out += write_packet(device, &fragments, out, (size_t)len);
 }
 
-static void answer(const uint8_t *frame, size_t len)
+/* Returns whether the frame has an answer. */
+static int answer(const uint8_t *frame, size_t len)
 {
     ptrdiff_t answer_len = answer_frame(&addresses, &own, frame, len, out, sizeof out);
     if (answer_len > 0 && may_send(&limit, milliseconds(), out, (size_t)answer_len))
         send_out(answer_len);
+    return answer_len > 0;
 }
 
 /* Tells the senders of fragments that the others did not come. */
@@ -81,6 +83,8 @@ static void on_frame(const uint8_t *frame, size_t len, int is_whole)
     int reason = lk_read_frame_options(frame, len, &in, &options);
     const struct lk_host *host = host_for(&addresses, &own, &in, &room);
     if (!is_whole && is_fragment_for(host, &in)) {
+        if (in.is_fragment && answer(frame, len))
+            return; /* an error about a fault: the fragment is discarded */
         ptrdiff_t whole_len = reassemble(&fragments, milliseconds(), &in, frame, len);
         if (whole_len > 0)
             on_frame(fragments.whole, (size_t)whole_len, 1);

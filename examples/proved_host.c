@@ -60,9 +60,19 @@ static void send_answer(int device, const uint8_t *answer, size_t len)
         write_packet(device, &fragments, answer, len);
 }
 
+/* Whether a fragment has a fault, about which an error is sent: it is discarded. */
+static int is_faulty(int device, const struct lk_host *host, const struct lk_frame *in, const uint8_t *frame, size_t len)
+{
+    static uint8_t out[LONGEST_FRAME];
+    ptrdiff_t error = in->is_fragment ? answer_frame(&addresses, host, frame, len, out, sizeof out) : 0;
+    if (error > 0)
+        send_answer(device, out, (size_t)error);
+    return error > 0;
+}
+
 /* Returns the length of the frame to answer, at `*frame`: one that came in, or if it has a fragment the whole packet. 0:
  * there is none. */
-static size_t whole_frame(const struct lk_host *host, const uint8_t **frame, size_t len)
+static size_t whole_frame(int device, const struct lk_host *host, const uint8_t **frame, size_t len)
 {
     struct lk_frame in;
     struct lk_host room;
@@ -70,6 +80,8 @@ static size_t whole_frame(const struct lk_host *host, const uint8_t **frame, siz
     hear_addresses(&addresses, milliseconds(), &in, *frame, len);
     if (!is_fragment_for(host_for(&addresses, host, &in, &room), &in))
         return len;
+    if (is_faulty(device, host, &in, *frame, len))
+        return 0;
     ptrdiff_t whole_len = reassemble(&fragments, milliseconds(), &in, *frame, len);
     *frame = fragments.whole;
     return whole_len > 0 ? (size_t)whole_len : 0;
@@ -84,7 +96,7 @@ static int answer_frames(int device, struct lk_host *host)
         ssize_t len = read(device, in, sizeof in);
         if (len < 0)
             return is_there();
-        size_t whole_len = whole_frame(host, &frame, (size_t)len);
+        size_t whole_len = whole_frame(device, host, &frame, (size_t)len);
         if (whole_len == 0 || !renew(host))
             continue;
         ptrdiff_t answer = answer_frame(&addresses, host, frame, whole_len, out, sizeof out);

@@ -12,7 +12,8 @@ const MaxFrame = 14 + 40 + 65535
 
 // Reassembler puts IPv4 and IPv6 packets together from their fragments (RFC 791, section 3.2; RFC 8200, section 4.5). The
 // fragments are kept for 60 seconds. If all places are in use, the packet that expires first makes room. Two goroutines
-// must not use one Reassembler at once.
+// must not use one Reassembler at once. A host calls Host.Answer for each fragment before. If there is an answer, the
+// fragment has a fault: send the answer, and discard the fragment.
 type Reassembler struct {
 	partials []C.struct_lk_partial
 	memory   []byte

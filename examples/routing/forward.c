@@ -214,6 +214,10 @@ static void on_packet(struct router *router, uint16_t from, struct lk_frame *in,
     enum table table = table_of(router, from, in);
     int rejection = LK_NOT_REJECTED;
     packet->len = ETHERNET_LEN + packet_len(packet->frame + ETHERNET_LEN);
+    if (table == FOR_OWN && in->is_fragment && is_used(router, &dst) && answer(router, from, &dst, packet)) {
+        router->answered++; /* by an error about a fault: the fragment is discarded */
+        return;
+    }
     if (table != NO_TABLE && !make_whole(router, from, table, in, packet))
         return;
     if (table != NO_TABLE)

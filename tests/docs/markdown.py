@@ -4,7 +4,7 @@
     tests/docs/markdown.py [TOP]
     tests/docs/markdown.py --links FOLDER   only the links of the pages in a folder
 
-- A link leads to a file, and to a heading of it.
+- A link leads to a file, and to a heading of it. README.md links to each page beside it.
 - A file, a call, a type, a law, a goal of make or another name of code that a page has in code type exists.
 - The files and goals of make that its commands name exist.
 - The lines of a fenced excerpt stand in one file of the sources. A line `..` skips lines. Rattle code that is a
@@ -181,6 +181,12 @@ def link_faults(page, pages):
                 yield number, "there is no heading " + target
 
 
+def unlinked(pages):
+    """The pages beside README.md to which it has no link."""
+    linked = {target for _, line in pages["README.md"].text for target in re.findall(r"\]\(([^)\s#]+)", line)}
+    return [path for path in pages if "/" not in path and path not in linked | {"README.md"}]
+
+
 def stands_in(lines, source):
     """Whether the lines stand in this order in the lines of a file, without gaps but where a line is `..`."""
     parts, at = [[]], 0
@@ -261,7 +267,7 @@ def main(top):
         spans = page.spans() if page.path not in UNNAMED else []
         found += [(starts[line], fault) for line, span in spans for fault in [span_fault(span, tree, folder)] if fault]
         faults += [f"{page.path}:{number}: {fault}" for number, fault in found]
-    return report(faults)
+    return report(faults + [f"README.md: no link to {path}" for path in unlinked(pages)])
 
 
 if __name__ == "__main__":

@@ -8,9 +8,9 @@ import dataclasses
 import itertools
 
 from host_packets import (ACK, ALL_NODES, ARP, BROADCAST, CLOSED, CWR, ECE, ECHO, FIN, IPV4, IPV6, NODE_GROUP, OPEN, OTHER_LINK, OUR_LINK,
-                          PSH, RST, SACK_PERMITTED, SYN, THEIR_LINK, URG, WRONG, Ipv4, Ipv6, accepted, addr, advertised, asked, echo_reply,
-                          echo_request, group_link, lladdr, mss, option, ping, pong, reset, scale, segment, solicited, timestamps, told,
-                          turned, udp, unknown, unreachable)
+                          PSH, RST, SACK_PERMITTED, SYN, TCP, THEIR_LINK, URG, WRONG, Ipv4, Ipv6, accepted, addr, advertised, asked,
+                          echo_reply, echo_request, group_link, headers_missing, lladdr, mss, option, ping, pong, reset, scale, segment,
+                          solicited, timestamps, told, turned, udp, unknown, unreachable, wrong_field)
 
 
 @dataclasses.dataclass
@@ -146,10 +146,11 @@ def ipv6_rows(v, name, ask, reply):
 # Whether a host skips extension headers (RFC 8200, section 4; RFC 6946), and each of them: its number, and its bytes after the number
 # of what follows. Of unknown options the highest bits of the type count.
 PADDING, ATOMIC, ROUTED = (60, "00010400000000"), (44, "a5000600000001"), (43, "00fd0000000000")
+FIRST, LAST = (44, "00000100000001"), (44, "00000800000001")
 EXTENSIONS = {"hop-by-hop-padding": (True, (0, "00010400000000")), "destination-padding": (True, PADDING), "routing-without-segments": (True, ROUTED),
               "atomic-fragment": (True, ATOMIC), "unknown-option-00": (True, (60, "001e0400000000")), "unknown-option-01": (False, (60, "005e0400000000")),
               "four": (True, (0, "003e0400000000"), ROUTED, ATOMIC, PADDING), "two-atomic-fragments": (True, ATOMIC, ATOMIC),
-              "first-fragment": (False, (44, "00000100000001")), "last-fragment": (False, (44, "00000800000001")),
+              "last-fragment": (False, LAST),
               "option-01-in-an-atomic-fragment": (False, ATOMIC, (60, "00010041020000")), "longer-header": (False, (60, "ff010400000000"))}
 
 
@@ -159,6 +160,22 @@ def extended(frame, *extensions):
         length = int.from_bytes(frame[18:20], "big") + 8
         frame = frame[:18] + length.to_bytes(2, "big") + bytes([number]) + frame[21:54] + frame[20:21] + bytes.fromhex(rest) + frame[54:]
     return frame
+
+
+def fragment_rows(v, name, ask):
+    """The first fragment of a packet with a length that is no multiple of 8, in blocks of 8, and 16 bytes of it (RFC 8200, section
+    4.5)."""
+    frame = extended(ask(v), FIRST)
+    blocks = with_length(frame + bytes(-(len(frame) - 62) % 8))
+    short = with_length(blocks[: 62 + 16])
+    yield row(f"{name}-first-fragment", frame, wrong_field(v, frame, 4))
+    yield row(f"{name}-first-fragment-in-blocks", blocks, None)
+    yield row(f"{name}-first-fragment-of-16-bytes", short, headers_missing(v, short) if ask(v)[20] == TCP else None)
+
+
+def with_length(frame):
+    """The frame with the length of its payload in the IPv6 header."""
+    return frame[:18] + (len(frame) - 54).to_bytes(2, "big") + frame[20:]
 
 
 def cut_rows(v, name, ask, reply):
@@ -186,6 +203,8 @@ def unserved_rows(v):
     limit = {"4": 548 - 28, "6": 1232 - 48}[v.name]
     for size in [0, 1, limit - 1, limit, limit + 1, 1400]:
         yield unserved(v, f"{name}-payload-{size}", ask(v, payload=bytes(3 * i % 251 for i in range(size))))
+    if v.name == "6":
+        yield from fragment_rows(v, name, ask)
     yield unserved(v, f"{name}-from-port-0", ask(v, src_port=0))
     yield unserved(v, f"{name}-from-port-7", ask(v, src_port=ECHO))
     for mask in WRONG:
@@ -268,7 +287,7 @@ def solicited_rows():
     yield row(f"{name}-target-cut", solicited(target=Ipv6.ours[:15], options=b""), None)
     yield row(f"{name}-padding", solicited(padding=bytes(6)), advertised())
     # A host ignores a solicitation after extension headers (RFC 6980, section 5, says so of fragment headers).
-    for what, (_, *extensions) in EXTENSIONS.items():
+    for what, (_, *extensions) in {**EXTENSIONS, "first-fragment": (False, FIRST)}.items():
         yield row(f"{name}-after-{what}", extended(solicited(), *extensions), None)
         yield row(f"{name}-to-ours-after-{what}", extended(solicited(dst=Ipv6.ours), *extensions), None)
     frame, size = solicited(), len(advertised())
@@ -490,6 +509,8 @@ def rows():
         for name, ask, reply in REQUESTS:
             for table in [link_rows, address_rows, no_address_rows, header_rows, ipv4_rows if v.name == "4" else ipv6_rows, cut_rows]:
                 yield from table(v, f"{name}{v.name}", ask, reply)
+            if v.name == "6":
+                yield from fragment_rows(v, f"{name}{v.name}", ask)
         for table in [udp_rows, udp_field_rows, unserved_rows, icmp_rows, flag_rows, number_rows, port_rows, option_rows, offer_rows, ignored_rows]:
             yield from table(v)
     yield from solicited_rows()

@@ -109,6 +109,16 @@ def unknown(v, frame):
     return icmp.error(frame, OUR_LINK, v.ours, icmp.UNKNOWN_HEADER, 6) if v.name == "6" else None
 
 
+def wrong_field(v, frame, pointer):
+    """The error about a field of an IPv6 packet (RFC 8200, section 4.5)."""
+    return icmp.error(frame, OUR_LINK, v.ours, icmp.WRONG_FIELD, pointer)
+
+
+def headers_missing(v, frame):
+    """The error about a first fragment without all headers (RFC 7112, section 5)."""
+    return icmp.error(frame, OUR_LINK, v.ours, icmp.HEADERS_MISSING)
+
+
 # The solicited-node group of 2001:db8::2 (RFC 4291, section 2.7.1), and the Ethernet address of a group (RFC 2464, section 7).
 NODE_GROUP = addr("ff02::1:ff00:2")
 ALL_NODES = addr("ff02::1")

@@ -11,8 +11,8 @@ SOLICITATION, ADVERTISEMENT = 135, 136
 # The types and codes of errors.
 EXPIRED, TOO_BIG, NO_ROUTE = {4: (11, 0), 6: (3, 0)}, {4: (3, 4), 6: (2, 0)}, {4: (3, 0), 6: (1, 0)}
 NO_NEIGHBOUR, CLOSED = {4: (3, 1), 6: (1, 3)}, {4: (3, 3), 6: (1, 4)}
-# Only over IPv6: an unknown next header.
-UNKNOWN_HEADER = {6: (4, 1)}
+# Only over IPv6: a wrong field, an unknown next header, and headers that are missing in a first fragment.
+WRONG_FIELD, UNKNOWN_HEADER, HEADERS_MISSING = {6: (4, 0)}, {6: (4, 1)}, {6: (4, 3)}
 # The longest packet with an error (RFC 1812, section 4.3.2.3; RFC 4443, section 2.4 c).
 LONGEST_ERROR = {4: 576, 6: 1280}
 QUERIES = {4: {0, 8, *range(13, 19)}, 6: set(range(128, 256)) - {137}}
@@ -102,7 +102,7 @@ def error(frame, hardware, own, kind, word=0):
         return None
     total_len = number(frame[16:18]) if version == 4 else 40 + number(frame[18:20])
     most = LONGEST_ERROR[version] - 8 - (20 if version == 4 else 40)
-    body = message(*kind[version], word if kind in (TOO_BIG, UNKNOWN_HEADER) else 0, frame[14 : 14 + min(most, total_len)], own, src)
+    body = message(*kind[version], word if kind in (TOO_BIG, WRONG_FIELD, UNKNOWN_HEADER) else 0, frame[14 : 14 + min(most, total_len)], own, src)
     return framed(body, own, src, hardware, frame[6:12])
 
 

@@ -72,6 +72,7 @@ __attribute__((constructor)) static void choose(void)
         "the ports of a later fragment", "a router alert of RSVP", "a query for another group taken",
         "a payload of 65536 bytes taken", "segments of one byte lost", "a connection changed by a ring that does not fit",
         "a byte written past those of the peer", "a payload that was cut as captured",
+        "a first fragment without all headers kept", "a fragment past byte 65,535 kept",
     };
     const char *number = getenv("FAULT");
     fault = number ? (enum fault)atoi(number) : NO_FAULT;
@@ -414,8 +415,9 @@ ptrdiff_t __wrap_lk_answer(const struct lk_host *host, const uint8_t *ptr, size_
             change_word(out + 58, (out[58] ^ flag) << 8, out + 56);
         return result;
     }
-    if (fault == DROPPED_OPTION_TOLD || fault == POINTER_TO_THE_HEADER)
-        return answer_option(host, ptr, len, out, cap);
+    if (fault == DROPPED_OPTION_TOLD || fault == POINTER_TO_THE_HEADER || fault == CUT_FIRST_FRAGMENT_KEPT ||
+        fault == LONG_FRAGMENT_KEPT)
+        return answer_problem(host, ptr, len, out, cap);
     if (fault == DSCP_OF_ECHO_LOST) {
         result = __real_lk_answer(host, ptr, len, out, cap);
         if (result > 34 && out[12] == 8 && out[13] == 0 && out[23] == 1 && out[34] == 0)

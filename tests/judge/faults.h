@@ -129,6 +129,8 @@ enum fault {
     CHANGED_BY_ANOTHER_RING,
     READ_PAST_THE_END,
     PAYLOAD_AS_CAPTURED,
+    CUT_FIRST_FRAGMENT_KEPT,
+    LONG_FRAGMENT_KEPT,
     FAULTS
 };
 
@@ -138,8 +140,8 @@ extern enum fault fault;
 /* Changes a word of a header and the checksum over it. */
 void change_word(uint8_t *word, unsigned value, uint8_t *checksum);
 
-/* Answers about an IPv6 option, with a fault of parameter problems. */
+/* Answers with a fault of parameter problems. */
 struct lk_host;
-ptrdiff_t answer_option(const struct lk_host *host, const uint8_t *ptr, size_t len, uint8_t *out, size_t cap);
+ptrdiff_t answer_problem(const struct lk_host *host, const uint8_t *ptr, size_t len, uint8_t *out, size_t cap);
 
 #endif

@@ -43,8 +43,16 @@ ptrdiff_t __wrap_lk_emit_icmp_error(const struct lk_interface *own, int problem,
     return result;
 }
 
-/* Answers about a destination option with the highest bits 01 as about one with 10; or with a pointer that is too low. */
-ptrdiff_t answer_option(const struct lk_host *host, const uint8_t *ptr, size_t len, uint8_t *out, size_t cap)
+/* Whether an answer is the error about a fragment that has to be discarded. */
+static int is_about_fragment(const uint8_t *answer, ptrdiff_t len, unsigned code, unsigned pointer)
+{
+    return len >= 110 && answer[12] == 0x86 && answer[20] == 58 && answer[54] == 4 && answer[55] == code &&
+           answer[61] == pointer && answer[68] == 44;
+}
+
+/* Answers about a destination option with the highest bits 01 as about one with 10; or with a pointer that is too low. Or
+ * not at all about a fragment. */
+ptrdiff_t answer_problem(const struct lk_host *host, const uint8_t *ptr, size_t len, uint8_t *out, size_t cap)
 {
     ptrdiff_t result;
     if (fault == DROPPED_OPTION_TOLD && len >= 62 && len <= sizeof copy && ptr[12] == 0x86 && ptr[20] == 60 &&
@@ -54,6 +62,9 @@ ptrdiff_t answer_option(const struct lk_host *host, const uint8_t *ptr, size_t l
         return __real_lk_answer(host, copy, len, out, cap);
     }
     result = __real_lk_answer(host, ptr, len, out, cap);
+    if ((fault == CUT_FIRST_FRAGMENT_KEPT && is_about_fragment(out, result, 3, 0)) ||
+        (fault == LONG_FRAGMENT_KEPT && is_about_fragment(out, result, 0, 42)))
+        return 0;
     if (fault == POINTER_TO_THE_HEADER && result > 62 && out[12] == 0x86 && out[20] == 58 && out[54] == 4 && out[61] >= 40)
         change_word(out + 60, out[60] * 256u + out[61] - 40u, out + 56);
     return result;

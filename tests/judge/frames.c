@@ -107,7 +107,7 @@ static unsigned make_transport(size_t at, size_t most, int is_ipv6)
 }
 
 /* An IPv6 extension header: mostly without segments left, of padding only, or of an atomic fragment or the first of
- * several. Returns its length. */
+ * several; some are of a fragment at the highest offset. Returns its length. */
 static size_t make_extension(uint8_t *header, uint8_t number)
 {
     size_t units = number == 44 ? 0 : one_in(64) ? below(256) : below(4), len = number == 51 ? 8 + 4 * units : 8 + 8 * units;
@@ -116,6 +116,8 @@ static size_t make_extension(uint8_t *header, uint8_t number)
         header[1] = (uint8_t)units;
     else if (!one_in(6))
         put_word(header + 2, (unsigned)any() & (one_in(3) ? 7 : 6));
+    else if (one_in(2))
+        put_word(header + 2, 0xfff8 | (unsigned)below(8));
     if (number == 43 && !one_in(8))
         put_word(header + 2, 253 << 8); /* a type for experiments */
     if ((number == 0 || number == 60) && !one_in(3))
@@ -129,7 +131,7 @@ static unsigned make_extended(size_t at, size_t most)
 {
     static const uint8_t numbers[] = {0, 44, 43, 51, 60};
     uint8_t first = one_in(3) ? 44 : numbers[below(5)], number = first;
-    size_t count = 1 + below(4);
+    size_t count = 1 + below(4), blocks = 1 + below(8), end = at + 8 * blocks;
     for (;;) {
         uint8_t *header = made.octets + at;
         at += make_extension(header, number);
@@ -142,6 +144,8 @@ static unsigned make_extended(size_t at, size_t most)
         header[0] = (uint8_t)(one_in(24) ? (unsigned)any() : made.upper);
         if (one_in(24))
             made.end = at - below(24); /* the last header ends after the packet */
+        else if (one_in(8) && end < made.end)
+            made.end = end; /* a fragment of whole blocks, in which headers may be missing */
         return first;
     }
 }

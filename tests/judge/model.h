@@ -166,9 +166,16 @@ size_t put_ndisc(const struct lk_ndisc *ndisc, const struct lk_addr *src, const 
 size_t put_icmp_error(const struct lk_interface *own, int problem, uint32_t mtu, const uint8_t *octets, size_t len,
                       uint8_t *out);
 
-/* Whether an ICMP error may be sent about a frame whose packet has `len` bytes, its header `header_len` of them. */
+/* Whether this is the number of an extension header. */
+int is_extension_header(unsigned protocol);
+
+/* The length of an extension header of which `len` bytes are there. */
+size_t extension_header_len(unsigned number, const uint8_t *header, size_t len);
+
+/* Whether an ICMP error may be sent about a frame whose packet has `len` bytes, its header `header_len` of them. If
+ * `is_cut_told`, also if its IPv6 extension headers end early. */
 int is_told_of(const struct lk_interface *own, const struct lk_frame *frame, const uint8_t *packet, size_t len,
-               size_t header_len);
+               size_t header_len, int is_cut_told);
 
 /* Writes the frame with an ICMP error that quotes the packet of a frame. */
 size_t put_error_message(const struct lk_interface *own, const struct lk_frame *frame, const struct lk_icmp *icmp,

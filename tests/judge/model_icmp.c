@@ -130,7 +130,7 @@ int is_answered(const struct lk_interface *own, const struct lk_addr *src)
 }
 
 /* The numbers of extension headers, but for ESP (RFC 7045, section 4). */
-static int is_extension_header(unsigned protocol)
+int is_extension_header(unsigned protocol)
 {
     static const uint8_t numbers[] = {0, 43, 44, 51, 60, 135, 139, 140};
     return memchr(numbers, (int)protocol, sizeof numbers) != 0;
@@ -148,22 +148,25 @@ static int is_no_query(int is_ipv4, unsigned protocol, const uint8_t *message, s
     return message[0] < 128 || message[0] == 137;
 }
 
-/* Whether the headers after an IPv6 header show that an error may be sent (RFC 8200, section 4; the length of an
- * authentication header: RFC 4302, section 2.2). In a later fragment only the number after its header is known. */
-static int is_told_of_ipv6(unsigned protocol, const uint8_t *header, size_t len)
+/* The length of an extension header with this number, 8 if its own length is cut (RFC 8200, section 4; of an authentication
+ * header RFC 4302, section 2.2). */
+size_t extension_header_len(unsigned number, const uint8_t *header, size_t len)
+{
+    if (number == 44 || len < 2)
+        return 8;
+    return number == 51 ? (header[1] + 2u) * 4 : (header[1] + 1u) * 8;
+}
+
+/* Whether the headers after an IPv6 header show that an error may be sent. In a later fragment only the number after its
+ * header is known. Of headers that end early: `is_cut_told`. */
+static int is_told_of_ipv6(unsigned protocol, const uint8_t *header, size_t len, int is_cut_told)
 {
     while (is_extension_header(protocol)) {
-        size_t header_len = 8;
-        if (len < 8)
-            return 0;
-        if (protocol == 44 && get_word(header + 2) >= 8)
-            return header[0] != 58 && !is_extension_header(header[0]);
-        if (protocol == 51)
-            header_len = (header[1] + 2u) * 4;
-        else if (protocol != 44)
-            header_len = (header[1] + 1u) * 8;
+        const size_t header_len = extension_header_len(protocol, header, len);
         if (len < header_len)
-            return 0;
+            return is_cut_told;
+        if (protocol == 44 && get_word(header + 2) >= 8)
+            return is_extension_header(header[0]) ? is_cut_told : header[0] != 58;
         protocol = header[0];
         header += header_len;
         len -= header_len;
@@ -173,7 +176,7 @@ static int is_told_of_ipv6(unsigned protocol, const uint8_t *header, size_t len)
 
 /* Whether an error may be sent about a frame whose packet has `len` bytes, its header `header_len` of them. */
 int is_told_of(const struct lk_interface *own, const struct lk_frame *frame, const uint8_t *packet, size_t len,
-               size_t header_len)
+               size_t header_len, int is_cut_told)
 {
     const struct lk_addr *own_addr = frame->network == LK_IPV4 ? &own->ipv4 : &own->ipv6;
     if (memcmp(frame->ethernet.dst, own->hardware, 6) != 0 || !is_unicast_hardware(frame->ethernet.src) ||
@@ -181,7 +184,7 @@ int is_told_of(const struct lk_interface *own, const struct lk_frame *frame, con
         !is_host(own_addr))
         return 0;
     if (frame->network == LK_IPV6)
-        return is_told_of_ipv6(frame->ip.protocol, packet + header_len, len - header_len);
+        return is_told_of_ipv6(frame->ip.protocol, packet + header_len, len - header_len, is_cut_told);
     return frame->ip.fragment_offset == 0 && !is_no_query(1, frame->ip.protocol, packet + header_len, len - header_len);
 }
 
@@ -240,7 +243,7 @@ size_t put_icmp_error(const struct lk_interface *own, int problem, uint32_t mtu,
         return 0;
     packet_len = is_ipv4 ? get_word(packet + 2) : 40 + get_word(packet + 4);
     header_len = is_ipv4 ? 4u * (packet[0] & 15) : 40;
-    if (!is_told_of(own, &frame, packet, packet_len, header_len) || !has_problem(problem, mtu, &frame, packet_len))
+    if (!is_told_of(own, &frame, packet, packet_len, header_len, 0) || !has_problem(problem, mtu, &frame, packet_len))
         return 0;
     icmp = message_for(problem, mtu, is_ipv4);
     return put_error_message(own, &frame, &icmp, packet, packet_len, out);

@@ -1,4 +1,4 @@
-/* The model of errors about IPv6 extension headers (RFC 8200, section 4; RFC 4443, section 3.4). */
+/* The model of errors about IPv6 extension headers and fragments (RFC 8200, section 4; RFC 4443, section 3.4). */
 #include <string.h>
 #include "model.h"
 
@@ -7,6 +7,7 @@ struct wrong {
     int code; /* of the error; NOTHING, or DROPPED: the packet is dropped without an error */
     size_t pointer;
     int is_told_to_groups;
+    int is_cut_told; /* also about a packet whose extension headers end early */
 };
 
 enum { NOTHING = -1, DROPPED = -2 };
@@ -15,7 +16,7 @@ enum { NOTHING = -1, DROPPED = -2 };
 static struct wrong wrong_options(const uint8_t *packet, size_t at, size_t end)
 {
     static const int codes[] = {NOTHING, DROPPED, 2, 2};
-    struct wrong wrong = {NOTHING, 0, 0};
+    struct wrong wrong = {NOTHING, 0, 0, 0};
     while (at != end && wrong.code == NOTHING) {
         const unsigned action = packet[at] / 64u;
         const size_t left = end - at;
@@ -34,12 +35,60 @@ static struct wrong wrong_options(const uint8_t *packet, size_t at, size_t end)
     return wrong;
 }
 
+/* Whether the headers from this one through that of an upper-layer protocol are there: of TCP 20 bytes, of UDP 8, of ICMPv6
+ * 4, nothing after "no next header", and a byte of any other protocol (section 4.5; RFC 7112, section 3). Nothing is known
+ * of what follows the header of a later fragment. */
+static int has_all_headers(unsigned number, const uint8_t *header, size_t len)
+{
+    while (is_extension_header(number)) {
+        const size_t header_len = extension_header_len(number, header, len);
+        if (header_len > len)
+            return 0;
+        if (number == 44 && get_word(header + 2) >= 8)
+            return header[0] == 59;
+        number = header[0];
+        header += header_len;
+        len -= header_len;
+    }
+    switch (number) {
+    case 6:
+        return len >= 20;
+    case 17:
+        return len >= 8;
+    case 58:
+        return len >= 4;
+    case 59:
+        return 1;
+    default:
+        return len >= 1;
+    }
+}
+
+/* A fragment, whose header is at `at` (section 4.5). */
+static struct wrong wrong_fragment(const uint8_t *packet, size_t len, size_t at)
+{
+    const unsigned place = get_word(packet + at + 2) & 0xfff8;
+    const int is_followed = packet[at + 3] & 1;
+    const size_t left = len - at - 8;
+    struct wrong wrong = {0, 0, 0, 1};
+    if (is_followed && left % 8 != 0) {
+        wrong.pointer = 4;
+    } else if (at - 40 + place + left > 65535) {
+        wrong.pointer = at + 2;
+    } else if (is_followed && place == 0 && !has_all_headers(packet[at], packet + at + 8, left)) {
+        wrong.code = 3;
+    } else {
+        wrong.code = NOTHING;
+    }
+    return wrong;
+}
+
 /* The headers after the IPv6 header, by their numbers. Stores where the number of what follows them is, and where that
  * begins. They end at the header of a fragment: an offset or the flag M (section 4.5; RFC 6946). */
 static struct wrong wrong_headers(const uint8_t *packet, size_t len, size_t *named, size_t *at)
 {
     size_t header_len;
-    struct wrong wrong = {NOTHING, 0, 0};
+    struct wrong wrong = {NOTHING, 0, 0, 0};
     *named = 6, *at = 40;
     while (wrong.code == NOTHING && !memchr("\6\21\72\73", packet[*named], 4)) {
         const unsigned number = packet[*named];
@@ -56,7 +105,7 @@ static struct wrong wrong_headers(const uint8_t *packet, size_t len, size_t *nam
             wrong = wrong_options(packet, *at + 2, *at + header_len);
         } else if (number == 44) {
             if (get_word(packet + *at + 2) & 0xfff9)
-                return wrong;
+                return wrong_fragment(packet, len, *at);
         } else if (packet[*at + 3] != 0) {
             wrong.code = 0;
             wrong.pointer = *at + 2;
@@ -99,7 +148,7 @@ size_t put_parameter_problem(const struct lk_interface *own, const struct lk_fra
         memcpy(asked.ethernet.dst, own->hardware, 6);
         asked.dst.addr = own->ipv6;
     }
-    if (!is_same(&asked.dst.addr, &own->ipv6) || !is_told_of(own, &asked, packet, len, 40))
+    if (!is_same(&asked.dst.addr, &own->ipv6) || !is_told_of(own, &asked, packet, len, 40, wrong.is_cut_told))
         return 0;
     return put_error_message(own, frame, &icmp, packet, len, out);
 }

@@ -38,7 +38,7 @@ struct octets cut(const struct octets *octets, size_t len, const struct change c
 {
     struct octets found = *octets;
     found.len = len;
-    for (int i = 0; i < CHANGES && changes[i].at; i++)
+    for (int i = 0; i < CHANGES && (changes[i].at || changes[i].octet); i++)
         found.at[changes[i].at] = changes[i].octet;
     return found;
 }

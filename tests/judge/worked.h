@@ -17,7 +17,7 @@ struct octets {
 #include "worked_frames.inc"
 #undef FRAME
 
-/* A byte that gets another value. Byte 0 is no change: it ends a list. */
+/* A byte that gets another value. Byte 0 with the value 0 is no change: it ends a list. */
 struct change {
     size_t at;
     uint8_t octet;

@@ -29,7 +29,7 @@ from waits import LATEST, until
 
 LENGTHS = (1473, 2000, 8000, 60_000, 65_506, 65_507)
 IPV6_LENGTHS = (1453, 2000, 8000, 60_000, 65_487, 65_527)
-UDP, MORE, FRAGMENT = 17, 0x2000, 44
+UDP, MORE, FRAGMENT, DESTINATION = 17, 0x2000, 44, 60
 # The kernel at most so many bytes, and one of another MTU.
 CUTS = (1480, 552, 8)
 SILENCE = 0.3  # seconds
@@ -147,6 +147,28 @@ def echo_over_ipv6(side, src, dst, hardware):
         check("echo over IPv6", side.came_out.count(expected) == 1, (length, most))
 
 
+def faulty_over_ipv6(side, src, dst, hardware):
+    """The sender of a faulty fragment is told, and the fragment is discarded (RFC 8200, section 4.5)."""
+    side.forget()
+    options = bytes([icmp.ICMPV6, 1, 1, 12]) + bytes(12)
+    # The first fragment has half of the options, the second one 9 bytes, and the third one ends after byte 65,535.
+    cut_short, *others = cut_ipv6(src, dst, 80, DESTINATION, options + icmp.echo_request(src, dst, 8, 9, b"data"), 8)
+    odd = cut_ipv6(src, dst, 81, UDP, bytes(18), 9)[0]
+    far = cut_ipv6(src, dst, 82, UDP, bytes(8), 8)[0]
+    far = far[:42] + (65528).to_bytes(2, "big") + far[44:]
+    for frame in framed([cut_short, *others, odd, far], hardware):
+        side.sock.send(frame)
+    told = [icmp.framed(icmp.message(4, code, pointer, one, dst, src), dst, src, hardware, ELSEWHERE)
+            for one, code, pointer in ((cut_short, 3, 0), (odd, 0, 4), (far, 0, 42))]
+    end = time.monotonic() + LATEST
+    while not set(told) <= set(side.came_out) and time.monotonic() < end:
+        side.take(0.02)
+    time.sleep(SILENCE)
+    settle(side)
+    found = [one for one in side.came_out if one.startswith(ELSEWHERE)]
+    check("faulty fragments", sorted(found) == sorted(told), [one.hex() for one in found])
+
+
 def without_advert(side, src, dst, hardware):
     """A neighbour solicitation in fragments is dropped (RFC 6980), and one without them is answered."""
     side.forget()
@@ -174,6 +196,7 @@ def to_host(device):
     after_losses(side, socket.inet_aton("10.77.0.96"), addr, HOST_HARDWARE)
     addrs = [socket.inet_pton(socket.AF_INET6, one) for one in ("fd77::99", host6)]
     echo_over_ipv6(side, *addrs, HOST_HARDWARE)
+    faulty_over_ipv6(side, *addrs, HOST_HARDWARE)
     without_advert(side, *addrs, HOST_HARDWARE)
 
 
@@ -246,6 +269,7 @@ def to_router(program, clock):
     after_losses(sides["left"], FAR_LEFT, own, hardware)
     addrs = [socket.inet_pton(socket.AF_INET6, one) for one in ("3fff::7", "fd01::1")]
     echo_over_ipv6(sides["left"], *addrs, hardware)
+    faulty_over_ipv6(sides["left"], *addrs, hardware)
     addrs[0] = socket.inet_pton(socket.AF_INET6, "fd01::77")
     without_advert(sides["left"], *addrs, hardware)
     before = router.counters()

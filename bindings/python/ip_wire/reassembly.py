@@ -17,7 +17,8 @@ class Reassembler:
     first makes room.
 
     `now` is a clock in milliseconds that never goes back, by default `time.monotonic`. Fragments are kept for 60 seconds.
-    Two threads must not use one reassembler at once.
+    Two threads must not use one reassembler at once. A host calls `Host.answer` for each fragment before. If there is an
+    answer, the fragment has a fault: send the answer, and discard the fragment.
     """
 
     def __init__(self, packets: int = 64, longest: int = 65535) -> None:

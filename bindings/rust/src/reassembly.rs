@@ -63,7 +63,8 @@ impl Partial {
 ///
 /// Each packet has a [`Partial`] and an equal part of the memory. Fragments are kept for 60 seconds. If all are in use,
 /// the packet that expires first makes room. `ip_wire.h` describes which fragments belong together, and which contradict
-/// each other.
+/// each other. A host calls [`Host::answer`](crate::Host::answer) for each fragment before. If there is an answer, the
+/// fragment has a fault: send the answer, and discard the fragment.
 ///
 /// ```
 /// use ip_wire_c::{Error, Frame, Partial, Reassembler};

@@ -12,15 +12,16 @@ use Rattle.wire_icmp.specs.Icmp.{bytes_of, protocol_of}
 use Rattle.wire_icmp.specs.declared.IcmpRepr.{IcmpRepr}
 use Rattle.app_host.proofs.Ipv6Chains.{leads_once}
 use Rattle.app_host.proofs.Messages.{icmp_values, sendable_icmp, values_icmp}
-use Rattle.app_host.specs.IcmpError.{IsBetweenHosts, IsErrorTo, IsIcmpError, IsToGroup, IsToReceiver, IsToldOf, header_from, quoted}
-use Rattle.app_host.specs.Ipv6Chain.{LeadsTo}
+use Rattle.app_host.specs.IcmpError.{CarriesNoError, IsBetweenHosts, IsErrorTo, IsIcmpError, IsToGroup, IsToReceiver, IsToldOf, IsToldOfHeaders, header_from, quoted}
+use Rattle.app_host.specs.Ipv6Chain.{LeadsNowhere, LeadsTo}
 use Rattle.app_host.specs.Message.{Gives, message_frame}
+use Rattle.app_host.specs.declared.icmp_error.About.{About}
+use Rattle.app_host.specs.declared.icmp_error.About.TheVariants.{Fragments, Groups, Hosts}
 use Rattle.app_host.specs.declared.interface.Interface.{Interface}
 use Rattle.app_host.specs.declared.message.Message.TheVariants.{Icmp}
 
 -- an error may be sent if the upper-layer protocol carries none
-pub told_after : (p n : ℕ) (m bytes : List ℕ) (b : Bool) → LeadsTo p m n bytes → (IsTrue b ↔ IsIcmpError version.Ipv6 p m)
-    → IsTrue (not b) ↔ ((q : ℕ) × (k : List ℕ) × LeadsTo q k n bytes × ¬ IsIcmpError version.Ipv6 q k)
+told_after : (p n : ℕ) (m bytes : List ℕ) (b : Bool) → LeadsTo p m n bytes → (IsTrue b ↔ IsIcmpError version.Ipv6 p m) → IsTrue (not b) ↔ CarriesNoError n bytes
 told_after p n m bytes true leads is = (
   λ on. absurd cc,
   λ (q, k, others, none).
@@ -29,15 +30,35 @@ told_after p n m bytes true leads is = (
 )
 told_after p n m bytes false leads is = (λ on. (p, m, leads, λ error. let on : false ≡ true = is.1 error in absurd cc), λ may. refl)
 
+pub told_by : (about : About) (p n : ℕ) (m bytes : List ℕ) (b : Bool) → LeadsTo p m n bytes → (IsTrue b ↔ IsIcmpError version.Ipv6 p m)
+    → IsTrue (not b) ↔ IsToldOfHeaders about n bytes
+told_by Hosts p n m bytes b leads is = told_after p n m bytes b leads is
+told_by Groups p n m bytes b leads is = told_after p n m bytes b leads is
+told_by Fragments p n m bytes b leads is =
+    let same = told_after p n m bytes b leads is in (
+      λ on. inl (same.0 on),
+      λ may. elim may [
+        | inl told ↦ same.1 told
+        | inr none ↦ absurd (none p m leads)
+      ],
+    )
+
+-- if there is none, an error is sent about a fragment only
+pub told_nowhere : (about : About) (n : ℕ) (bytes : List ℕ) (b : Bool) → LeadsNowhere n bytes → (IsTrue b ↔ (about ≡ Fragments)) → IsTrue b ↔ IsToldOfHeaders about n bytes
+told_nowhere Hosts n bytes b none is = (λ on. absurd (let same = is.0 on in cc), λ (p, m, leads, told). absurd (none p m leads))
+told_nowhere Groups n bytes b none is = (λ on. absurd (let same = is.0 on in cc), λ (p, m, leads, told). absurd (none p m leads))
+told_nowhere Fragments n bytes b none is = (λ on. inr none, λ may. is.1 refl)
+
 -- a packet that goes from one other host to one host goes to a receiver
-pub to-host : (to_groups : Bool) (ours : Interface) (link : EthernetRepr) (v : IpRepr) → IsBetweenHosts ours link v → IsToReceiver to_groups ours link v
-to-host true ours link (Ipv6 v) hosts = inl hosts
-to-host true ours link (Ipv4 v) hosts = hosts
-to-host false ours link v hosts = hosts
+pub to-host : (about : About) (ours : Interface) (link : EthernetRepr) (v : IpRepr) → IsBetweenHosts ours link v → IsToReceiver about ours link v
+to-host Groups ours link (Ipv6 v) hosts = inl hosts
+to-host Groups ours link (Ipv4 v) hosts = hosts
+to-host Hosts ours link v hosts = hosts
+to-host Fragments ours link v hosts = hosts
 
 -- so does one to a group of ours, and no other packet
 pub to-group : (b : Bool) (ours : Interface) (link : EthernetRepr) (v : Ipv6Repr) → ¬ IsBetweenHosts ours link (Ipv6 v) → (IsTrue b ↔ IsToGroup ours link v)
-    → IsTrue b ↔ IsToReceiver true ours link (Ipv6 v)
+    → IsTrue b ↔ IsToReceiver Groups ours link (Ipv6 v)
 to-group b ours link v none is = (
   λ on. inr (is.0 on),
   λ to. elim to [
@@ -47,18 +68,18 @@ to-group b ours link v none is = (
 )
 
 -- a frame without an Ethernet header, or without an IP header, gets no error
-pub no_link : (to_groups : Bool) (ours : Interface) (frame : List ℕ) (message : IcmpRepr) → ((link : EthernetRepr) → ¬ ethernet.Reads frame link) → Gives (IsErrorTo to_groups ours frame message) None
-no_link to_groups ours frame message none h c (v, e) = none e.asked_link e.reads_link
+pub no_link : (about : About) (ours : Interface) (frame : List ℕ) (message : IcmpRepr) → ((link : EthernetRepr) → ¬ ethernet.Reads frame link) → Gives (IsErrorTo about ours frame message) None
+no_link about ours frame message none h c (v, e) = none e.asked_link e.reads_link
 
-pub no_header : (to_groups : Bool) (ours : Interface) (frame : List ℕ) (message : IcmpRepr) → ((v : IpRepr) → ¬ Reads (drop 14 frame) true v) → Gives (IsErrorTo to_groups ours frame message) None
-no_header to_groups ours frame message none h c (v, e) = none v e.reads
+pub no_header : (about : About) (ours : Interface) (frame : List ℕ) (message : IcmpRepr) → ((v : IpRepr) → ¬ Reads (drop 14 frame) true v) → Gives (IsErrorTo about ours frame message) None
+no_header about ours frame message none h c (v, e) = none v e.reads
 
 -- nor does one that does not go to a receiver, or that may not be told of
-pub untold : (to_groups : Bool) (ours : Interface) (frame : List ℕ) (message : IcmpRepr) (link : EthernetRepr) (v : IpRepr) → ((l : EthernetRepr) → ethernet.Reads frame l → l ≡ link)
-    → ((w : IpRepr) → Reads (drop 14 frame) true w → w ≡ v) → ¬ (IsToReceiver to_groups ours link v × IsToldOf v (drop 14 frame)) → Gives (IsErrorTo to_groups ours frame message) None
-untold to_groups ours frame message link v one_link one_header none h c (w, e) =
+pub untold : (about : About) (ours : Interface) (frame : List ℕ) (message : IcmpRepr) (link : EthernetRepr) (v : IpRepr) → ((l : EthernetRepr) → ethernet.Reads frame l → l ≡ link)
+    → ((w : IpRepr) → Reads (drop 14 frame) true w → w ≡ v) → ¬ (IsToReceiver about ours link v × IsToldOf about v (drop 14 frame)) → Gives (IsErrorTo about ours frame message) None
+untold about ours frame message link v one_link one_header none h c (w, e) =
     let same = one_header w e.reads in
-    none (subst (IsToReceiver to_groups ours link) same (subst (λ l. IsToReceiver to_groups ours l w) (one_link e.asked_link e.reads_link) e.hosts), subst (λ x. IsToldOf x (drop 14 frame)) same e.told_of)
+    none (subst (IsToReceiver about ours link) same (subst (λ l. IsToReceiver about ours l w) (one_link e.asked_link e.reads_link) e.hosts), subst (λ x. IsToldOf about x (drop 14 frame)) same e.told_of)
 
 -- a quote is short
 within : (ours : Interface) (v : IpRepr) (bytes : List ℕ) → 8 + length (quoted (version_of v) bytes) ≤ max_payload_len (header_from ours v)
@@ -82,10 +103,10 @@ same-values ours (Ipv4 v) message quote = refl
 same-values ours (Ipv6 v) message quote = refl
 
 -- any other gets one
-pub told : (to_groups : Bool) (ours : Interface) (frame : List ℕ) (message : IcmpRepr) (link : EthernetRepr) (v : IpRepr) (quote : Bor (List ℕ)) → ethernet.Reads frame link → Reads (drop 14 frame) true v
-    → IsToReceiver to_groups ours link v → IsToldOf v (drop 14 frame) → quote.now ≡ quoted (version_of v) (drop 14 frame)
-    → Gives (IsErrorTo to_groups ours frame message) (Some (message_frame ours.hardware_addr link.src_addr (header_from ours v) (Icmp message quote)))
-told to_groups ours frame message link v quote reads_link reads hosts told_of quotes =
+pub told : (about : About) (ours : Interface) (frame : List ℕ) (message : IcmpRepr) (link : EthernetRepr) (v : IpRepr) (quote : Bor (List ℕ)) → ethernet.Reads frame link → Reads (drop 14 frame) true v
+    → IsToReceiver about ours link v → IsToldOf about v (drop 14 frame) → quote.now ≡ quoted (version_of v) (drop 14 frame)
+    → Gives (IsErrorTo about ours frame message) (Some (message_frame ours.hardware_addr link.src_addr (header_from ours v) (Icmp message quote)))
+told about ours frame message link v quote reads_link reads hosts told_of quotes =
     let back = header_from ours v in
     let len : 8 + length quote.now ≤ max_payload_len back = omega (arith, ap length quotes, within ours v (drop 14 frame)) in (
       sendable_icmp ours.hardware_addr link.src_addr back message quote len,

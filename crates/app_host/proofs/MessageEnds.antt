@@ -97,7 +97,7 @@ icmp-faultless ours bytes header asked c (Ipv6 v) m is protocol e =
     let asks = e.asks in
     let ip : e.ip ≡ v = cc in
     let number : number_of e.ip.next_header ≡ 58 = ap (λ (x : Ipv6Repr). number_of x.next_header) ip ∙ ap number_of protocol in
-    absurd (let none = no-fault e.payload in let some = subst (λ n. fault_of n e.payload ≡ Some (Reported e.code e.pointer e.to_groups)) number e.fault in cc)
+    absurd (let none = no-fault e.payload in let some = subst (λ n. fault_of n e.payload ≡ Some (Reported e.code e.pointer e.about)) number e.fault in cc)
 
 -- ---- the replies
 

@@ -1,5 +1,5 @@
 -- A frame has at most one echo reply, one advertisement, one error with a message, and one parameter problem.
-use Rattle.std.proofs.Common.{ℕ, ◌≡◌, ◌∙◌, inl, inr, Bool, List, Option, arith, drop, false, length, sym, ap, subst, true}
+use Rattle.std.proofs.Common.{ℕ, ◌≡◌, ◌∙◌, inl, inr, Bool, List, Option, arith, drop, length, sym, ap, subst, true}
 use Rattle.app_host.proofs.IcmpErrors.{error_values}
 use Rattle.app_host.proofs.RepliesOnce.{IsOne}
 use Rattle.app_host.specs.IcmpEcho.{IsIcmpEcho}
@@ -8,6 +8,8 @@ use Rattle.app_host.specs.Interface.{header_back}
 use Rattle.app_host.specs.Ipv6Fault.{fault_of}
 use Rattle.app_host.specs.Neighbour.{IsAnsweredTo, IsNeighbourReply, advert_header, advert_of}
 use Rattle.app_host.specs.ParameterProblem.{IsParameterProblem}
+use Rattle.app_host.specs.declared.icmp_error.About.{About}
+use Rattle.app_host.specs.declared.icmp_error.About.TheVariants.{Hosts}
 use Rattle.app_host.specs.declared.interface.Interface.{Interface}
 use Rattle.app_host.specs.declared.ipv6_fault.Fault.TheVariants.{Reported}
 use Rattle.ip_wire.proofs.EthernetComputed.{Reads-is}
@@ -39,8 +41,8 @@ header-once bytes (Ipv6 v) (Ipv6 w) r s = ap Ipv6 (ipv6.Reads-is bytes v r.heade
 header-once bytes (Ipv4 v) (Ipv6 w) r s = absurd (omega (arith, r.version.number, s.version.number))
 header-once bytes (Ipv6 v) (Ipv4 w) r s = absurd (omega (arith, r.version.number, s.version.number))
 
-pub error-to-once : (to_groups : Bool) (ours : Interface) (frame : List ℕ) (message : IcmpRepr) → IsOne (IsErrorTo to_groups ours frame message)
-error-to-once to_groups ours frame message h k c d (v, e) (w, g) =
+pub error-to-once : (about : About) (ours : Interface) (frame : List ℕ) (message : IcmpRepr) → IsOne (IsErrorTo about ours frame message)
+error-to-once about ours frame message h k c d (v, e) (w, g) =
     let same : v ≡ w = header-once (drop 14 frame) v w e.reads g.reads in
     let link : e.asked_link ≡ g.asked_link = link-once frame e.asked_link g.asked_link e.reads_link g.reads_link in (
       e.link ∙ (λ i. record { src_addr = ours.hardware_addr; dst_addr = (link i).src_addr; ethertype = type_of (same i) }) ∙ sym g.link,
@@ -48,7 +50,7 @@ error-to-once to_groups ours frame message h k c d (v, e) (w, g) =
     )
 
 pub error-once : (ours : Interface) (frame : List ℕ) (message : IcmpRepr) → IsOne (IsError ours frame message)
-error-once ours frame message = error-to-once false ours frame message
+error-once ours frame message = error-to-once Hosts ours frame message
 
 -- the first fault of a packet is one
 pub problem-once : (ours : Interface) (frame : List ℕ) (asked : Carried) → IsOne (IsParameterProblem ours frame asked)
@@ -58,17 +60,17 @@ problem-once ours frame asked h k c d e g =
     let asks : packet (Ipv6 e.ip) (other e.payload) ≡ packet (Ipv6 g.ip) (other g.payload) = cc in
     let ip : e.ip ≡ g.ip = cc in
     let payload : e.payload ≡ g.payload = cc in
-    let fault : Reported e.code e.pointer e.to_groups ≡ Reported g.code g.pointer g.to_groups =
+    let fault : Reported e.code e.pointer e.about ≡ Reported g.code g.pointer g.about =
     computed-one _ _ _ (sym (λ i. fault_of (number_of (ip i).next_header) (payload i)) ∙ e.fault) g.fault
     in
     let code : e.code ≡ g.code = cc in
     let pointer : e.pointer ≡ g.pointer = cc in
-    let to_groups : e.to_groups ≡ g.to_groups = cc in
-    let tells : IsErrorTo g.to_groups ours frame (ParamProblem g.code g.pointer) h c =
-    subst (λ t. IsErrorTo t ours frame (ParamProblem g.code g.pointer) h c) to_groups
-    (subst (λ p. IsErrorTo e.to_groups ours frame (ParamProblem g.code p) h c) pointer (subst (λ n. IsErrorTo e.to_groups ours frame (ParamProblem n e.pointer) h c) code e.tells))
+    let about : e.about ≡ g.about = cc in
+    let tells : IsErrorTo g.about ours frame (ParamProblem g.code g.pointer) h c =
+    subst (λ t. IsErrorTo t ours frame (ParamProblem g.code g.pointer) h c) about
+    (subst (λ p. IsErrorTo e.about ours frame (ParamProblem g.code p) h c) pointer (subst (λ n. IsErrorTo e.about ours frame (ParamProblem n e.pointer) h c) code e.tells))
     in
-    error-to-once g.to_groups ours frame (ParamProblem g.code g.pointer) h k c d tells g.tells
+    error-to-once g.about ours frame (ParamProblem g.code g.pointer) h k c d tells g.tells
 
 -- ---- echo replies
 

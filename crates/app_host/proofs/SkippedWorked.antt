@@ -23,7 +23,7 @@ unfolding skipped fault_of chain_of stepped
 reported = refl
 
 -- the first fragment of a packet, and the last (RFC 8200, section 4.5)
-first : skipped 44 (58 ∷ 0 ∷ 0 ∷ 1 ∷ 0 ∷ 0 ∷ 0 ∷ 9 ∷ 128 ∷ 0 ∷ []) ≡ None
+first : skipped 44 (58 ∷ 0 ∷ 0 ∷ 1 ∷ 0 ∷ 0 ∷ 0 ∷ 9 ∷ 128 ∷ 0 ∷ 0 ∷ 0 ∷ 0 ∷ 7 ∷ 0 ∷ 1 ∷ []) ≡ None
 unfolding skipped fault_of chain_of stepped
 first = refl
 

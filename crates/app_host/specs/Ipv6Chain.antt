@@ -1,6 +1,6 @@
 -- The headers after an IPv6 header: extension headers, and then that of the upper-layer protocol (RFC 8200, section 4).
 -- Pinned by: `worked/icmp`, `Ipv6ChainsWorked`
-use Rattle.std.specs.Prelude.{ℕ, ◌≡◌, ◌≤◌, ◌+◌, ◌*◌, ◌==◌, ◌&&◌, ◌||◌, not, if◌then◌else◌, Bool, true, false, List, [], drop, length, slice_index}
+use Rattle.std.specs.Prelude.{ℕ, zero, suc, ◌≡◌, ◌≤◌, ◌+◌, ◌*◌, ◌==◌, ◌&&◌, ◌||◌, not, nat_le, if◌then◌else◌, Bool, true, false, List, [], drop, length, slice_index}
 use Rattle.ip_wire.specs.Ipv6Fragment.{frag_offset_of}
 
 -- whether the number names an extension header of IPv6 (RFC 7045, section 4), but not the encapsulating security payload
@@ -33,3 +33,19 @@ pub data LeadsTo (protocol : ℕ) (message : List ℕ) : ℕ → List ℕ → Ty
 -- no headers lead from this one to an upper-layer protocol: an extension header is cut
 abbrev pub LeadsNowhere : ℕ → List ℕ → Type 0
 LeadsNowhere n bytes = (protocol : ℕ) (message : List ℕ) → ¬ LeadsTo protocol message n bytes
+
+-- ---- whether all headers are there
+
+-- The length of the header of an upper-layer protocol without options: TCP (6) has 20 bytes (RFC 9293, section 3.1), UDP
+-- (17) 8 (RFC 768), and ICMPv6 (58) 4 before its body (RFC 4443, section 2.1). "No next header" (59) has none. Of any other
+-- protocol one byte is asked for.
+abbrev pub least_len : ℕ → ℕ
+least_len protocol = if protocol == 6 then 20 else if protocol == 17 then 8 else if protocol == 58 then 4 else if protocol == 59 then 0 else 1
+
+-- Whether these bytes have all headers from the one with this number through that of the upper-layer protocol (RFC 8200,
+-- section 4.5; RFC 7112, section 3), of at most n headers.
+abbrev pub has_headers : ℕ → ℕ → List ℕ → Bool
+has_headers zero number bytes = false
+has_headers (suc n) number bytes =
+    if is_extension_header number then nat_le (extension_len number bytes) (length bytes) && has_headers n (slice_index bytes 0) (following number bytes)
+    else nat_le (least_len number) (length bytes)

@@ -1,6 +1,6 @@
--- The "parameter problem" error of a host about an extension header (RFC 8200, section 4; RFC 4443, section 3.4).
+-- The "parameter problem" error of a host about an extension header or a fragment (RFC 8200, section 4; RFC 4443, section 3.4).
 -- Pinned by: `worked/hosts`, `MessagesOnce`, `judge`
-use Rattle.std.specs.Prelude.{ℕ, ◌≡◌, ◌≤◌, ◌⊎◌, Bool, List, Some, length}
+use Rattle.std.specs.Prelude.{ℕ, ◌≡◌, ◌≤◌, ◌⊎◌, List, Some, length}
 use Rattle.ip_wire.specs.Frame.{Carried, other, packet}
 use Rattle.ip_wire.specs.FrameValue.{carried_of}
 use Rattle.ip_wire.specs.Protocol.{number_of}
@@ -11,6 +11,7 @@ use Rattle.wire_icmp.specs.declared.IcmpRepr.TheVariants.{ParamProblem}
 use Rattle.app_host.specs.IcmpError.{IsErrorTo, IsOurGroup}
 use Rattle.app_host.specs.Ipv6Fault.{fault_of}
 use Rattle.app_host.specs.Source.{IsOurs}
+use Rattle.app_host.specs.declared.icmp_error.About.{About}
 use Rattle.app_host.specs.declared.interface.Interface.{Interface}
 use Rattle.app_host.specs.declared.ipv6_fault.Fault.TheVariants.{Reported}
 
@@ -21,12 +22,12 @@ pub record IsParameterProblem (ours : Interface) (bytes : List ℕ) (asked : Car
   pub payload : List ℕ
   pub code : ℕ
   pub pointer : ℕ
-  pub to_groups : Bool
+  pub about : About
   pub asks : asked ≡ packet (Ipv6 ip) (other payload)
   pub fits : length payload ≤ 65535
   pub for_us : IsOurs ours (address.Ipv6 ip.dst_addr) ⊎ IsOurGroup ours ip.dst_addr
-  pub fault : fault_of (number_of ip.next_header) payload ≡ Some (Reported code pointer to_groups)
-  pub tells : IsErrorTo to_groups ours bytes (ParamProblem code pointer) header carried
+  pub fault : fault_of (number_of ip.next_header) payload ≡ Some (Reported code pointer about)
+  pub tells : IsErrorTo about ours bytes (ParamProblem code pointer) header carried
 
 -- the values of our "parameter problem" error about a packet in a frame
 abbrev pub ProblemFrame : Interface → List ℕ → Frame → EthernetRepr → Carried → Type 0

@@ -5,6 +5,7 @@ ghost use Rattle.std.specs.Prelude.{◌≡◌, ◌↔◌, IfSome, IsTrue, drop, 
 ghost use Rattle.app_host.specs.IcmpError.{IsBetweenHosts, IsError, IsErrorTo, IsIcmpError, IsOurGroup, IsToGroup, IsToReceiver, IsToldOf, header_from, quoted};
 ghost use Rattle.app_host.specs.Kinds.{Tries};
 ghost use Rattle.app_host.specs.Message.{Gives};
+ghost use Rattle.app_host.specs.declared.icmp_error.About.{About};
 ghost use Rattle.ip_wire.specs.Ethernet as ethernet;
 ghost use Rattle.ip_wire.specs.Ip.{Reads, version_of};
 ghost use Rattle.ip_wire.specs.Ipv4 as ipv4;
@@ -29,6 +30,17 @@ const IPV4_QUOTE_LEN: usize = 548;
 /// The most bytes that an error of IPv6 quotes, so that its packet has at most 1,280 bytes (RFC 4443, section 2.4 c).
 const IPV6_QUOTE_LEN: usize = 1232;
 
+/// The packets that an error is sent about.
+#[derive(Debug, Clone, Copy, PartialEq, Eq)]
+pub enum About {
+    /// Those to one host.
+    Hosts,
+    /// Those to a multicast group of the interface too (RFC 4443, section 2.4 e.3).
+    Groups,
+    /// Those to one host, also fragments in which an extension header is missing (RFC 8200, section 4.5).
+    Fragments,
+}
+
 /// A frame with an ICMP error about the packet of a frame, to its sender. It quotes as much of the packet
 /// as fits into 576 bytes over IPv4, and into 1,280 over IPv6. `None` if the sender may not get one:
 /// - The frame does not come from one host, or is not sent to this interface only.
@@ -44,18 +56,18 @@ pub fn error<'a>(frame: &'a [u8], ours: &Interface, message: IcmpRepr) -> Option
     ensures error { Gives (IsError ours.now frame.now message) result }
     ensures unmarked { IfSome result (λ error. error.dscp ≡ 0) }
 {
-    error_to(frame, ours, message, false)
+    error_to(frame, ours, message, About::Hosts)
 }
 
-/// As `error`. If `to_groups`, also about a packet to a multicast group of the interface (RFC 4443, section 2.4 e.3).
+/// As `error`, for these packets.
 #[inline(always)]
 pub(crate) fn error_to<'a>(
     frame: &'a [u8],
     ours: &Interface,
     message: IcmpRepr,
-    to_groups: bool,
+    about: About,
 ) -> Option<MessageFrame<'a>>
-    ensures error { Gives (IsErrorTo to_groups ours.now frame.now message) result }
+    ensures error { Gives (IsErrorTo about ours.now frame.now message) result }
     ensures unmarked { IfSome result (λ error. error.dscp ≡ 0) }
 {
     let view = EthernetFrame::new_unchecked(frame);
@@ -64,7 +76,7 @@ pub(crate) fn error_to<'a>(
     };
     let caps = ChecksumCapabilities::default();
     match IpRepr::parse(&IpPacket::new_unchecked(view.payload()), &caps) {
-        Ok(header) => error_about(&link, &header, frame, ours, message, to_groups),
+        Ok(header) => error_about(&link, &header, frame, ours, message, about),
         Err(_) => None,
     }
 }
@@ -113,7 +125,7 @@ fn try_error_about(
     requires header { Reads (drop 14 frame.now) true header.now }
     ensures { Tries unmarked (IsError ours.now frame.now message) out.old out.new result }
 {
-    match error_about(link, header, frame, ours, message, false) {
+    match error_about(link, header, frame, ours, message, About::Hosts) {
         Some(error) => Some(error.send(out)),
         None => None,
     }
@@ -127,18 +139,18 @@ fn error_about<'a>(
     frame: &'a [u8],
     ours: &Interface,
     message: IcmpRepr,
-    to_groups: bool,
+    about: About,
 ) -> Option<MessageFrame<'a>>
     requires link { ethernet.Reads frame.now link.now }
     requires header { Reads (drop 14 frame.now) true header.now }
-    ensures error { Gives (IsErrorTo to_groups ours.now frame.now message) result }
+    ensures error { Gives (IsErrorTo about ours.now frame.now message) result }
     ensures unmarked { IfSome result (λ error. error.dscp ≡ 0) }
 {
     let packet = EthernetFrame::new_unchecked(frame).payload();
-    if !is_to_receiver(to_groups, link, header, ours) {
+    if !is_to_receiver(about, link, header, ours) {
         return None;
     }
-    if !is_told_of(header, packet) {
+    if !is_told_of(about, header, packet) {
         return None;
     }
     let (src_addr, dst_addr) = (ours.hardware_addr, link.src_addr);
@@ -159,20 +171,20 @@ fn is_between_hosts(link: &EthernetRepr, header: &IpRepr, ours: &Interface) -> b
         && is_host_addr(&header_from(ours, header).src_addr())
 }
 
-// The same, or whether a packet goes to a group of ours, if `to_groups`.
+// The same, or for errors about packets to groups whether it goes to a group of ours.
 #[inline(always)]
-fn is_to_receiver(to_groups: bool, link: &EthernetRepr, header: &IpRepr, ours: &Interface) -> bool
-    ensures { IsTrue result ↔ IsToReceiver to_groups ours.now link.now header.now }
+fn is_to_receiver(about: About, link: &EthernetRepr, header: &IpRepr, ours: &Interface) -> bool
+    ensures { IsTrue result ↔ IsToReceiver about ours.now link.now header.now }
 {
     if is_between_hosts(link, header, ours) {
         return true;
     }
-    if !to_groups {
-        return false;
-    }
-    match header {
-        IpRepr::Ipv4(_) => false,
-        IpRepr::Ipv6(header) => is_to_group(link, header, ours),
+    match about {
+        About::Groups => match header {
+            IpRepr::Ipv4(_) => false,
+            IpRepr::Ipv6(header) => is_to_group(link, header, ours),
+        },
+        _ => false,
     }
 }
 
@@ -206,33 +218,33 @@ pub(crate) fn is_our_group(ours: &Interface, group: &Ipv6Address) -> bool
 
 // Whether an error may be sent about what the packet carries.
 #[inline(always)]
-fn is_told_of(header: &IpRepr, packet: &[u8]) -> bool
+fn is_told_of(about: About, header: &IpRepr, packet: &[u8]) -> bool
     requires { Reads packet.now true header.now }
-    ensures { IsTrue result ↔ IsToldOf header.now packet.now }
+    ensures { IsTrue result ↔ IsToldOf about header.now packet.now }
 {
     match header {
         IpRepr::Ipv4(header) => is_told_of_ipv4(header, packet),
-        IpRepr::Ipv6(header) => is_told_of_ipv6(header, packet),
+        IpRepr::Ipv6(header) => is_told_of_ipv6(about, header, packet),
     }
 }
 
 fn is_told_of_ipv4(header: &Ipv4Repr, packet: &[u8]) -> bool
     requires { ipv4.Reads packet.now true header.now }
-    ensures { IsTrue result ↔ IsToldOf (Ipv4 header.now) packet.now }
+    ensures { (about : About) → IsTrue result ↔ IsToldOf about (Ipv4 header.now) packet.now }
 {
     let packet = Ipv4Packet::new_unchecked(packet);
     let protocol = header.next_header.number();
     packet.frag_offset() == 0 && !is_icmp_error(IpVersion::Ipv4, protocol, packet.payload())
 }
 
-fn is_told_of_ipv6(header: &Ipv6Repr, packet: &[u8]) -> bool
+fn is_told_of_ipv6(about: About, header: &Ipv6Repr, packet: &[u8]) -> bool
     requires { ipv6.Reads packet.now header.now }
-    ensures { IsTrue result ↔ IsToldOf (Ipv6 header.now) packet.now }
+    ensures { IsTrue result ↔ IsToldOf about (Ipv6 header.now) packet.now }
 {
     let payload = Ipv6Packet::new_unchecked(packet).payload();
     match upper_layer(header.next_header.number(), payload) {
         Some((protocol, message)) => !is_icmp_error(IpVersion::Ipv6, protocol, message),
-        None => false,
+        None => about == About::Fragments,
     }
 }
 

@@ -1,7 +1,7 @@
 //! The headers after an IPv6 header (RFC 8200, section 4).
 
-ghost use Rattle.std.specs.Prelude.{◌≡◌, ◌≤◌, ◌<◌, IfSome, MatchOption, length, slice_index};
-ghost use Rattle.app_host.specs.Ipv6Chain.{LeadsNowhere, LeadsTo, extension_len, following, is_extension_header, is_later_fragment};
+ghost use Rattle.std.specs.Prelude.{suc, ◌≡◌, ◌≤◌, ◌<◌, IfSome, MatchOption, length, slice_index};
+ghost use Rattle.app_host.specs.Ipv6Chain.{LeadsNowhere, LeadsTo, extension_len, following, has_headers, is_extension_header, is_later_fragment, least_len};
 
 use ip_wire::Ipv6FragmentHeader;
 
@@ -9,6 +9,15 @@ use ip_wire::Ipv6FragmentHeader;
 const FRAGMENT: u8 = 44;
 
 const AUTHENTICATION: u8 = 51;
+
+// The numbers of what follows extension headers.
+const TCP: u8 = 6;
+
+const UDP: u8 = 17;
+
+const ICMPV6: u8 = 58;
+
+const NO_NEXT_HEADER: u8 = 59;
 
 // The length of the shortest extension header in bytes.
 const MIN_LEN: usize = 8;
@@ -29,6 +38,30 @@ pub fn upper_layer(next_header: u8, payload: &[u8]) -> Option<(u8, &[u8])>
         rest = following;
     }
     Some((number, rest))
+}
+
+/// Whether the bytes have all headers from the one with this number through that of the upper-layer protocol. Of TCP
+/// they need 20 bytes, of UDP 8, of ICMPv6 4, and of another protocol one.
+pub(crate) fn has_headers(number: u8, bytes: &[u8]) -> bool
+    ensures { result ≡ has_headers (suc (length bytes.now)) number bytes.now }
+{
+    match upper_layer(number, bytes) {
+        Some((protocol, message)) => least_len(protocol) <= message.len(),
+        None => false,
+    }
+}
+
+// The length of the header of an upper-layer protocol without options.
+fn least_len(protocol: u8) -> usize
+    ensures { result ≡ least_len protocol }
+{
+    match protocol {
+        TCP => 20,
+        UDP => 8,
+        ICMPV6 => 4,
+        NO_NEXT_HEADER => 0,
+        _ => 1,
+    }
 }
 
 // The number of the header after an extension header, and the bytes from it on. `None` if the extension header is cut.

@@ -1,9 +1,12 @@
-//! Why a host discards an IPv6 packet because of its extension headers (RFC 8200, section 4).
+//! Why a host discards an IPv6 packet or fragment because of its extension headers (RFC 8200, section 4).
 
-ghost use Rattle.std.specs.Prelude.{◌≡◌, ◌+◌, ◌≤◌, ◌<◌, None, false, length, slice_index};
-ghost use Rattle.app_host.specs.Ipv6Fault.{fault_of, header_end, header_fault, is_fragment, is_last, is_processed, option_end, option_fault, options_fault, routing_fault, type_fault};
+ghost use Rattle.std.specs.Prelude.{◌≡◌, ◌+◌, ◌≤◌, ◌<◌, None, drop, length, slice_index};
+ghost use Rattle.app_host.specs.Ipv6Fault.{fault_of, fragment_fault, header_end, header_fault, is_fragment, is_last, is_processed, lacks_headers, option_end, option_fault, options_fault, routing_fault, type_fault};
+ghost use Rattle.ip_wire.specs.Ipv6Fragment.{header_of};
 
-use ip_wire::Ipv6FragmentHeader;
+use crate::icmp_error::About;
+use crate::ipv6_chain::has_headers;
+use ip_wire::{IPV6_MAX_PAYLOAD_LEN, Ipv6FragmentHeader, Ipv6FragmentRepr};
 use wire_extensions::{EXTENSION_UNIT, FRAGMENT};
 
 const HOP_BY_HOP: u8 = 0;
@@ -12,7 +15,9 @@ const ROUTING: u8 = 43;
 
 const DESTINATION: u8 = 60;
 
-// Where the IPv6 header names the next header.
+// Where the IPv6 header has the length of its payload and the number of the next header.
+const PAYLOAD_LEN_AT: u32 = 4;
+
 const NEXT_HEADER_AT: u32 = 6;
 
 // The length of the IPv6 header in bytes.
@@ -23,12 +28,11 @@ const HEADER_LEN: u32 = 40;
 pub enum Fault {
     /// Without an error.
     Silent,
-    /// With the error "parameter problem". `pointer` counts from the start of the IPv6 header. If `to_groups`, the
-    /// error is sent about a packet to a multicast group too.
+    /// With the error "parameter problem". `pointer` counts from the start of the IPv6 header.
     Reported {
         code: u8,
         pointer: u32,
-        to_groups: bool,
+        about: About,
     },
 }
 
@@ -72,8 +76,21 @@ fn is_fragment(payload: &[u8], number: u8, start: usize) -> bool
     if number != FRAGMENT {
         return false;
     }
+    let fragment = fragment_at(payload, start);
+    fragment.more_frags || fragment.frag_offset != 0
+}
+
+// The values of the fragment header that starts here.
+fn fragment_at(payload: &[u8], start: usize) -> Ipv6FragmentRepr
+    requires { start + 8 ≤ length payload.now }
+    ensures { result ≡ header_of (drop (start + 2) payload.now) }
+{
     let header = Ipv6FragmentHeader::new_unchecked(&payload[start + 2..]);
-    header.more_frags() || header.frag_offset() != 0
+    Ipv6FragmentRepr {
+        frag_offset: header.frag_offset(),
+        more_frags: header.more_frags(),
+        ident: header.ident(),
+    }
 }
 
 // The fault of the extension header with this number, to which the byte at `pointer` leads.
@@ -84,7 +101,7 @@ fn header_fault(payload: &[u8], number: u8, pointer: u32, start: usize) -> Optio
     ensures whole { result ≡ None → header_end payload.now number start ≤ length payload.now }
 {
     if !is_processed(number, start) {
-        return Some(reported(1, pointer));
+        return Some(reported(1, pointer, About::Hosts));
     }
     let end = header_end(payload, number, start);
     if payload.len() < end {
@@ -92,7 +109,7 @@ fn header_fault(payload: &[u8], number: u8, pointer: u32, start: usize) -> Optio
     }
     match number {
         ROUTING => routing_fault(payload, start),
-        FRAGMENT => None,
+        FRAGMENT => fragment_fault(payload, start, &fragment_at(payload, start)),
         _ => options_fault(payload, start + 2, end),
     }
 }
@@ -125,7 +142,37 @@ fn routing_fault(payload: &[u8], start: usize) -> Option<Fault>
     if byte_at(payload, start + 3) == 0 {
         return None;
     }
-    Some(reported(0, pointer_to(start) + 2))
+    Some(reported(0, pointer_to(start) + 2, About::Hosts))
+}
+
+// The fault of the fragment whose header starts here.
+fn fragment_fault(payload: &[u8], start: usize, fragment: &Ipv6FragmentRepr) -> Option<Fault>
+    requires whole { start + 8 ≤ length payload.now }
+    requires short { length payload.now ≤ 65535 }
+    ensures { result ≡ fragment_fault payload.now start fragment.now }
+{
+    let len = payload.len() - (start + EXTENSION_UNIT);
+    if fragment.more_frags && len % EXTENSION_UNIT != 0 {
+        return Some(reported(0, PAYLOAD_LEN_AT, About::Fragments));
+    }
+    let end = EXTENSION_UNIT * usize::from(fragment.frag_offset) + len;
+    if start + end > IPV6_MAX_PAYLOAD_LEN {
+        return Some(reported(0, pointer_to(start) + 2, About::Fragments));
+    }
+    if lacks_headers(payload, start, fragment) {
+        return Some(reported(3, 0, About::Fragments));
+    }
+    None
+}
+
+// Whether a first fragment, whose header starts here, lacks a header.
+fn lacks_headers(payload: &[u8], start: usize, fragment: &Ipv6FragmentRepr) -> bool
+    requires { start + 8 ≤ length payload.now }
+    ensures { result ≡ lacks_headers payload.now start fragment.now }
+{
+    fragment.more_frags
+        && fragment.frag_offset == 0
+        && !has_headers(payload[start], &payload[start + EXTENSION_UNIT..])
 }
 
 // The first fault of the options from `first` to `end`.
@@ -151,7 +198,7 @@ fn option_fault(payload: &[u8], start: usize, end: usize) -> Option<Fault>
     ensures { result ≡ option_fault payload.now start end }
 {
     if end < option_end(payload, start) {
-        return Some(reported(0, pointer_to(start) + 1));
+        return Some(reported(0, pointer_to(start) + 1, About::Hosts));
     }
     type_fault(byte_at(payload, start), pointer_to(start))
 }
@@ -178,21 +225,22 @@ fn type_fault(kind: u8, pointer: u32) -> Option<Fault>
     if kind < 128 {
         return Some(Fault::Silent);
     }
-    Some(Fault::Reported {
-        code: 2,
-        pointer,
-        to_groups: kind < 192,
-    })
+    let about = if kind < 192 {
+        About::Groups
+    } else {
+        About::Hosts
+    };
+    Some(reported(2, pointer, about))
 }
 
-// A fault that is reported to the sender of a packet to one host.
-fn reported(code: u8, pointer: u32) -> Fault
-    ensures { result ≡ Fault.Reported code pointer false }
+// A fault that is reported.
+fn reported(code: u8, pointer: u32, about: About) -> Fault
+    ensures { result ≡ Fault.Reported code pointer about }
 {
     Fault::Reported {
         code,
         pointer,
-        to_groups: false,
+        about,
     }
 }
 

@@ -1,4 +1,5 @@
-//! The "parameter problem" error about an extension header of IPv6 (RFC 8200, section 4; RFC 4443, section 3.4).
+//! The "parameter problem" error about an extension header or a fragment of IPv6 (RFC 8200, section 4; RFC 4443,
+//! section 3.4).
 
 ghost use Rattle.std.specs.Prelude.{◌≡◌, ◌⊎◌, ◌↔◌, IfSome, IsTrue, List, ℕ};
 ghost use Rattle.app_host.specs.Message.{Gives};
@@ -13,16 +14,16 @@ use crate::icmp_error::{error_to, is_our_group};
 use crate::interface::Interface;
 use crate::ipv6_fault::{Fault, first_fault};
 use crate::message::MessageFrame;
-use ip_wire::{Carried, Frame, IpAddress, IpProtocol, IpRepr, Ipv6Address, Ipv6Repr, Transport};
+use ip_wire::{
+    Carried, Frame, IPV6_MAX_PAYLOAD_LEN, IpAddress, IpProtocol, IpRepr, Ipv6Address, Ipv6Repr,
+    Transport,
+};
 use wire_icmp::IcmpRepr;
-
-// The longest payload of an IPv6 packet.
-const MAX_PAYLOAD_LEN: usize = 65535;
 
 /// The error about the first fault in the extension headers of an IPv6 packet for this interface. `None` for any
 /// other frame, if the fault is not reported, and if the sender may not get an error. An unknown option with the
-/// highest bits 10 is reported about a packet to a group of the interface too. What follows a fragment header is not
-/// looked at.
+/// highest bits 10 is reported about a packet to a group of the interface too. What follows the header of a fragment has
+/// no fault of its own, but the first fragment must have all headers through that of an upper-layer protocol.
 pub fn reply<'a>(request: &Frame<'_>, frame: &'a [u8], ours: &Interface) -> Option<MessageFrame<'a>>
     ensures reply { Gives (ProblemFrame ours.now frame.now request.now) result }
     ensures unmarked { IfSome result (λ error. error.dscp ≡ 0) }
@@ -55,7 +56,7 @@ fn reply_to<'a>(
     ensures reply { Gives (IsParameterProblem ours.now frame.now (packet (Ipv6 header.now) (other payload.now))) result }
     ensures unmarked { IfSome result (λ error. error.dscp ≡ 0) }
 {
-    if payload.len() > MAX_PAYLOAD_LEN {
+    if payload.len() > IPV6_MAX_PAYLOAD_LEN {
         return None;
     }
     match first_fault(header.next_header.number(), payload) {
@@ -63,17 +64,12 @@ fn reply_to<'a>(
             Fault::Reported {
                 code,
                 pointer,
-                to_groups,
+                about,
             } => {
                 if !is_for_us(ours, &header.dst_addr) {
                     return None;
                 }
-                error_to(
-                    frame,
-                    ours,
-                    IcmpRepr::ParamProblem { code, pointer },
-                    to_groups,
-                )
+                error_to(frame, ours, IcmpRepr::ParamProblem { code, pointer }, about)
             }
             Fault::Silent => None,
         },

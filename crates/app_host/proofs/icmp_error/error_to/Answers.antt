@@ -9,14 +9,14 @@ pub returns-in_default-clause-error : goal.returns-in_default-clause-error
 returns-in_default-clause-error c =
     let view : ethernet.frame_bytes c.new_unchecked-view.result ≡ c.args.frame.now = search rules in
     let reads = rw view at c.parse.ensures.reads in
-    no_link c.args.to_groups c.args.ours.now c.args.frame.now c.args.message (λ link r. let ok = (reads link).1 r in absurd (let other = c.in_default.is in cc))
+    no_link c.args.about c.args.ours.now c.args.frame.now c.args.message (λ link r. let ok = (reads link).1 r in absurd (let other = c.in_default.is in cc))
 
 pub returns-in-Err-clause-error : goal.returns-in-Err-clause-error
 returns-in-Err-clause-error c =
     let verified : verifies c.default-caps.result.ipv4 ≡ true = search rules in
     let view : packet_bytes c.new_unchecked.result ≡ drop 14 c.args.frame.now = search rules in
     let reads = rw (verified, view) at c.parse-2.ensures.reads in
-    no_header c.args.to_groups c.args.ours.now c.args.frame.now c.args.message (λ v r. let ok = (reads v).1 r in absurd (let other = c.in-Err.is in cc))
+    no_header c.args.about c.args.ours.now c.args.frame.now c.args.message (λ v r. let ok = (reads v).1 r in absurd (let other = c.in-Err.is in cc))
 
 pub error_about-requires-clause-link : goal.error_about-requires-clause-link
 error_about-requires-clause-link c =
