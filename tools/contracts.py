@@ -21,6 +21,8 @@ SPEC_ITEM = re.compile(r"(?:abbrev|unfoldable|opaque|record|data|pub|mod|infix\w
 SPEC_HEAD = re.compile(rf"((?:{SPEC_ITEM.pattern} ?)+(?:\d+ )?)(\S+)")
 SPEC_COMMENT = re.compile(r'("(?:\\.|[^"\\])*")|\s*--.*')
 SPEC_SPACE = re.compile(r'("(?:\\.|[^"\\])*")|\s+')
+# `rt fmt` writes it after the last field of a record that has several lines.
+LAST_SEMICOLON = re.compile(r";(?= \})")
 
 
 class ReadError(Exception):
@@ -271,7 +273,7 @@ class Reader:
         while self.peek() in ("requires", "ensures"):
             kind = self.take().text + ("*" if self.accept("*") else "")
             name = "" if self.peek() == "{" else self.take().text
-            item.clauses.append(Clause(kind, name, joined(self.balanced()).strip()))
+            item.clauses.append(Clause(kind, name, LAST_SEMICOLON.sub("", joined(self.balanced()).strip())))
         item.has_body = self.peek() == "{"
         if item.has_body:
             begin = self.tokens[self.at].line
@@ -379,7 +381,7 @@ def spec_lines(text):
             docs = []
         else:
             lines[-1] = (lines[-1][0], lines[-1][1] + " " + line, lines[-1][2])
-    return lines
+    return [(is_inner, LAST_SEMICOLON.sub("", line), docs) for is_inner, line, docs in lines]
 
 
 @functools.lru_cache(None)

@@ -87,7 +87,13 @@ pub record TakesAck (old new : Connection) (number window ack : ℕ) : Type 0 wh
 
 -- the acknowledgement of a connection: <SEQ=SND.NXT><ACK=RCV.NXT><CTL=ACK>
 abbrev pub acknowledgement_of : Connection → Reply
-acknowledgement_of c = record { number = next_of c; ack = if c.receiving.is_open then Some c.receiving.next else None; syn = false; rst = false }
+acknowledgement_of c =
+    record {
+      number = next_of c;
+      ack = if c.receiving.is_open then Some c.receiving.next else None;
+      syn = false;
+      rst = false;
+    }
 
 -- whether an acknowledgement is of something not yet sent
 abbrev pub is_of_unsent : Connection → Option ℕ → Bool
@@ -105,7 +111,9 @@ has_items s = not s.rst && (not (len_of s == 0) && is_some s.ack)
 -- Whether a connection with this window answers a bare acknowledgement: one before RCV.NXT, as a keep-alive probe, or one of
 -- something not yet sent. One after the window is not answered.
 abbrev pub answers_bare : Connection → ℕ → ℕ → Option ℕ → Bool
-answers_bare c window number ack = c.receiving.is_open && (if is_taken_at c.receiving.next window number 0 then is_of_unsent c ack else is_earlier number c.receiving.next)
+answers_bare c window number ack =
+    c.receiving.is_open &&
+    (if is_taken_at c.receiving.next window number 0 then is_of_unsent c ack else is_earlier number c.receiving.next)
 
 -- the right edge of the receive window (RCV.NXT+RCV.WND), in a ring of this size
 abbrev pub edge_of : Receiving → ℕ → ℕ

@@ -1,15 +1,14 @@
 -- The events of a connection.
 -- Pinned by: `connection/figures`
-use Rattle.std.specs.Prelude.{ℕ, ◌≡◌, ◌⊎◌, ◌+◌, ◌<◌, List, length, Bool, true, false, not, if◌then◌else◌, IfSome}
-use Rattle.tcp_model.specs.Endpoint.{distance}
+use Rattle.std.specs.Prelude.{ℕ, ◌≡◌, ◌⊎◌, ◌<◌, List, length, Bool, true, false, not, if◌then◌else◌}
 use Rattle.tcp_model.specs.Network.{World, Close, happens}
 use Rattle.app_tcp.specs.Waits.{from_of}
 use Rattle.app_tcp.specs.declared.sending.Sending.{Sending}
-use Rattle.app_connection.specs.Endpoints.{TakesAck, control_of, has_items, is_bare, is_of_unsent, len_of, next_of, answers_bare}
+use Rattle.app_connection.specs.Endpoints.{answers_bare, control_of, has_items, is_bare}
+use Rattle.app_connection.specs.Promises.{HearsAckOf, SameNext, TakesAckOf}
 use Rattle.app_connection.specs.declared.connection.Connection.{Connection}
 use Rattle.app_connection.specs.SetUp.{Endpoint, In_closed, In_listen, In_syn_sent, hears}
-use Rattle.app_connection.specs.Worlds.{Arrives, HearsAck}
-use Rattle.app_connection.specs.Sequence.{is_of_sent, is_taken_at}
+use Rattle.app_connection.specs.Worlds.{Arrives}
 use Rattle.app_connection.specs.declared.step.Event.{Event}
 use Rattle.app_connection.specs.declared.step.Event.TheVariants as event
 
@@ -44,7 +43,8 @@ called event.Abort may there = there
 abbrev pub IsMove : Event → ℕ → Endpoint → Endpoint → Type 0
 IsMove event.Listen window old new = (new ≡ old) ⊎ (new ≡ In_listen)
 IsMove (event.Open iss) window old new = (new ≡ old) ⊎ (new ≡ In_syn_sent iss)
-IsMove (event.Arrives segment iss) window old new = (new ≡ hears old (control_of segment.now) window iss) ⊎ (new ≡ In_closed)
+IsMove (event.Arrives segment iss) window old new =
+    (new ≡ hears old (control_of segment.now) window iss) ⊎ (new ≡ In_closed)
 IsMove (event.Send offset count) window old new = new ≡ old
 IsMove event.Close window old new = (new ≡ old) ⊎ (new ≡ In_closed)
 IsMove event.Abort window old new = new ≡ In_closed
@@ -108,9 +108,7 @@ is_answered event.Abort c window = false
 abbrev pub TakesBy : Event → Connection → ℕ → Connection → Type 0
 TakesBy event.Listen old window new = Unit {0}
 TakesBy (event.Open iss) old window new = Unit {0}
-TakesBy (event.Arrives segment iss) old window new =
-    segment.now.rst ≡ false → segment.now.syn ≡ false → is_taken_at old.receiving.next window segment.now.number (len_of segment.now) ≡ true → is_of_unsent old segment.now.ack ≡ false
-    → IfSome segment.now.ack (λ ack. TakesAck old new segment.now.number segment.now.window ack)
+TakesBy (event.Arrives segment iss) old window new = TakesAckOf old window segment.now new
 TakesBy (event.Send offset count) old window new = Unit {0}
 TakesBy event.Close old window new = Unit {0}
 TakesBy event.Abort old window new = Unit {0}
@@ -119,7 +117,7 @@ TakesBy event.Abort old window new = Unit {0}
 abbrev pub KeepsNext : Event → Sending → Sending → Type 0
 KeepsNext event.Listen old new = Unit {0}
 KeepsNext (event.Open iss) old new = Unit {0}
-KeepsNext (event.Arrives segment iss) old new = new.flight + distance new.una old.una ≡ old.flight
+KeepsNext (event.Arrives segment iss) old new = SameNext old new
 KeepsNext (event.Send offset count) old new = Unit {0}
 KeepsNext event.Close old new = new.flight ≡ old.flight
 KeepsNext event.Abort old new = Unit {0}
@@ -128,9 +126,7 @@ KeepsNext event.Abort old new = Unit {0}
 abbrev pub HearsBy : Event → Connection → ℕ → Connection → List ℕ → Type 0
 HearsBy event.Listen old window new outgoing = Unit {0}
 HearsBy (event.Open iss) old window new outgoing = Unit {0}
-HearsBy (event.Arrives segment iss) old window new outgoing =
-    segment.now.rst ≡ false → segment.now.syn ≡ false → is_taken_at old.receiving.next window segment.now.number (len_of segment.now) ≡ true → is_of_unsent old segment.now.ack ≡ false
-    → IfSome segment.now.ack (λ ack. is_of_sent old.sending.una (next_of old) ack ≡ true → HearsAck old.sending new.sending outgoing ack)
+HearsBy (event.Arrives segment iss) old window new outgoing = HearsAckOf old window segment.now new outgoing
 HearsBy (event.Send offset count) old window new outgoing = Unit {0}
 HearsBy event.Close old window new outgoing = Unit {0}
 HearsBy event.Abort old window new outgoing = Unit {0}

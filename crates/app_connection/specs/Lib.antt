@@ -7,3 +7,4 @@ pub mod Events
 pub mod Fields
 pub mod Steps
 pub mod Runs
+pub mod Promises

@@ -16,12 +16,14 @@ abbrev pub is_acceptable_at : ℕ → ℕ → ℕ → ℕ → Bool
 is_acceptable_at next window number len =
     if len == 0
     then (if window == 0 then number == next else is_inside next window number)
-    else (if window == 0 then false else is_inside next window number || is_inside next window ((number + (len - 1)) % 4294967296))
+    else (if window == 0 then false
+    else is_inside next window number || is_inside next window ((number + (len - 1)) % 4294967296))
 
 -- Whether the acknowledgement and the window of a segment of `len` numbers are taken in a synchronized state. Those of a segment of
 -- no number are also taken at the right edge and one past it: a peer that probed a closed window has sent that number.
 abbrev pub is_taken_at : ℕ → ℕ → ℕ → ℕ → Bool
-is_taken_at next window number len = if len == 0 then nat_lt (distance number next) (window + 2) else is_acceptable_at next window number len
+is_taken_at next window number len =
+    if len == 0 then nat_lt (distance number next) (window + 2) else is_acceptable_at next window number len
 
 -- whether a is before b: a < b of section 3.4
 abbrev pub is_earlier : ℕ → ℕ → Bool

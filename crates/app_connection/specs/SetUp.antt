@@ -97,7 +97,8 @@ abbrev pub may_send : Endpoint → Control → Bool
 may_send In_closed c = c.rst
 may_send In_listen c = c.rst
 may_send (In_syn_sent iss) c = c.rst || (c.syn && (c.number == iss && not (has_ack c.ack)))
-may_send (In_syn_received passive iss irs) c = c.rst || (is_ack_of irs c.ack && (if c.syn then c.number == iss else c.number == after iss))
+may_send (In_syn_received passive iss irs) c =
+    c.rst || (is_ack_of irs c.ack && (if c.syn then c.number == iss else c.number == after iss))
 may_send (In_established iss irs) c = c.rst || (is_ack_of irs c.ack && not c.syn)
 
 -- an endpoint, all that it ever sent, and each pair of ISS and IRS with which it was in SYN-RECEIVED or ESTABLISHED
@@ -208,5 +209,6 @@ control number ack syn = record { number = number; len = if syn then 1 else 0; a
 -- figure 6
 abbrev pub three_ways : List Turn
 three_ways =
-    There Listens ∷ Here (Opens 100) ∷ Here (Sends (control 100 None true)) ∷ There (Hears 0 64 300) ∷ There (Sends (control 300 (Some 101) true)) ∷ Here (Hears 0 64 0)
+    There Listens ∷ Here (Opens 100) ∷ Here (Sends (control 100 None true)) ∷ There (Hears 0 64 300) ∷ There
+    (Sends (control 300 (Some 101) true)) ∷ Here (Hears 0 64 0)
     ∷ Here (Sends (control 101 (Some 301) false)) ∷ There (Hears 0 64 0) ∷ []

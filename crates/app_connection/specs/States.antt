@@ -29,7 +29,8 @@ state_in phase.Open open_state = open_state
 
 -- the state of a connection
 abbrev pub state_from : Connection → State
-state_from c = state_in c.phase (state_at c.sending.is_closed (not c.sending.has_fin) c.receiving.has_fin c.is_peer_first)
+state_from c =
+    state_in c.phase (state_at c.sending.is_closed (not c.sending.has_fin) c.receiving.has_fin c.is_peer_first)
 
 -- what CLOSE makes of a state (section 3.10.4); in SYN-RECEIVED the FIN waits
 abbrev pub state_closed : State → State

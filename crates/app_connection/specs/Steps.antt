@@ -37,7 +37,9 @@ pub record Hears (s : Segment) (iss : ℕ) (new : Connection) (outgoing incoming
   pub sent : result ≡ Some (record { number = iss; items = Syn ∷ []; ack = Some (after s.number); rst = false })
   pub syn : s.syn ≡ true
   pub rst : s.rst ≡ false
-  pub goes : (back : World) (which : ℕ) → IsFresh back → SegmentComes back which s.number (said s).items → Goes (first iss) back [] new outgoing incoming result
+  pub goes :
+      (back : World) (which : ℕ) → IsFresh back → SegmentComes back which s.number (said s).items
+      → Goes (first iss) back [] new outgoing incoming result
 
 -- The event opens a connection: its own history begins, and nothing was taken of the peer's.
 abbrev pub Opens : Event → Connection → List ℕ → List ℕ → Option Said → Type 0
@@ -61,18 +63,24 @@ pub record Steps (old new : Connection) (outgoing before after : List ℕ) (e : 
   pub opens : has_peer (state_from old) ≡ false → has_peer (state_from new) ≡ true → Opens e new outgoing after result
   pub active : (iss : ℕ) → e ≡ event.Open iss → has_peer (state_from old) ≡ false → has_peer (state_from new) ≡ true
   pub goes :
-      has_peer (state_from old) ≡ true → (there back : World) (consumed : List ℕ) → ComesBy e there back → Stand there back consumed old outgoing before
+      has_peer (state_from old) ≡ true → (there back : World) (consumed : List ℕ) → ComesBy e there back
+      → Stand there back consumed old outgoing before
       → Goes (called e (may_close (state_from old)) there) back consumed new outgoing after result
 
 -- `write`, which took these bytes
 pub record Writes (old new : Connection) (before after bytes : List ℕ) : Type 0 where
   pub same : new ≡ record old { sending = new.sending }
-  pub waits : has_peer (state_from old) ≡ true → (w : World) → Waits w old.sending before → Waits (happens w (Write bytes)) new.sending after
+  pub waits :
+      has_peer (state_from old) ≡ true → (w : World) → Waits w old.sending before
+      → Waits (happens w (Write bytes)) new.sending after
   pub closed : old.sending.is_closed ≡ true → bytes ≡ []
   pub none : has_peer (state_from old) ≡ false → bytes ≡ []
   pub stays : has_peer (state_from old) ≡ false → (new ≡ old) × (after ≡ before)
 
 -- `read`, which gave these bytes
 pub record Reads (old new : Connection) (incoming bytes : List ℕ) : Type 0 where
-  pub same : new ≡ record old { receiving = record old.receiving { start = new.receiving.start; len = new.receiving.len } }
-  pub stands : (back : World) (consumed : List ℕ) → Stands back consumed old.receiving incoming → Stands back (consumed ++ bytes) new.receiving incoming
+  pub same :
+      new ≡ record old { receiving = record old.receiving { start = new.receiving.start; len = new.receiving.len } }
+  pub stands :
+      (back : World) (consumed : List ℕ) → Stands back consumed old.receiving incoming
+      → Stands back (consumed ++ bytes) new.receiving incoming

@@ -65,7 +65,9 @@ pub record Stand (there back : World) (consumed : List ℕ) (c : Connection) (ou
   pub waits : Waits there c.sending outgoing
   pub stands : Stands back consumed c.receiving incoming
   pub sent : c.phase ≡ phase.SynSent → IsOut there c.iss (Syn ∷ []) × (c.receiving.is_open ≡ false)
-  pub received : c.phase ≡ phase.SynReceived → IsOut there c.iss (Syn ∷ []) × (c.receiving.is_open ≡ true) × (c.receiving.next ≡ after c.irs)
+  pub received :
+      c.phase ≡ phase.SynReceived
+      → IsOut there c.iss (Syn ∷ []) × (c.receiving.is_open ≡ true) × (c.receiving.next ≡ after c.irs)
 
 -- events of the sending half: it sends, or takes an acknowledgement that was sent
 abbrev pub OfSender : List Event → Type 0
@@ -104,7 +106,9 @@ pub record WaitsLater (there : World) (s : Sending) (outgoing : List ℕ) : Type
 
 -- An acknowledgement is taken: in each history in which it comes, it is the event Ack_comes.
 pub record HearsAck (old new : Sending) (outgoing : List ℕ) (ack : ℕ) : Type 0 where
-  pub waits : (there : World) (which : ℕ) → AckComes there which ack → Waits there old outgoing → Waits (happens there (Ack_comes which)) new outgoing
+  pub waits :
+      (there : World) (which : ℕ) → AckComes there which ack → Waits there old outgoing
+      → Waits (happens there (Ack_comes which)) new outgoing
 
 -- the receiving half stands for the receiver after further events
 pub record StandsLater (back : World) (consumed : List ℕ) (r : Receiving) (incoming : List ℕ) : Type 0 where
@@ -129,11 +133,17 @@ TellsState Listen there back = Unit {0}
 TellsState SynSent there back = Unit {0}
 TellsState SynReceived there back = Unit {0}
 TellsState Established there back = (there.closed ≡ false) × (is_ended back.receiver.got ≡ false)
-TellsState FinWait1 there back = (there.closed ≡ true) × (there.acked < length (stream there.written there.closed)) × (is_ended back.receiver.got ≡ false)
+TellsState FinWait1 there back =
+    (there.closed ≡ true) × (there.acked < length (stream there.written there.closed))
+    × (is_ended back.receiver.got ≡ false)
 TellsState FinWait2 there back = (there.closed ≡ true) × IsDone there × (is_ended back.receiver.got ≡ false)
 TellsState CloseWait there back = (there.closed ≡ false) × (is_ended back.receiver.got ≡ true)
-TellsState Closing there back = (there.closed ≡ true) × (there.acked < length (stream there.written there.closed)) × (is_ended back.receiver.got ≡ true)
-TellsState LastAck there back = (there.closed ≡ true) × (there.acked < length (stream there.written there.closed)) × (is_ended back.receiver.got ≡ true)
+TellsState Closing there back =
+    (there.closed ≡ true) × (there.acked < length (stream there.written there.closed))
+    × (is_ended back.receiver.got ≡ true)
+TellsState LastAck there back =
+    (there.closed ≡ true) × (there.acked < length (stream there.written there.closed))
+    × (is_ended back.receiver.got ≡ true)
 TellsState TimeWait there back = (there.closed ≡ true) × IsDone there × (is_ended back.receiver.got ≡ true)
 
 -- the acknowledgement of a reply is what the receiver answers

@@ -1,18 +1,19 @@
 //! A segment arrives (RFC 9293, section 3.10.7; RFC 5961).
 
-ghost use Rattle.std.specs.Prelude.{◌≡◌, ◌≢◌, ◌⊎◌, ◌&&◌, ◌==◌, ◌∷◌, ◌+◌, ◌<◌, ◌≤◌, ℕ, List, length, true, false, if◌then◌else◌, not, IfSome, Some, None, option_map};
-ghost use Rattle.tcp_model.specs.Endpoint.{Item, Syn, distance};
+ghost use Rattle.std.specs.Prelude.{◌≡◌, ◌≢◌, ◌⊎◌, ◌&&◌, ◌==◌, ◌∷◌, ◌<◌, ◌≤◌, ℕ, List, length, true, false, if◌then◌else◌, not, IfSome, Some, None, option_map};
+ghost use Rattle.tcp_model.specs.Endpoint.{Item, Syn};
 ghost use Rattle.tcp_model.specs.Network.{World, Segment_comes, happens};
 ghost use Rattle.app_tcp.specs.Items.{items_of};
 ghost use Rattle.app_tcp.specs.Stands.{Stands, SegmentComes, room_of};
-ghost use Rattle.app_tcp.specs.Waits.{Waits, AckComes};
+ghost use Rattle.app_tcp.specs.Waits.{AckComes};
 ghost use Rattle.app_connection.specs.declared.state.Phase.TheVariants.{Closed, Listen, SynSent, SynReceived, Open};
 ghost use Rattle.app_connection.specs.Sequence.{after, is_taken_at, is_earlier, is_of_sent};
-ghost use Rattle.app_connection.specs.SetUp.{is_ack_of, hears, hears_in_listen, hears_in_syn_sent, hears_syn_again, hears_in_syn_received, reset_of, In_closed};
-ghost use Rattle.app_connection.specs.Endpoints.{endpoint_of, control_of, len_of, OutFits, InFits, IsLegal, refused, takes_window, window_after, TakesAck, acknowledgement_of, is_of_unsent, is_bare, answers_bare, edge_of, next_of};
+ghost use Rattle.app_connection.specs.SetUp.{is_ack_of, hears, hears_in_listen, hears_in_syn_sent, hears_syn_again, hears_in_syn_received, reset_of};
+ghost use Rattle.app_connection.specs.Endpoints.{endpoint_of, control_of, len_of, OutFits, InFits, IsLegal, refused, takes_window, window_after, TakesAck, acknowledgement_of, is_bare, answers_bare, next_of};
 ghost use Rattle.app_connection.specs.States.{has_peer, state_from};
 ghost use Rattle.app_connection.specs.Steps.{Hears};
-ghost use Rattle.app_connection.specs.Worlds.{Arrives, Goes, Stand, WaitsLater, StandsLater, IsAnswered, replied, HearsAck};
+ghost use Rattle.app_connection.specs.Worlds.{Arrives, Goes, Stand, StandsLater, IsAnswered, replied, HearsAck};
+ghost use Rattle.app_connection.specs.Promises.{GoesWith, HearsAckOf, KeepsEdge, KeepsOrEnds, RepliesIn, SameNext, TakesAckOf, WaitsOnAck, WhenOpen, WhenSynced};
 
 use crate::connection::Connection;
 use crate::segment::{Reply, Segment, refusal};
@@ -34,26 +35,41 @@ impl Connection {
         requires rings { InFits self.old.receiving (length incoming.old) }
         ensures out { OutFits self.new.sending (length outgoing.now) }
         ensures rings { InFits self.new.receiving (length incoming.old) }
-        ensures set_up { (self.old.phase ≡ Open → ⊥) → endpoint_of self.new ≡ hears (endpoint_of self.old) (control_of segment.now) (room_of self.old.receiving (length incoming.old)) fresh }
+        ensures set_up { (self.old.phase ≡ Open → ⊥) → endpoint_of self.new ≡ hears (endpoint_of self.old)
+            (control_of segment.now) (room_of self.old.receiving (length incoming.old)) fresh }
         ensures legal { (self.old.phase ≡ Open → ⊥) → IfSome result (λ r. IsLegal (endpoint_of self.new) r) }
-        ensures rests { has_peer (state_from self.old) ≡ false → (self.new.phase ≡ SynReceived → ⊥) → (self.new ≡ self.old) × (incoming.new ≡ incoming.old) × IfSome result (λ r. r.rst ≡ true) }
-        ensures hears { has_peer (state_from self.old) ≡ false → self.new.phase ≡ SynReceived → Hears segment.now fresh self.new outgoing.now incoming.new (option_map replied result) }
-        ensures goes { has_peer (state_from self.old) ≡ true → (there back : World) (consumed : List ℕ) → Arrives there back segment.now → Stand there back consumed self.old outgoing.now incoming.old → Goes there back consumed self.new outgoing.now incoming.new (option_map replied result) }
-        ensures beside { self.old.phase ≡ Open → segment.now.rst ≡ true → segment.now.number ≢ self.old.receiving.next → self.new ≡ self.old }
+        ensures rests { has_peer (state_from self.old) ≡ false → (self.new.phase ≡ SynReceived → ⊥)
+            → (self.new ≡ self.old) × (incoming.new ≡ incoming.old) × IfSome result (λ r. r.rst ≡ true) }
+        ensures hears { has_peer (state_from self.old) ≡ false → self.new.phase ≡ SynReceived
+            → Hears segment.now fresh self.new outgoing.now incoming.new (option_map replied result) }
+        ensures goes { has_peer (state_from self.old) ≡ true
+            → GoesWith self.old self.new outgoing.now incoming.old incoming.new segment.now
+            (option_map replied result) }
+        ensures beside { self.old.phase ≡ Open → segment.now.rst ≡ true → segment.now.number ≢ self.old.receiving.next
+            → self.new ≡ self.old }
         ensures syn { self.old.phase ≡ Open → segment.now.rst ≡ false → segment.now.syn ≡ true → self.new ≡ self.old }
-        ensures outside { self.old.phase ≡ Open → segment.now.rst ≡ false → is_taken_at self.old.receiving.next (room_of self.old.receiving (length incoming.old)) segment.now.number (len_of segment.now) ≡ false → self.new ≡ self.old }
+        ensures outside { self.old.phase ≡ Open → segment.now.rst ≡ false → is_taken_at self.old.receiving.next
+            (room_of self.old.receiving (length incoming.old)) segment.now.number (len_of segment.now) ≡ false
+            → self.new ≡ self.old }
         ensures keeps { self.old.phase ≡ Open → segment.now.rst ≡ false → endpoint_of self.new ≡ endpoint_of self.old }
-        ensures acts { self.old.phase ≡ Open → (endpoint_of self.new ≡ endpoint_of self.old) ⊎ (endpoint_of self.new ≡ In_closed) }
-        ensures window { self.old.phase ≡ Open → ((ack : ℕ) → segment.now.ack ≡ Some ack → takes_window self.old segment.now.number ack ≡ false) → self.new.wnd ≤ self.old.wnd }
-        ensures answers { self.old.phase ≡ Open → IfSome result (λ r. (back : World) (consumed : List ℕ) → Stands back consumed self.new.receiving incoming.new → IsAnswered back r) }
-        ensures takes { self.old.phase ≡ Open → (state_from self.old ≡ State.Closed → ⊥) → self.old.receiving.is_open ≡ true → segment.now.rst ≡ false → segment.now.syn ≡ false → is_taken_at self.old.receiving.next (room_of self.old.receiving (length incoming.old)) segment.now.number (len_of segment.now) ≡ true → is_of_unsent self.old segment.now.ack ≡ false → IfSome segment.now.ack (λ ack. TakesAck self.old self.new segment.now.number segment.now.window ack) }
-        ensures flight { self.old.phase ≡ Open → self.new.sending.flight + distance self.new.sending.una self.old.sending.una ≡ self.old.sending.flight }
-        ensures heard { self.old.phase ≡ Open → (state_from self.old ≡ State.Closed → ⊥) → self.old.receiving.is_open ≡ true → segment.now.rst ≡ false → segment.now.syn ≡ false → is_taken_at self.old.receiving.next (room_of self.old.receiving (length incoming.old)) segment.now.number (len_of segment.now) ≡ true → is_of_unsent self.old segment.now.ack ≡ false → IfSome segment.now.ack (λ ack. is_of_sent self.old.sending.una (next_of self.old) ack ≡ true → HearsAck self.old.sending self.new.sending outgoing.now ack) }
-        ensures replies { self.old.phase ≡ Open → (state_from self.old ≡ State.Closed → ⊥) → IfSome result (λ r. r ≡ acknowledgement_of self.new) }
-        ensures bare { self.old.phase ≡ Open → (state_from self.old ≡ State.Closed → ⊥) → is_bare segment.now ≡ true → result ≡ (if answers_bare self.old (room_of self.old.receiving (length incoming.old)) segment.now.number segment.now.ack then Some (acknowledgement_of self.old) else None) }
-        ensures answered { self.old.phase ≡ Open → (state_from self.old ≡ State.Closed → ⊥) → self.old.receiving.is_open ≡ true → segment.now.rst ≡ false → len_of segment.now ≢ 0 → IfSome segment.now.ack (λ ack. result ≡ Some (acknowledgement_of self.new)) }
+        ensures acts { self.old.phase ≡ Open → KeepsOrEnds self.old self.new }
+        ensures window { self.old.phase ≡ Open
+            → ((ack : ℕ) → segment.now.ack ≡ Some ack → takes_window self.old segment.now.number ack ≡ false)
+            → self.new.wnd ≤ self.old.wnd }
+        ensures answers { self.old.phase ≡ Open → IfSome result (λ r. RepliesIn self.new.receiving incoming.new r) }
+        ensures takes { WhenSynced self.old
+            (TakesAckOf self.old (room_of self.old.receiving (length incoming.old)) segment.now self.new) }
+        ensures flight { self.old.phase ≡ Open → SameNext self.old.sending self.new.sending }
+        ensures heard { WhenSynced self.old
+            (HearsAckOf self.old (room_of self.old.receiving (length incoming.old)) segment.now self.new outgoing.now) }
+        ensures replies { WhenOpen self.old (IfSome result (λ r. r ≡ acknowledgement_of self.new)) }
+        ensures bare { WhenOpen self.old (is_bare segment.now ≡ true → result ≡ (if answers_bare self.old
+            (room_of self.old.receiving (length incoming.old)) segment.now.number segment.now.ack
+            then Some (acknowledgement_of self.old) else None)) }
+        ensures answered { WhenSynced self.old (segment.now.rst ≡ false → len_of segment.now ≢ 0
+            → IfSome segment.now.ack (λ ack. result ≡ Some (acknowledgement_of self.new))) }
         ensures still { self.old.phase ≡ Open → is_bare segment.now ≡ true → self.new.receiving ≡ self.old.receiving }
-        ensures edge { self.old.phase ≡ Open → self.old.receiving.has_fin ≡ false → self.new.receiving.has_fin ≡ false → edge_of self.new.receiving (length incoming.old) ≡ edge_of self.old.receiving (length incoming.old) }
+        ensures edge { self.old.phase ≡ Open → KeepsEdge self.old self.new (length incoming.old) }
         ensures closed { state_from self.old ≡ State.Closed → result ≡ refused segment.now }
     {
         match self.phase {
@@ -86,7 +102,8 @@ impl Connection {
         ensures endpoint { endpoint_of self.new ≡ hears_in_listen (control_of segment.now) fresh }
         ensures legal { IfSome result (λ r. IsLegal (endpoint_of self.new) r) }
         ensures rests { (self.new.phase ≡ SynReceived → ⊥) → (self.new ≡ self.old) × IfSome result (λ r. r.rst ≡ true) }
-        ensures hears { self.new.phase ≡ SynReceived → (buffer : List ℕ) → Hears segment.now fresh self.new outgoing.now buffer (option_map replied result) }
+        ensures hears { self.new.phase ≡ SynReceived → (buffer : List ℕ)
+            → Hears segment.now fresh self.new outgoing.now buffer (option_map replied result) }
     {
         if segment.rst {
             return None;
@@ -111,7 +128,9 @@ impl Connection {
         ensures rings { (size : ℕ) → InFits self.old.receiving size → InFits self.new.receiving size }
         ensures endpoint { endpoint_of self.new ≡ hears_in_syn_sent self.old.iss (control_of segment.now) }
         ensures legal { IfSome result (λ r. IsLegal (endpoint_of self.new) r) }
-        ensures goes { (there back : World) (consumed buffer : List ℕ) → Arrives there back segment.now → Stand there back consumed self.old outgoing.now buffer → Goes there back consumed self.new outgoing.now buffer (option_map replied result) }
+        ensures goes { (there back : World) (consumed buffer : List ℕ) → Arrives there back segment.now
+            → Stand there back consumed self.old outgoing.now buffer
+            → Goes there back consumed self.new outgoing.now buffer (option_map replied result) }
     {
         match segment.ack {
             Some(ack) => {
@@ -158,9 +177,11 @@ impl Connection {
         requires rings { InFits self.old.receiving (length incoming.old) }
         ensures out { OutFits self.new.sending (length outgoing.now) }
         ensures rings { InFits self.new.receiving (length incoming.old) }
-        ensures endpoint { endpoint_of self.new ≡ hears_in_syn_received self.old.is_passive self.old.iss self.old.irs (control_of segment.now) (room_of self.old.receiving (length incoming.old)) }
+        ensures endpoint { endpoint_of self.new ≡ hears_in_syn_received self.old.is_passive self.old.iss self.old.irs
+            (control_of segment.now) (room_of self.old.receiving (length incoming.old)) }
         ensures legal { IfSome result (λ r. IsLegal (endpoint_of self.new) r) }
-        ensures goes { (there back : World) (consumed : List ℕ) → Arrives there back segment.now → Stand there back consumed self.old outgoing.now incoming.old → Goes there back consumed self.new outgoing.now incoming.new (option_map replied result) }
+        ensures goes { GoesWith self.old self.new outgoing.now incoming.old incoming.new segment.now
+            (option_map replied result) }
     {
         let next = self.irs.wrapping_add(1);
         let room = self.room(incoming.len());
@@ -198,7 +219,12 @@ impl Connection {
     fn objection(&self, ack: u32) -> Reply
         requires { self.now.phase ≡ SynReceived }
         ensures legal { IsLegal (endpoint_of self.now) result }
-        ensures value { (result.rst ≡ true) ⊎ (result ≡ record { number = after self.now.iss; ack = Some (after self.now.irs); syn = false; rst = false }) }
+        ensures value { (result.rst ≡ true) ⊎ (result ≡ record {
+          number = after self.now.iss;
+          ack = Some (after self.now.irs);
+          syn = false;
+          rst = false;
+        }) }
     {
         if ack == self.iss.wrapping_add(1) {
             self.first_ack()
@@ -219,9 +245,13 @@ impl Connection {
         requires out { OutFits self.old.sending (length outgoing.now) }
         ensures out { OutFits self.new.sending (length outgoing.now) }
         ensures receiving { self.new.receiving ≡ self.old.receiving }
-        ensures endpoint { endpoint_of self.new ≡ hears_syn_again self.old.is_passive self.old.iss self.old.irs (control_of segment.now) acceptable }
+        ensures endpoint { endpoint_of self.new
+            ≡ hears_syn_again self.old.is_passive self.old.iss self.old.irs (control_of segment.now) acceptable }
         ensures legal { IfSome result (λ r. IsLegal (endpoint_of self.new) r) }
-        ensures goes { (there back : World) (consumed buffer : List ℕ) → IfSome segment.now.ack (λ number. (which : ℕ) × AckComes there which number) → Stand there back consumed self.old outgoing.now buffer → Goes there back consumed self.new outgoing.now buffer (option_map replied result) }
+        ensures goes { (there back : World) (consumed buffer : List ℕ)
+            → IfSome segment.now.ack (λ number. (which : ℕ) × AckComes there which number)
+            → Stand there back consumed self.old outgoing.now buffer
+            → Goes there back consumed self.new outgoing.now buffer (option_map replied result) }
     {
         if segment.number == self.irs
             && let Some(ack) = segment.ack
@@ -250,22 +280,31 @@ impl Connection {
         requires rings { InFits self.old.receiving (length incoming.old) }
         ensures out { OutFits self.new.sending (length outgoing.now) }
         ensures rings { InFits self.new.receiving (length incoming.old) }
-        ensures goes { (there back : World) (consumed : List ℕ) → Arrives there back segment.now → Stand there back consumed self.old outgoing.now incoming.old → Goes there back consumed self.new outgoing.now incoming.new (option_map replied result) }
+        ensures goes { GoesWith self.old self.new outgoing.now incoming.old incoming.new segment.now
+            (option_map replied result) }
         ensures beside { segment.now.rst ≡ true → segment.now.number ≢ self.old.receiving.next → self.new ≡ self.old }
         ensures syn { segment.now.rst ≡ false → segment.now.syn ≡ true → self.new ≡ self.old }
-        ensures outside { segment.now.rst ≡ false → is_taken_at self.old.receiving.next (room_of self.old.receiving (length incoming.old)) segment.now.number (len_of segment.now) ≡ false → self.new ≡ self.old }
+        ensures outside { segment.now.rst ≡ false → is_taken_at self.old.receiving.next
+            (room_of self.old.receiving (length incoming.old)) segment.now.number (len_of segment.now) ≡ false
+            → self.new ≡ self.old }
         ensures keeps { segment.now.rst ≡ false → endpoint_of self.new ≡ endpoint_of self.old }
-        ensures acts { (endpoint_of self.new ≡ endpoint_of self.old) ⊎ (endpoint_of self.new ≡ In_closed) }
-        ensures window { ((ack : ℕ) → segment.now.ack ≡ Some ack → takes_window self.old segment.now.number ack ≡ false) → self.new.wnd ≤ self.old.wnd }
-        ensures takes { self.old.receiving.is_open ≡ true → segment.now.rst ≡ false → segment.now.syn ≡ false → is_taken_at self.old.receiving.next (room_of self.old.receiving (length incoming.old)) segment.now.number (len_of segment.now) ≡ true → is_of_unsent self.old segment.now.ack ≡ false → IfSome segment.now.ack (λ ack. TakesAck self.old self.new segment.now.number segment.now.window ack) }
-        ensures flight { self.new.sending.flight + distance self.new.sending.una self.old.sending.una ≡ self.old.sending.flight }
-        ensures hears { self.old.receiving.is_open ≡ true → segment.now.rst ≡ false → segment.now.syn ≡ false → is_taken_at self.old.receiving.next (room_of self.old.receiving (length incoming.old)) segment.now.number (len_of segment.now) ≡ true → is_of_unsent self.old segment.now.ack ≡ false → IfSome segment.now.ack (λ ack. is_of_sent self.old.sending.una (next_of self.old) ack ≡ true → HearsAck self.old.sending self.new.sending outgoing.now ack) }
+        ensures acts { KeepsOrEnds self.old self.new }
+        ensures window { ((ack : ℕ) → segment.now.ack ≡ Some ack → takes_window self.old segment.now.number ack ≡ false)
+            → self.new.wnd ≤ self.old.wnd }
+        ensures takes { self.old.receiving.is_open ≡ true
+            → TakesAckOf self.old (room_of self.old.receiving (length incoming.old)) segment.now self.new }
+        ensures flight { SameNext self.old.sending self.new.sending }
+        ensures hears { self.old.receiving.is_open ≡ true
+            → HearsAckOf self.old (room_of self.old.receiving (length incoming.old)) segment.now self.new outgoing.now }
         ensures replies { IfSome result (λ r. r ≡ acknowledgement_of self.new) }
-        ensures answered { self.old.receiving.is_open ≡ true → segment.now.rst ≡ false → len_of segment.now ≢ 0 → IfSome segment.now.ack (λ ack. result ≡ Some (acknowledgement_of self.new)) }
-        ensures bare { is_bare segment.now ≡ true → result ≡ (if answers_bare self.old (room_of self.old.receiving (length incoming.old)) segment.now.number segment.now.ack then Some (acknowledgement_of self.old) else None) }
+        ensures answered { self.old.receiving.is_open ≡ true → segment.now.rst ≡ false → len_of segment.now ≢ 0
+            → IfSome segment.now.ack (λ ack. result ≡ Some (acknowledgement_of self.new)) }
+        ensures bare { is_bare segment.now ≡ true → result ≡ (if answers_bare self.old
+            (room_of self.old.receiving (length incoming.old)) segment.now.number segment.now.ack
+            then Some (acknowledgement_of self.old) else None) }
         ensures still { is_bare segment.now ≡ true → self.new.receiving ≡ self.old.receiving }
-        ensures edge { self.old.receiving.has_fin ≡ false → self.new.receiving.has_fin ≡ false → edge_of self.new.receiving (length incoming.old) ≡ edge_of self.old.receiving (length incoming.old) }
-        ensures answers { IfSome result (λ r. (back : World) (consumed : List ℕ) → Stands back consumed self.new.receiving incoming.new → IsAnswered back r) }
+        ensures edge { KeepsEdge self.old self.new (length incoming.old) }
+        ensures answers { IfSome result (λ r. RepliesIn self.new.receiving incoming.new r) }
     {
         let Some(next) = self.receiving.next() else {
             return None;
@@ -291,9 +330,11 @@ impl Connection {
     // acknowledgements end. One before RCV.NXT is answered, as a keep-alive probe needs it.
     fn outside(&self, next: u32, segment: &Segment) -> Option<Reply>
         requires text { length segment.now.payload.now < 65536 }
-        ensures value { result ≡ (if len_of segment.now == 0 && not (is_earlier segment.now.number next) then None else Some (acknowledgement_of self.now)) }
+        ensures value { result ≡ (if len_of segment.now == 0 && not (is_earlier segment.now.number next) then None
+            else Some (acknowledgement_of self.now)) }
         ensures syn { IfSome result (λ r. r.syn ≡ false) }
-        ensures legal { IfSome result (λ r. (back : World) (consumed buffer : List ℕ) → Stands back consumed self.now.receiving buffer → IsAnswered back r) }
+        ensures legal { IfSome result (λ r. (back : World) (consumed buffer : List ℕ)
+            → Stands back consumed self.now.receiving buffer → IsAnswered back r) }
     {
         if segment.len() == 0 && !is_before(segment.number, next) {
             return None;
@@ -309,8 +350,9 @@ impl Connection {
         ensures beside { number ≢ next → self.new ≡ self.old }
         ensures stays { (self.new.phase ≡ Closed → ⊥) → (self.new.phase ≡ Listen → ⊥) → self.new ≡ self.old }
         ensures acts { number ≡ next → endpoint_of self.new ≡ reset_of (endpoint_of self.old) }
-        ensures ends { self.old.phase ≡ Open → (endpoint_of self.new ≡ endpoint_of self.old) ⊎ (endpoint_of self.new ≡ In_closed) }
-        ensures legal { IsLegal (endpoint_of self.old) challenge → IfSome result (λ r. IsLegal (endpoint_of self.new) r) }
+        ensures ends { self.old.phase ≡ Open → KeepsOrEnds self.old self.new }
+        ensures legal { IsLegal (endpoint_of self.old) challenge
+            → IfSome result (λ r. IsLegal (endpoint_of self.new) r) }
         ensures reply { IfSome result (λ r. r ≡ challenge) }
     {
         if number == next {
@@ -334,12 +376,14 @@ impl Connection {
         ensures out { OutFits self.new.sending (length outgoing.now) }
         ensures receiving { self.new.receiving ≡ self.old.receiving }
         ensures endpoint { endpoint_of self.new ≡ endpoint_of self.old }
-        ensures waits { (there : World) (which : ℕ) → AckComes there which ack → Waits there self.old.sending outgoing.now → WaitsLater there self.new.sending outgoing.now }
+        ensures waits { WaitsOnAck self.old.sending self.new.sending outgoing.now ack }
         ensures takes { TakesAck self.old self.new segment.now.number segment.now.window ack }
-        ensures flight { self.new.sending.flight + distance self.new.sending.una self.old.sending.una ≡ self.old.sending.flight }
-        ensures hears { is_of_sent self.old.sending.una (next_of self.old) ack ≡ true → HearsAck self.old.sending self.new.sending outgoing.now ack }
+        ensures flight { SameNext self.old.sending self.new.sending }
+        ensures hears { is_of_sent self.old.sending.una (next_of self.old) ack ≡ true
+            → HearsAck self.old.sending self.new.sending outgoing.now ack }
         ensures window { self.new.wnd ≡ window_after self.old segment.now.number segment.now.window ack }
-        ensures wl1 { self.new.wl1 ≡ (if takes_window self.old segment.now.number ack then segment.now.number else self.old.wl1) }
+        ensures wl1 { self.new.wl1
+            ≡ (if takes_window self.old segment.now.number ack then segment.now.number else self.old.wl1) }
         ensures wl2 { self.new.wl2 ≡ (if takes_window self.old segment.now.number ack then ack else self.old.wl2) }
     {
         let newly = ack.wrapping_sub(self.sending.una());
@@ -366,9 +410,15 @@ impl Connection {
         ensures irs { self.new.irs ≡ segment.now.number }
         ensures sending { self.new.sending ≡ self.old.sending }
         ensures rings { (size : ℕ) → InFits self.old.receiving size → InFits self.new.receiving size }
-        ensures next { self.old.receiving.is_open ≡ false → (self.new.receiving.is_open ≡ true) × (self.new.receiving.next ≡ after self.new.irs) }
-        ensures stands { (back : World) (which : ℕ) (rest : List Item) (consumed buffer : List ℕ) → SegmentComes back which segment.now.number (Syn ∷ rest) → Stands back consumed self.old.receiving buffer → StandsLater back consumed self.new.receiving buffer }
-        ensures opens { (back : World) (which : ℕ) (rest : List Item) (consumed buffer : List ℕ) → back.receiver.is_open ≡ false → SegmentComes back which segment.now.number (Syn ∷ rest) → Stands back consumed self.old.receiving buffer → Stands (happens back (Segment_comes which 1)) consumed self.new.receiving buffer }
+        ensures next { self.old.receiving.is_open ≡ false
+            → (self.new.receiving.is_open ≡ true) × (self.new.receiving.next ≡ after self.new.irs) }
+        ensures stands { (back : World) (which : ℕ) (rest : List Item) (consumed buffer : List ℕ)
+            → SegmentComes back which segment.now.number (Syn ∷ rest) → Stands back consumed self.old.receiving buffer
+            → StandsLater back consumed self.new.receiving buffer }
+        ensures opens { (back : World) (which : ℕ) (rest : List Item) (consumed buffer : List ℕ)
+            → back.receiver.is_open ≡ false → SegmentComes back which segment.now.number (Syn ∷ rest)
+            → Stands back consumed self.old.receiving buffer
+            → Stands (happens back (Segment_comes which 1)) consumed self.new.receiving buffer }
     {
         self.irs = segment.number;
         self.receiving.on_syn(segment.number);
@@ -386,7 +436,7 @@ impl Connection {
         ensures iss { self.new.iss ≡ self.old.iss }
         ensures irs { self.new.irs ≡ self.old.irs }
         ensures receiving { self.new.receiving ≡ self.old.receiving }
-        ensures waits { (there : World) (which : ℕ) → AckComes there which ack → Waits there self.old.sending outgoing.now → WaitsLater there self.new.sending outgoing.now }
+        ensures waits { WaitsOnAck self.old.sending self.new.sending outgoing.now ack }
     {
         self.sending.on_ack(outgoing, ack);
         self.wnd = segment.window;
@@ -402,14 +452,18 @@ impl Connection {
         ensures sending { self.new.sending ≡ self.old.sending }
         ensures window { self.new.wnd ≡ self.old.wnd }
         ensures endpoint { endpoint_of self.new ≡ endpoint_of self.old }
-        ensures stands { (back : World) (which : ℕ) (consumed : List ℕ) → SegmentComes back which segment.now.number (items_of false segment.now.payload.now segment.now.fin) → Stands back consumed self.old.receiving incoming.old → StandsLater back consumed self.new.receiving incoming.new }
+        ensures stands { (back : World) (which : ℕ) (consumed : List ℕ)
+            → SegmentComes back which segment.now.number (items_of false segment.now.payload.now segment.now.fin)
+            → Stands back consumed self.old.receiving incoming.old
+            → StandsLater back consumed self.new.receiving incoming.new }
         ensures reply { IfSome result (λ r. (r.syn ≡ false) × (r.rst ≡ false)) }
         ensures replies { IfSome result (λ r. r ≡ acknowledgement_of self.new) }
         ensures none { len_of segment.now ≡ 0 → result ≡ None }
-        ensures still { len_of segment.now ≡ 0 → (self.new.receiving ≡ self.old.receiving) × (incoming.new ≡ incoming.old) }
+        ensures still { len_of segment.now ≡ 0
+            → (self.new.receiving ≡ self.old.receiving) × (incoming.new ≡ incoming.old) }
         ensures some { segment.now.syn ≡ false → len_of segment.now ≢ 0 → result ≡ Some (acknowledgement_of self.new) }
-        ensures edge { self.old.receiving.has_fin ≡ false → self.new.receiving.has_fin ≡ false → edge_of self.new.receiving (length incoming.old) ≡ edge_of self.old.receiving (length incoming.old) }
-        ensures answers { IfSome result (λ r. (back : World) (consumed : List ℕ) → Stands back consumed self.new.receiving incoming.new → IsAnswered back r) }
+        ensures edge { KeepsEdge self.old self.new (length incoming.old) }
+        ensures answers { IfSome result (λ r. RepliesIn self.new.receiving incoming.new r) }
     {
         if segment.payload.is_empty() && !segment.fin {
             return None;
@@ -433,7 +487,8 @@ impl Connection {
 
     // The acknowledgement of the peer's SYN, before text is sent or comes.
     fn first_ack(&self) -> Reply
-        ensures { result ≡ record { number = after self.now.iss; ack = Some (after self.now.irs); syn = false; rst = false } }
+        ensures { result
+            ≡ record { number = after self.now.iss; ack = Some (after self.now.irs); syn = false; rst = false } }
     {
         Reply {
             number: self.iss.wrapping_add(1),

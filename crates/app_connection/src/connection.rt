@@ -2,9 +2,9 @@
 
 ghost use Rattle.std.specs.Prelude.{◌≡◌, ◌==◌, ◌&&◌, ◌∷◌, nat_lt, ◌+◌, ◌%◌, ◌≤◌, ◌<◌, ◌++◌, ◌⊎◌, ℕ, List, [], length, true, false, IfSome, Some, None, max, take, option_map, MatchOption};
 ghost use Rattle.tcp_model.specs.Endpoint.{Syn};
-ghost use Rattle.tcp_model.specs.Network.{World, Event, Close, happens, run, start, IsPrefixOf, Send};
+ghost use Rattle.tcp_model.specs.Network.{World, Event, Close, happens, run, start, IsPrefixOf};
 ghost use Rattle.app_tcp.specs.Stands.{Stands, reach, room_of, IsAnswer};
-ghost use Rattle.app_tcp.specs.Waits.{Waits, IsSend, from_of, unsent_of, count_of};
+ghost use Rattle.app_tcp.specs.Waits.{Waits, from_of, unsent_of, count_of};
 ghost use Rattle.app_tcp.specs.Items.{items_of};
 ghost use Rattle.app_connection.specs.declared.state.Phase.TheVariants.{Closed, SynSent, Open, SynReceived};
 ghost use Rattle.app_connection.specs.SetUp.{In_closed, In_listen, In_syn_sent};
@@ -13,6 +13,7 @@ ghost use Rattle.app_connection.specs.Sequence.{after};
 ghost use Rattle.app_connection.specs.States.{state_from, state_closed, may_close, has_peer};
 ghost use Rattle.app_connection.specs.Steps.{IsFresh, Reads, Writes, first};
 ghost use Rattle.app_connection.specs.Worlds.{Goes, IsOut, Stand, TellsState, replied, said};
+ghost use Rattle.app_connection.specs.Promises.{ChangesOnlyNext, GoesFrom, HasNoText, IsAnswerOf, IsCut, IsEventSend};
 
 use crate::segment::{Reply, Segment};
 use crate::state::{Phase, State, state_of};
@@ -62,7 +63,8 @@ impl Connection {
     /// Its state.
     pub fn state(&self) -> State
         ensures value { result ≡ state_from self.now }
-        ensures tells { (there back : World) (consumed outgoing incoming : List ℕ) → Stand there back consumed self.now outgoing incoming → TellsState result there back }
+        ensures tells { (there back : World) (consumed outgoing incoming : List ℕ)
+            → Stand there back consumed self.now outgoing incoming → TellsState result there back }
     {
         match self.phase {
             Phase::Closed => State::Closed,
@@ -149,10 +151,13 @@ impl Connection {
         requires some { 0 < length outgoing.now }
         requires small { length outgoing.now < 1073741824 }
         ensures opens { has_peer (state_from self.old) ≡ false → endpoint_of self.new ≡ In_syn_sent iss }
-        ensures syn { has_peer (state_from self.old) ≡ false → result ≡ Some (record { number = iss; ack = None; syn = true; rst = false }) }
+        ensures syn { has_peer (state_from self.old) ≡ false
+            → result ≡ Some (record { number = iss; ack = None; syn = true; rst = false }) }
         ensures out { has_peer (state_from self.old) ≡ false → OutFits self.new.sending (length outgoing.now) }
-        ensures rings { has_peer (state_from self.old) ≡ false → (size : ℕ) → 0 < size → size < 1073741824 → InFits self.new.receiving size }
-        ensures begins { has_peer (state_from self.old) ≡ false → (back : World) (buffer : List ℕ) → IsFresh back → Goes (first iss) back [] self.new outgoing.now buffer (option_map replied result) }
+        ensures rings { has_peer (state_from self.old) ≡ false → (size : ℕ) → 0 < size → size < 1073741824
+            → InFits self.new.receiving size }
+        ensures begins { has_peer (state_from self.old) ≡ false → (back : World) (buffer : List ℕ) → IsFresh back
+            → Goes (first iss) back [] self.new outgoing.now buffer (option_map replied result) }
         ensures stays { has_peer (state_from self.old) ≡ true → self.new ≡ self.old }
         ensures none { has_peer (state_from self.old) ≡ true → result ≡ None }
     {
@@ -197,9 +202,12 @@ impl Connection {
         ensures sending { self.new.sending ≡ self.old.sending }
         ensures endpoint { endpoint_of self.new ≡ endpoint_of self.old }
         ensures few { length result.now ≤ count }
-        ensures edge { self.old.receiving.has_fin ≡ false → edge_of self.new.receiving (length incoming.now) ≡ (edge_of self.old.receiving (length incoming.now) + length result.now) % 4294967296 }
+        ensures edge { self.old.receiving.has_fin ≡ false → edge_of self.new.receiving (length incoming.now)
+            ≡ (edge_of self.old.receiving (length incoming.now) + length result.now) % 4294967296 }
         ensures reads { Reads self.old self.new incoming.now result.now }
-        ensures delivers { (initial : ℕ) (events : List Event) (consumed : List ℕ) → let back : World = run events (start initial) in Stands back consumed self.old.receiving incoming.now → IsPrefixOf (consumed ++ result.now) back.written }
+        ensures delivers { (initial : ℕ) (events : List Event) (consumed : List ℕ)
+            → let back : World = run events (start initial) in Stands back consumed self.old.receiving incoming.now
+            → IsPrefixOf (consumed ++ result.now) back.written }
     {
         let count = self.readable(count);
         self.receiving.read(incoming, count)
@@ -219,7 +227,9 @@ impl Connection {
     /// Whether the application has read all that the peer wrote, and the peer has closed.
     pub fn is_ended(&self) -> bool
         ensures value { result ≡ (self.now.receiving.has_fin && self.now.receiving.len == 0) }
-        ensures whole { (initial : ℕ) (events : List Event) (consumed buffer : List ℕ) → result ≡ true → let back : World = run events (start initial) in Stands back consumed self.now.receiving buffer → (back.closed ≡ true) × (consumed ≡ back.written) }
+        ensures whole { (initial : ℕ) (events : List Event) (consumed buffer : List ℕ) → result ≡ true
+            → let back : World = run events (start initial) in Stands back consumed self.now.receiving buffer
+            → (back.closed ≡ true) × (consumed ≡ back.written) }
     {
         self.receiving.is_ended()
     }
@@ -231,10 +241,16 @@ impl Connection {
         ensures out { (size : ℕ) → OutFits self.old.sending size → OutFits self.new.sending size }
         ensures state { state_from self.new ≡ state_closed (state_from self.old) }
         ensures moves { (endpoint_of self.new ≡ endpoint_of self.old) ⊎ (endpoint_of self.new ≡ In_closed) }
-        ensures same { self.new ≡ record self.old { phase = self.new.phase; sending = self.new.sending; is_peer_first = self.new.is_peer_first } }
-        ensures phase { (self.new.phase ≡ Closed → ⊥) → (self.new.phase ≡ self.old.phase) × (self.new.phase ≡ SynSent → ⊥) }
+        ensures same { self.new ≡ record self.old {
+          phase = self.new.phase;
+          sending = self.new.sending;
+          is_peer_first = self.new.is_peer_first;
+        } }
+        ensures phase { (self.new.phase ≡ Closed → ⊥)
+            → (self.new.phase ≡ self.old.phase) × (self.new.phase ≡ SynSent → ⊥) }
         ensures flight { self.new.sending.flight ≡ self.old.sending.flight }
-        ensures waits { may_close (state_from self.old) ≡ true → (there : World) (outgoing : List ℕ) → Waits there self.old.sending outgoing → Waits (happens there Close) self.new.sending outgoing }
+        ensures waits { may_close (state_from self.old) ≡ true → (there : World) (outgoing : List ℕ)
+            → Waits there self.old.sending outgoing → Waits (happens there Close) self.new.sending outgoing }
         ensures stays { may_close (state_from self.old) ≡ false → self.new.sending ≡ self.old.sending }
     {
         match self.state() {
@@ -282,25 +298,42 @@ impl Connection {
         ensures out { OutFits self.new.sending (length outgoing.now) }
         ensures receiving { self.new.receiving ≡ self.old.receiving }
         ensures endpoint { endpoint_of self.new ≡ endpoint_of self.old }
-        ensures set_up { (self.old.phase ≡ Open → ⊥) → IfSome result (λ s. IsLegal (endpoint_of self.old) (record { number = s.number; ack = s.ack; syn = s.syn; rst = s.rst })) }
-        ensures text { (self.old.phase ≡ Open → ⊥) → IfSome result (λ s. (s.payload.now ≡ []) × (s.fin ≡ false)) }
-        ensures after { self.old.phase ≡ Open → self.old.sending.flight < offset → (result ≡ None) × (self.new ≡ self.old) }
-        ensures sends { self.old.phase ≡ Open → IfSome result (λ s. (there : World) → Waits there self.old.sending outgoing.now → IsSend there (from_of self.old.sending offset) s.number (items_of s.syn s.payload.now s.fin)) }
+        ensures set_up { (self.old.phase ≡ Open → ⊥)
+            → IfSome result (λ s. IsLegal (endpoint_of self.old) (record {
+              number = s.number;
+              ack = s.ack;
+              syn = s.syn;
+              rst = s.rst;
+            })) }
+        ensures text { (self.old.phase ≡ Open → ⊥) → HasNoText result }
+        ensures after { self.old.phase ≡ Open → self.old.sending.flight < offset
+            → (result ≡ None) × (self.new ≡ self.old) }
+        ensures sends { self.old.phase ≡ Open
+            → IfSome result (λ s. IsCut self.old.sending outgoing.now (from_of self.old.sending offset) s) }
         ensures alone { has_peer (state_from self.old) ≡ false → (result ≡ None) × (self.new ≡ self.old) }
-        ensures goes { (there back : World) (consumed buffer : List ℕ) → Stand there back consumed self.old outgoing.now buffer → Goes there back consumed self.new outgoing.now buffer (option_map said result) }
-        ensures answers { self.old.phase ≡ Open → IfSome result (λ s. (back : World) (consumed buffer : List ℕ) → Stands back consumed self.old.receiving buffer → IfSome s.ack (λ number. IsAnswer back number)) }
-        ensures same { self.new ≡ record self.old { sending = record self.old.sending { flight = self.new.sending.flight } } }
-        ensures syn { self.old.phase ≡ SynSent → spoken result ≡ Some (record { number = self.old.iss; ack = None; syn = true; rst = false }) }
-        ensures syn_ack { self.old.phase ≡ SynReceived → spoken result ≡ Some (record { number = self.old.iss; ack = Some (after self.old.irs); syn = true; rst = false }) }
-        ensures some { self.old.phase ≡ Open → has_peer (state_from self.old) ≡ true → 0 < count → offset ≤ self.old.sending.flight → offset < count_of self.old.sending → MatchOption result ⊥ (λ s. 0 < len_of s) }
+        ensures goes { GoesFrom self.old self.new outgoing.now (option_map said result) }
+        ensures answers { self.old.phase ≡ Open → IfSome result (λ s. IsAnswerOf self.old.receiving s.ack) }
+        ensures same { ChangesOnlyNext self.old self.new }
+        ensures syn { self.old.phase ≡ SynSent
+            → spoken result ≡ Some (record { number = self.old.iss; ack = None; syn = true; rst = false }) }
+        ensures syn_ack { self.old.phase ≡ SynReceived → spoken result
+            ≡ Some (record { number = self.old.iss; ack = Some (after self.old.irs); syn = true; rst = false }) }
+        ensures some { self.old.phase ≡ Open → has_peer (state_from self.old) ≡ true → 0 < count
+            → offset ≤ self.old.sending.flight → offset < count_of self.old.sending
+            → MatchOption result ⊥ (λ s. 0 < len_of s) }
         ensures at_una { self.old.phase ≡ Open → offset ≡ 0 → IfSome result (λ s. s.number ≡ self.old.sending.una) }
-        ensures sent { self.old.phase ≡ Open → IfSome result (λ s. (there : World) → Waits there self.old.sending outgoing.now → Waits (happens there (Send (from_of self.old.sending offset) (length (items_of s.syn s.payload.now s.fin)))) self.new.sending outgoing.now) }
+        ensures sent { self.old.phase ≡ Open → IfSome result
+            (λ s. IsEventSend self.old.sending self.new.sending outgoing.now (from_of self.old.sending offset) s) }
         ensures none { result ≡ None → self.new ≡ self.old }
         ensures nothing { self.old.phase ≡ Open → count_of self.old.sending ≡ 0 → result ≡ None }
         ensures items { self.old.phase ≡ Open → IfSome result (λ s. 0 < len_of s) }
         ensures inner { self.old.phase ≡ Open → IfSome result (λ s. length s.payload.now ≤ length outgoing.now) }
-        ensures flight { self.old.phase ≡ Open → IfSome result (λ s. self.new.sending.flight ≡ max self.old.sending.flight (from_of self.old.sending offset + length (items_of s.syn s.payload.now s.fin))) }
-        ensures reach { self.old.phase ≡ Open → IfSome result (λ s. (s.number ≡ (self.old.sending.una + from_of self.old.sending offset) % 4294967296) × (len_of s ≤ max 1 count)) }
+        ensures flight { self.old.phase ≡ Open → IfSome result (λ s. self.new.sending.flight
+            ≡ max self.old.sending.flight (from_of self.old.sending offset + length
+            (items_of s.syn s.payload.now s.fin))) }
+        ensures reach { self.old.phase ≡ Open → IfSome result
+            (λ s. (s.number ≡ (self.old.sending.una + from_of self.old.sending offset) % 4294967296)
+            × (len_of s ≤ max 1 count)) }
     {
         match self.state() {
             State::Closed | State::Listen => None,
@@ -352,18 +385,22 @@ impl Connection {
         ensures out { OutFits self.new.sending (length outgoing.now) }
         ensures receiving { self.new.receiving ≡ self.old.receiving }
         ensures endpoint { endpoint_of self.new ≡ endpoint_of self.old }
-        ensures sends { IfSome result (λ s. (there : World) → Waits there self.old.sending outgoing.now → IsSend there (from_of self.old.sending offset) s.number (items_of s.syn s.payload.now s.fin)) }
-        ensures goes { self.old.phase ≡ Open → (there back : World) (consumed buffer : List ℕ) → Stand there back consumed self.old outgoing.now buffer → Goes there back consumed self.new outgoing.now buffer (option_map said result) }
-        ensures answers { IfSome result (λ s. (back : World) (consumed buffer : List ℕ) → Stands back consumed self.old.receiving buffer → IfSome s.ack (λ number. IsAnswer back number)) }
-        ensures same { self.new ≡ record self.old { sending = record self.old.sending { flight = self.new.sending.flight } } }
+        ensures sends { IfSome result (λ s. IsCut self.old.sending outgoing.now (from_of self.old.sending offset) s) }
+        ensures goes { self.old.phase ≡ Open → GoesFrom self.old self.new outgoing.now (option_map said result) }
+        ensures answers { IfSome result (λ s. IsAnswerOf self.old.receiving s.ack) }
+        ensures same { ChangesOnlyNext self.old self.new }
         ensures some { 0 < count → offset < count_of self.old.sending → MatchOption result ⊥ (λ s. 0 < len_of s) }
         ensures at_una { offset ≡ 0 → IfSome result (λ s. s.number ≡ self.old.sending.una) }
-        ensures sent { IfSome result (λ s. (there : World) → Waits there self.old.sending outgoing.now → Waits (happens there (Send (from_of self.old.sending offset) (length (items_of s.syn s.payload.now s.fin)))) self.new.sending outgoing.now) }
+        ensures sent { IfSome result
+            (λ s. IsEventSend self.old.sending self.new.sending outgoing.now (from_of self.old.sending offset) s) }
         ensures none { result ≡ None → self.new ≡ self.old }
         ensures items { IfSome result (λ s. 0 < len_of s) }
         ensures inner { IfSome result (λ s. length s.payload.now ≤ length outgoing.now) }
-        ensures flight { IfSome result (λ s. self.new.sending.flight ≡ max self.old.sending.flight (from_of self.old.sending offset + length (items_of s.syn s.payload.now s.fin))) }
-        ensures reach { IfSome result (λ s. (s.number ≡ (self.old.sending.una + from_of self.old.sending offset) % 4294967296) × (len_of s ≤ max 1 count)) }
+        ensures flight { IfSome result (λ s. self.new.sending.flight ≡ max self.old.sending.flight
+            (from_of self.old.sending offset + length (items_of s.syn s.payload.now s.fin))) }
+        ensures reach { IfSome result
+            (λ s. (s.number ≡ (self.old.sending.una + from_of self.old.sending offset) % 4294967296)
+            × (len_of s ≤ max 1 count)) }
     {
         let part = self.sending.segment(outgoing, offset, count);
         if !part.syn && part.payload.is_empty() && !part.fin {
@@ -385,7 +422,8 @@ impl Connection {
         ensures syn { result.syn ≡ false }
         ensures rst { result.rst ≡ false }
         ensures value { result ≡ acknowledgement_of self.now }
-        ensures legal { (back : World) (consumed buffer : List ℕ) → Stands back consumed self.now.receiving buffer → IfSome result.ack (λ number. IsAnswer back number) }
+        ensures legal { (back : World) (consumed buffer : List ℕ) → Stands back consumed self.now.receiving buffer
+            → IfSome result.ack (λ number. IsAnswer back number) }
     {
         Reply {
             number: self.sending.next(),
@@ -399,9 +437,14 @@ impl Connection {
     /// section 3).
     pub fn kept(&self) -> Option<(u32, u32)>
         requires { reach self.now.receiving < 1073741824 }
-        ensures some { 0 < self.now.receiving.kept → result ≡ Some ((self.now.receiving.next + self.now.receiving.gap) % 4294967296, (self.now.receiving.next + self.now.receiving.gap + self.now.receiving.kept) % 4294967296) }
+        ensures some { 0 < self.now.receiving.kept → result ≡ Some (
+          (self.now.receiving.next + self.now.receiving.gap) % 4294967296,
+          (self.now.receiving.next + self.now.receiving.gap + self.now.receiving.kept) % 4294967296,
+        ) }
         ensures none { self.now.receiving.kept ≡ 0 → result ≡ None }
-        ensures legal { (back : World) (consumed buffer : List ℕ) → InFits self.now.receiving (length buffer) → Stands back consumed self.now.receiving buffer → IfSome result (λ range. (range.0 ≡ back.later.number) × (range.1 ≡ (back.later.number + length back.later.items) % 4294967296)) }
+        ensures legal { (back : World) (consumed buffer : List ℕ) → InFits self.now.receiving (length buffer)
+            → Stands back consumed self.now.receiving buffer → IfSome result (λ range. (range.0 ≡ back.later.number)
+            × (range.1 ≡ (back.later.number + length back.later.items) % 4294967296)) }
     {
         self.receiving.kept()
     }

@@ -51,8 +51,17 @@ pub fn an_acknowledgement_ends(
     requires rings { InFits receiver.old.receiving (length incoming.old) }
     requires phase { receiver.old.phase ≡ Open }
     requires state { state_from receiver.old ≡ State.Closed → ⊥ }
-    ensures ends { (there back : World) (sent received : List Event) (consumed read out rings : List ℕ) → Stand there back consumed sender.now out rings → Stand (run received back) (run sent there) read receiver.old outgoing.now incoming.old → ComesNext there back sent received → result ≡ None }
-    ensures taken { (there back : World) (sent received : List Event) (consumed read out rings : List ℕ) → receiver.old.receiving.is_open ≡ true → Stand there back consumed sender.now out rings → Stand (run received back) (run sent there) read receiver.old outgoing.now incoming.old → ComesNext there back sent received → there.sent ≤ length (run sent there).receiver.got + room_of receiver.old.receiving (length incoming.old) + 1 → IfSome (acknowledgement_of sender.now).ack (λ ack. TakesAck receiver.old receiver.new (acknowledgement_of sender.now).number window ack) }
+    ensures ends { (there back : World) (sent received : List Event) (consumed read out rings : List ℕ)
+        → Stand there back consumed sender.now out rings
+        → Stand (run received back) (run sent there) read receiver.old outgoing.now incoming.old
+        → ComesNext there back sent received → result ≡ None }
+    ensures taken { (there back : World) (sent received : List Event) (consumed read out rings : List ℕ)
+        → receiver.old.receiving.is_open ≡ true → Stand there back consumed sender.now out rings
+        → Stand (run received back) (run sent there) read receiver.old outgoing.now incoming.old
+        → ComesNext there back sent received
+        → there.sent ≤ length (run sent there).receiver.got + room_of receiver.old.receiving (length incoming.old) + 1
+        → IfSome (acknowledgement_of sender.now).ack
+        (λ ack. TakesAck receiver.old receiver.new (acknowledgement_of sender.now).number window ack) }
 {
     let reply = sender.acknowledgement();
     let segment = Segment {
@@ -71,7 +80,15 @@ pub fn an_acknowledgement_ends(
 pub fn a_new_connection_is_new(outgoing: &[u8], incoming: &[u8]) -> Connection
     requires some { 0 < length outgoing.now }
     requires small { length outgoing.now < 1073741824 }
-    ensures { IsNew (record { connection = result; outgoing = outgoing.now; incoming = incoming.now; was_opened = false; wrote = []; read = []; sent = [] }) }
+    ensures { IsNew (record {
+      connection = result;
+      outgoing = outgoing.now;
+      incoming = incoming.now;
+      was_opened = false;
+      wrote = [];
+      read = [];
+      sent = [];
+    }) }
 {
     Connection::new()
 }
@@ -86,7 +103,17 @@ pub fn a_step_is_a_call<'a>(
     requires text { IsShort event }
     requires out { OutFits here.old.sending (length outgoing.now) }
     requires rings { InFits here.old.receiving (length incoming.old) }
-    ensures { (b : End) (was_opened : Bool) (wrote read : List ℕ) (sent : List Sent) → let a : End = record { connection = here.old; outgoing = outgoing.now; incoming = incoming.old; was_opened = was_opened; wrote = wrote; read = read; sent = sent } in MayCome event.entry a b → OpensOnce a here.new → Calls a b (stepped a b here.new incoming.new (option_map said result)) }
+    ensures { (b : End) (was_opened : Bool) (wrote read : List ℕ) (sent : List Sent)
+        → let a : End = record {
+          connection = here.old;
+          outgoing = outgoing.now;
+          incoming = incoming.old;
+          was_opened = was_opened;
+          wrote = wrote;
+          read = read;
+          sent = sent;
+        } in MayCome event.entry a b
+        → OpensOnce a here.new → Calls a b (stepped a b here.new incoming.new (option_map said result)) }
 {
     here.step(outgoing, incoming, event)
 }

@@ -6,3 +6,4 @@ pub mod Pieces
 pub mod Resends
 pub mod Segments
 pub mod Runs
+pub mod Promises

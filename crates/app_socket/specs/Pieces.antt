@@ -10,7 +10,9 @@ use Rattle.app_socket.specs.declared.flow.Piece.{Piece}
 -- them, if Nagle's algorithm (section 3.7.4) does not wait for an acknowledgement or a FIN ends them; or half the largest
 -- window.
 abbrev pub is_worth : Queue → ℕ → ℕ → ℕ → Bool
-is_worth q count available max_window = count == q.mss || ((count == available && (q.is_eager || (q.flight == 0 || q.has_fin))) || not (nat_lt (2 * count) max_window))
+is_worth q count available max_window =
+    count == q.mss ||
+    ((count == available && (q.is_eager || (q.flight == 0 || q.has_fin))) || not (nat_lt (2 * count) max_window))
 
 -- A piece has items, and ends where it may with these windows.
 pub record IsWithin (p : Piece) (window cwnd : ℕ) : Type 0 where

@@ -3,7 +3,6 @@
 use Rattle.std.specs.Prelude.{ℕ, ◌≡◌, ◌⊎◌, ◌+◌, ◌-◌, ◌*◌, ◌%◌, ◌<◌, ◌≤◌, ◌==◌, ◌&&◌, Bool, true, false, not, nat_le, nat_lt, if◌then◌else◌, min, List, [], length, Option, Some, None, is_some, IfSome, MatchOption}
 use Rattle.tcp_model.specs.Network.{World, Segment_comes, Send, happens, round, run}
 use Rattle.tcp_model.specs.Endpoint.{distance}
-use Rattle.app_tcp.specs.Items.{items_of}
 use Rattle.app_tcp.specs.Stands.{room_of}
 use Rattle.app_tcp.specs.declared.sending.Sending.{Sending}
 use Rattle.app_tcp.specs.Waits.{Waits, count_of, unsent_of}
@@ -13,10 +12,10 @@ use Rattle.app_congestion.specs.Rto.{probe_after, sampled, timeout_of}
 use Rattle.app_congestion.specs.Congestion.{is_in_recovery, is_partial, is_past, sender_of, timed_out}
 use Rattle.app_congestion.specs.Scoreboard.{HasNoHole, IsHole, has}
 use Rattle.app_connection.specs.declared.segment.Segment.{Segment}
-use Rattle.app_connection.specs.Endpoints.{acknowledgement_of, is_of_unsent, len_of, next_of, spoken}
-use Rattle.app_connection.specs.Sequence.{after, is_of_sent, is_taken_at}
+use Rattle.app_connection.specs.Endpoints.{OutFits, acknowledgement_of, len_of, next_of, spoken}
+use Rattle.app_connection.specs.Promises.{ChangesOnlyNext, HearsAckOf, IsEventSend, WhenTaken}
+use Rattle.app_connection.specs.Sequence.{after, is_of_sent}
 use Rattle.app_connection.specs.declared.state.Phase.TheVariants as phase
-use Rattle.app_connection.specs.Worlds.{HearsAck}
 use Rattle.app_connection.specs.States.{has_peer, state_from}
 use Rattle.app_connection.specs.declared.state.State.{State}
 use Rattle.app_connection.specs.declared.state.State.TheVariants.{Closed, Listen, SynSent, SynReceived, Established, FinWait1, FinWait2, CloseWait, Closing, LastAck, TimeWait}
@@ -51,6 +50,23 @@ pub record Samples (old new : Rto) (rtt : ℕ) : Type 0 where
   pub estimate : new.estimate ≡ Some (sampled old.estimate rtt)
   pub timeout : new.timeout ≡ timeout_of (sampled old.estimate rtt)
 
+-- a fact about a timer that expires while something is not acknowledged
+abbrev pub WhenDue : Socket → ℕ → Type 0 → Type 0
+WhenDue old now fact = 0 < count_of old.connection.sending → is_due old.timers.resend_at now ≡ true → fact
+
+-- a fact about the retransmission timer that expires so, after the loss probe
+abbrev pub WhenTimeout : Socket → ℕ → Type 0 → Type 0
+WhenTimeout old now fact = WhenDue old now (old.flow.is_probed ≡ true → fact)
+
+-- a fact about a timer that does not expire
+abbrev pub WhenNotDue : Socket → ℕ → Type 0 → Type 0
+WhenNotDue old now fact = now < 9223372036854775808 → is_due old.timers.resend_at now ≡ false → fact
+
+-- the segment that was timed gives a sample once it is acknowledged
+abbrev pub SamplesTimed : Flow → Flow → ℕ → ℕ → ℕ → Type 0
+SamplesTimed old new una newly now =
+    IfSome old.timing (λ t. distance t.end una ≤ newly → Samples old.rto new.rto (min 4294967295 (now - t.sent_at)))
+
 -- for how long the timer runs: until a loss probe, or after one until the time-out (RFC 8985, sections 7.2 and 7.3)
 abbrev pub timer_of : Flow → ℕ
 timer_of f = if f.is_probed then f.rto.timeout else probe_after f.rto.estimate f.rto.timeout
@@ -63,19 +79,45 @@ next_in q = (q.una + q.flight) % 4294967296
 abbrev pub is_probe_useful : Flow → Queue → Bool
 is_probe_useful f q = not (q.window == 0) && (nat_lt q.mss q.flight && not (nat_lt f.cursor q.flight))
 
+-- only what is known of losses changes
+abbrev pub ChangesRecovery : Flow → Flow → Type 0
+ChangesRecovery old new = new ≡ record old { congestion = new.congestion; resend = new.resend; rescued = new.rescued }
+
 -- The retransmission timer expires (RFC 6298, sections 5.4 to 5.6): all that is in flight goes again from the first item on, what
 -- the peer had after a gap is forgotten (RFC 2018, section 8), and the timeout doubles.
 pub record TimesOut (old new : Flow) (q : Queue) : Type 0 where
-  pub same : new ≡ record old { rto = new.rto; congestion = new.congestion; timing = None; cursor = 0; resend = false; scoreboard = new.scoreboard; rescued = 0; is_probed = true }
+  pub same :
+      new ≡ record old {
+        rto = new.rto;
+        congestion = new.congestion;
+        timing = None;
+        cursor = 0;
+        resend = false;
+        scoreboard = new.scoreboard;
+        rescued = 0;
+        is_probed = true;
+      }
   pub known : (n : ℕ) → has new.scoreboard n ≡ false
   pub backs_off : 0 < q.flight → BacksOff old.rto new.rto
   pub probes : q.window ≡ 0 → BacksOff old.rto new.rto
-  pub slows : 0 < q.flight → 0 < q.window → sender_of new.congestion ≡ timed_out (sender_of old.congestion) q.flight (next_in q)
+  pub slows :
+      0 < q.flight → 0 < q.window → sender_of new.congestion ≡ timed_out (sender_of old.congestion) q.flight (next_in q)
 
 -- What is remembered of the segments is of those in flight.
 pub record IsSound (f : Flow) (flight : ℕ) : Type 0 where
   pub cursor : f.cursor ≤ flight
   pub sacked : (n : ℕ) → has f.scoreboard n ≡ true → n < flight
+
+-- a fact about a socket that remembers only what is in flight
+abbrev pub WhenSound : Socket → Type 0 → Type 0
+WhenSound old fact =
+    old.connection.sending.flight ≤ count_of old.connection.sending → IsSound old.flow old.connection.sending.flight
+    → fact
+
+-- what is known of losses, and the count of duplicate acknowledgements, stay
+abbrev pub KeepsCount : Flow → Flow → Type 0
+KeepsCount old new =
+    (new.congestion.phase ≡ old.congestion.phase) × (new.congestion.duplicates ≡ old.congestion.duplicates)
 
 -- A hole after `from` begins where the windows end, or after that.
 pub record IsBeyond (s : Scoreboard) (from limit : ℕ) : Type 0 where
@@ -97,8 +139,12 @@ next_count f q = min (available_of f q) (min (min q.window f.congestion.cwnd - f
 -- windows).
 pub record IsHeld (f : Flow) (q : Queue) : Type 0 where
   pub first : f.resend ≡ false
-  pub hole : is_in_recovery f.congestion.phase ≡ true → 0 < q.mss → HasNoHole f.scoreboard f.rescued ⊎ IsBeyond f.scoreboard f.rescued (min q.window f.congestion.cwnd)
-  pub rest : (next_count f q ≡ 0) ⊎ ((q.flight ≤ f.cursor) × (is_worth q (next_count f q) (available_of f q) f.max_window ≡ false))
+  pub hole :
+      is_in_recovery f.congestion.phase ≡ true → 0 < q.mss
+      → HasNoHole f.scoreboard f.rescued ⊎ IsBeyond f.scoreboard f.rescued (min q.window f.congestion.cwnd)
+  pub rest :
+      (next_count f q ≡ 0)
+      ⊎ ((q.flight ≤ f.cursor) × (is_worth q (next_count f q) (available_of f q) f.max_window ≡ false))
 
 -- whether the application has closed, and the FIN is not acknowledged
 abbrev pub waits_for_end : State → Bool
@@ -131,7 +177,7 @@ pub record GoesFirst (old new : Sending) (outgoing : List ℕ) (s : Segment) : T
   pub number : s.number ≡ old.una
   pub some : 0 < len_of s
   pub inner : length s.payload.now ≤ length outgoing
-  pub waits : (there : World) → Waits there old outgoing → Waits (happens there (Send 0 (length (items_of s.syn s.payload.now s.fin)))) new outgoing
+  pub waits : IsEventSend old new outgoing 0 s
 
 -- such a segment goes
 abbrev pub SendsFirst : Sending → Sending → List ℕ → Option Segment → Type 0
@@ -145,35 +191,46 @@ SendsNone given = IfSome given (λ s. len_of s ≡ 0)
 pub record Resends (old new : Socket) (outgoing : List ℕ) (now : ℕ) (given : Option Segment) : Type 0 where
   -- The retransmission timer expires, after the loss probe: what is not acknowledged goes again from the first item on, the
   -- timeout doubles, and cwnd is one segment (RFC 6298, sections 5.4 and 5.5; RFC 5681, section 3.1).
-  pub expires : 0 < count_of old.connection.sending → is_due old.timers.resend_at now ≡ true → old.flow.is_probed ≡ true → SendsFirst old.connection.sending new.connection.sending outgoing given
-  pub backs_off : 0 < old.connection.sending.flight → 0 < count_of old.connection.sending → is_due old.timers.resend_at now ≡ true → old.flow.is_probed ≡ true → BacksOff old.flow.rto new.flow.rto
-  pub slows : 0 < old.connection.wnd → 0 < old.connection.sending.flight → 0 < count_of old.connection.sending → is_due old.timers.resend_at now ≡ true → old.flow.is_probed ≡ true
-      → sender_of new.flow.congestion ≡ timed_out (sender_of old.flow.congestion) old.connection.sending.flight (next_in (queue_of old))
+  pub expires : WhenTimeout old now (SendsFirst old.connection.sending new.connection.sending outgoing given)
+  pub backs_off : 0 < old.connection.sending.flight → WhenTimeout old now (BacksOff old.flow.rto new.flow.rto)
+  pub slows :
+      0 < old.connection.wnd → 0 < old.connection.sending.flight
+      → WhenTimeout old now
+      (sender_of new.flow.congestion
+      ≡ timed_out (sender_of old.flow.congestion) old.connection.sending.flight (next_in (queue_of old)))
   -- after the first time that it expires, it is the retransmission timer
-  pub probed : 0 < count_of old.connection.sending → is_due old.timers.resend_at now ≡ true → new.flow.is_probed ≡ true
+  pub probed : WhenDue old now (new.flow.is_probed ≡ true)
   -- The timeout changes only then.
-  pub still : now < 9223372036854775808 → is_due old.timers.resend_at now ≡ false → new.flow.rto ≡ old.flow.rto
+  pub still : WhenNotDue old now (new.flow.rto ≡ old.flow.rto)
   -- So does what is known of losses, and the count of duplicate acknowledgements.
-  pub calm : now < 9223372036854775808 → is_due old.timers.resend_at now ≡ false → (new.flow.congestion.phase ≡ old.flow.congestion.phase) × (new.flow.congestion.duplicates ≡ old.flow.congestion.duplicates)
+  pub calm : WhenNotDue old now (KeepsCount old.flow new.flow)
   -- The first segment goes again at once after a third duplicate acknowledgement or a partial one (RFC 5681, RFC 6582).
-  pub again : 0 < count_of old.connection.sending → old.flow.resend ≡ true → SendsFirst old.connection.sending new.connection.sending outgoing given
+  pub again :
+      0 < count_of old.connection.sending → old.flow.resend ≡ true
+      → SendsFirst old.connection.sending new.connection.sending outgoing given
   -- In fast recovery the first hole of what the peer has goes again, as far as the windows allow (RFC 6675, section 4).
   pub hole :
-      (offset count : ℕ) → old.connection.sending.flight ≤ count_of old.connection.sending → IsSound old.flow old.connection.sending.flight → now < 9223372036854775808
-      → is_due old.timers.resend_at now ≡ false → old.flow.resend ≡ false → is_in_recovery old.flow.congestion.phase ≡ true → IsHole old.flow.scoreboard old.flow.rescued offset count → 0 < text_of old
-      → offset < min old.connection.wnd new.flow.congestion.cwnd → MatchOption given ⊥ (λ s. s.number ≡ (old.connection.sending.una + offset) % 4294967296)
+      (offset count : ℕ)
+      → WhenSound old
+      (WhenNotDue old now
+      (old.flow.resend ≡ false → is_in_recovery old.flow.congestion.phase ≡ true
+      → IsHole old.flow.scoreboard old.flow.rescued offset count → 0 < text_of old
+      → offset < min old.connection.wnd new.flow.congestion.cwnd
+      → MatchOption given ⊥ (λ s. s.number ≡ (old.connection.sending.una + offset) % 4294967296)))
   -- While something is not acknowledged, the timer runs (RFC 6298, section 5.1).
   pub armed : 0 < count_of old.connection.sending → IsArmed old.timers.resend_at new.timers.resend_at now
   -- What goes not is held back by the windows, Nagle's algorithm or the avoidance of silly windows.
-  pub held : old.connection.sending.flight ≤ count_of old.connection.sending → 0 < count_of old.connection.sending → IsSound old.flow old.connection.sending.flight → SendsNone given → IsHeld new.flow (queue_of new)
-  pub sound : old.connection.sending.flight ≤ count_of old.connection.sending → IsSound old.flow old.connection.sending.flight → IsSound new.flow new.connection.sending.flight
+  pub held :
+      old.connection.sending.flight ≤ count_of old.connection.sending → 0 < count_of old.connection.sending
+      → IsSound old.flow old.connection.sending.flight → SendsNone given → IsHeld new.flow (queue_of new)
+  pub sound : WhenSound old (IsSound new.flow new.connection.sending.flight)
   -- A loss probe goes once, and the peer's patience does not change, until an acknowledgement comes.
   pub stays : old.flow.is_probed ≡ true → new.flow.is_probed ≡ true
-  pub patience : 0 < count_of old.connection.sending → is_due old.timers.resend_at now ≡ true → new.timers.ends_at ≡ old.timers.ends_at
+  pub patience : WhenDue old now (new.timers.ends_at ≡ old.timers.ends_at)
   pub agreed : new.agreed ≡ old.agreed
   pub quiet : SendsNone given → new.connection ≡ old.connection
   -- Only SND.NXT changes.
-  pub only : new.connection ≡ record old.connection { sending = record old.connection.sending { flight = new.connection.sending.flight } }
+  pub only : ChangesOnlyNext old.connection new.connection
 
 -- before the peer's FIN the application still waits for bytes
 abbrev pub waits_for_bytes : State → Bool
@@ -191,7 +248,9 @@ waits_for_bytes TimeWait = false
 
 -- whether the peer has to hear of the room that the application made (RFC 9293, section 3.8.6.2.2)
 abbrev pub is_room_news : Socket → ℕ → Bool
-is_room_news s incoming = waits_for_bytes (state_from s.connection) && is_update_due s.edge s.connection.receiving.next (room_of s.connection.receiving incoming) (least_growth incoming (mss_of s.options))
+is_room_news s incoming =
+    waits_for_bytes (state_from s.connection) && is_update_due s.edge s.connection.receiving.next
+    (room_of s.connection.receiving incoming) (least_growth incoming (mss_of s.options))
 
 -- What is acknowledged when time passes in an open connection.
 pub record Acknowledges (old : Socket) (incoming now : ℕ) (given : Option Segment) : Type 0 where
@@ -202,12 +261,18 @@ pub record Acknowledges (old : Socket) (incoming now : ℕ) (given : Option Segm
   -- Each segment acknowledges all that came.
   pub ack : IfSome given (λ s. s.ack ≡ (acknowledgement_of old.connection).ack)
   -- One without items is at SND.NXT, or one before it to probe a silent peer (RFC 9293, section 3.8.4).
-  pub number : IfSome given (λ s. len_of s ≡ 0 → (s.number ≡ next_of old.connection) ⊎ (s.number ≡ (next_of old.connection + 4294967295) % 4294967296))
+  pub number :
+      IfSome given (λ s. len_of s ≡ 0
+      → (s.number ≡ next_of old.connection) ⊎ (s.number ≡ (next_of old.connection + 4294967295) % 4294967296))
 
 -- The SYN goes again (RFC 6298, section 5.7), and the timeout doubles.
 pub record SendsSyn (old new : Socket) (now : ℕ) (given : Option Segment) : Type 0 where
-  pub syn : old.connection.phase ≡ phase.SynSent → spoken given ≡ Some (record { number = old.connection.iss; ack = None; syn = true; rst = false })
-  pub syn_ack : old.connection.phase ≡ phase.SynReceived → spoken given ≡ Some (record { number = old.connection.iss; ack = Some (after old.connection.irs); syn = true; rst = false })
+  pub syn :
+      old.connection.phase ≡ phase.SynSent
+      → spoken given ≡ Some (record { number = old.connection.iss; ack = None; syn = true; rst = false })
+  pub syn_ack :
+      old.connection.phase ≡ phase.SynReceived → spoken given
+      ≡ Some (record { number = old.connection.iss; ack = Some (after old.connection.irs); syn = true; rst = false })
   pub backs_off : BacksOff old.flow.rto new.flow.rto
   pub timer : new.timers.resend_at ≡ Some (later now new.flow.rto.timeout)
 
@@ -238,44 +303,91 @@ pub record IsDuplicate (una flight window next room : ℕ) (s : Segment) : Type 
   pub ack : s.ack ≡ Some una
   pub same : s.window ≡ window
 
+-- a segment is one for this socket, whose receive ring has this size
+abbrev pub IsDuplicateFor : Socket → ℕ → Segment → Type 0
+IsDuplicateFor old incoming s =
+    IsDuplicate old.connection.sending.una old.connection.sending.flight old.connection.wnd
+    old.connection.receiving.next
+    (room_of old.connection.receiving incoming) s
+
+-- One is counted, outside of fast recovery and after what was sent before it (RFC 6582, section 3.2). `una` is SND.UNA.
+abbrev pub CountsDuplicate : Flow → Flow → ℕ → Type 0
+CountsDuplicate old new una =
+    is_in_recovery old.congestion.phase ≡ false → is_past old.congestion.phase una ≡ true
+    → old.congestion.duplicates < 3
+    → (new.resend ≡ true) ⊎ (old.congestion.duplicates < new.congestion.duplicates)
+
+-- after the third one the first segment goes again (RFC 5681, section 3.2; RFC 6582, section 3.2)
+abbrev pub ResendsOnThird : Flow → Flow → ℕ → Type 0
+ResendsOnThird old new una =
+    is_in_recovery old.congestion.phase ≡ false → is_past old.congestion.phase una ≡ true
+    → old.congestion.duplicates ≡ 2
+    → new.resend ≡ true
+
+-- The first segment goes again after a partial acknowledgement in fast recovery, of so many numbers, if it did not go again
+-- before (RFC 6582, section 3.2).
+abbrev pub ResendsOnPartial : Flow → Flow → ℕ → ℕ → Type 0
+ResendsOnPartial old new una newly =
+    0 < newly → is_partial old.congestion.phase una ≡ true → old.rescued ≤ newly → new.resend ≡ true
+
+-- how many numbers from this one on are acknowledged
+abbrev pub newly_after : Socket → ℕ → ℕ
+newly_after s una = distance s.connection.sending.una una
+
 -- how many numbers were newly acknowledged
 abbrev pub newly_in : Socket → Socket → ℕ
-newly_in old new = distance new.connection.sending.una old.connection.sending.una
+newly_in old new = newly_after new old.connection.sending.una
 
 -- the timer after an acknowledgement of something new: off if nothing waits (RFC 6298, sections 5.2 and 5.3)
 abbrev pub restarted_at : Socket → ℕ → Option ℕ
-restarted_at s now = if nat_lt 0 (s.connection.sending.flight + unsent_of s.connection.sending) then Some (later now (timer_of s.flow)) else None
+restarted_at s now =
+    if nat_lt 0 (s.connection.sending.flight + unsent_of s.connection.sending) then Some (later now (timer_of s.flow))
+    else None
+
+-- The timer starts anew after an acknowledgement, or it is off. SND.UNA was `una` before.
+abbrev pub RestartsTimer : Socket → Socket → ℕ → ℕ → Type 0
+RestartsTimer old new una now =
+    (size : ℕ) → OutFits old.connection.sending size → 0 < newly_after old una
+    → new.timers.resend_at ≡ restarted_at new now
+
+-- What was remembered of the segments before an acknowledgement is of those in flight after it.
+abbrev pub StaysSound : Socket → Socket → ℕ → Type 0
+StaysSound old new una =
+    IsSound old.flow (old.connection.sending.flight + newly_after old una)
+    → IsSound new.flow old.connection.sending.flight
 
 -- What a segment makes of an open connection, with its window in bytes.
 pub record Learns (old new : Socket) (outgoing : List ℕ) (incoming now : ℕ) (s : Segment) : Type 0 where
   -- An acknowledgement of something that was sent becomes SND.UNA (RFC 9293, section 3.10.7.4).
   pub una :
-      old.connection.receiving.is_open ≡ true → s.rst ≡ false → s.syn ≡ false
-      → is_taken_at old.connection.receiving.next (room_of old.connection.receiving incoming) s.number (len_of s) ≡ true → is_of_unsent old.connection s.ack ≡ false
-      → IfSome s.ack (λ ack. new.connection.sending.una ≡ (if is_of_sent old.connection.sending.una (next_of old.connection) ack then ack else old.connection.sending.una))
+      old.connection.receiving.is_open ≡ true
+      → WhenTaken old.connection (room_of old.connection.receiving incoming) s
+      (IfSome s.ack
+      (λ ack. new.connection.sending.una
+      ≡ (if is_of_sent old.connection.sending.una (next_of old.connection) ack then ack
+      else old.connection.sending.una)))
   -- What is remembered of the segments stays that of those in flight.
   pub sound : IsSound old.flow old.connection.sending.flight → IsSound new.flow new.connection.sending.flight
   -- In the histories it is the event Ack_comes.
   pub hears :
-      old.connection.receiving.is_open ≡ true → s.rst ≡ false → s.syn ≡ false
-      → is_taken_at old.connection.receiving.next (room_of old.connection.receiving incoming) s.number (len_of s) ≡ true → is_of_unsent old.connection s.ack ≡ false
-      → IfSome s.ack (λ ack. is_of_sent old.connection.sending.una (next_of old.connection) ack ≡ true → HearsAck old.connection.sending new.connection.sending outgoing ack)
+      old.connection.receiving.is_open ≡ true
+      → HearsAckOf old.connection (room_of old.connection.receiving incoming) s new.connection outgoing
   -- Then the timer starts anew, or it is off; otherwise it runs on.
   pub restarts : 0 < newly_in old new → new.timers.resend_at ≡ restarted_at new now
-  pub keeps : newly_in old new ≡ 0 → (before : Option ℕ) → IsArmed before old.timers.resend_at now → IsArmed before new.timers.resend_at now
+  pub keeps :
+      newly_in old new ≡ 0 → (before : Option ℕ) → IsArmed before old.timers.resend_at now
+      → IsArmed before new.timers.resend_at now
   -- the first segment goes again after a partial acknowledgement in fast recovery (RFC 6582, section 3.2), if it did not go again
   -- before
-  pub partial : 0 < newly_in old new → is_partial old.flow.congestion.phase new.connection.sending.una ≡ true → old.flow.rescued ≤ newly_in old new → new.flow.resend ≡ true
+  pub partial : ResendsOnPartial old.flow new.flow new.connection.sending.una (newly_in old new)
   -- Duplicate acknowledgements are counted,
   pub counted :
-      newly_in old new ≡ 0 → IsDuplicate old.connection.sending.una old.connection.sending.flight old.connection.wnd old.connection.receiving.next (room_of old.connection.receiving incoming) s
-      → old.connection.receiving.is_open ≡ true → is_in_recovery old.flow.congestion.phase ≡ false → is_past old.flow.congestion.phase new.connection.sending.una ≡ true → old.flow.congestion.duplicates < 3
-      → (new.flow.resend ≡ true) ⊎ (old.flow.congestion.duplicates < new.flow.congestion.duplicates)
-  -- and after the third one the first segment goes again (RFC 5681, section 3.2; RFC 6582, section 3.2)
+      newly_in old new ≡ 0 → IsDuplicateFor old incoming s → old.connection.receiving.is_open ≡ true
+      → CountsDuplicate old.flow new.flow new.connection.sending.una
+  -- and the third one has an effect.
   pub third :
-      newly_in old new ≡ 0 → IsDuplicate old.connection.sending.una old.connection.sending.flight old.connection.wnd old.connection.receiving.next (room_of old.connection.receiving incoming) s
-      → old.connection.receiving.is_open ≡ true → is_in_recovery old.flow.congestion.phase ≡ false → is_past old.flow.congestion.phase new.connection.sending.una ≡ true → old.flow.congestion.duplicates ≡ 2
-      → new.flow.resend ≡ true
+      newly_in old new ≡ 0 → IsDuplicateFor old incoming s → old.connection.receiving.is_open ≡ true
+      → ResendsOnThird old.flow new.flow new.connection.sending.una
 
 -- a segment with the window of the peer in bytes: that of a SYN is not scaled (RFC 7323, section 2.2)
 abbrev pub scaled_by : Agreed → Segment → Segment
@@ -285,7 +397,9 @@ scaled_by a s = record s { window = if s.syn then s.window else window_in a s.wi
 abbrev pub LearnsBy : Event → Socket → Socket → List ℕ → ℕ → ℕ → Type 0
 LearnsBy event.Listen old new outgoing incoming now = Unit {0}
 LearnsBy (event.Open iss) old new outgoing incoming now = Unit {0}
-LearnsBy (event.Arrives segment options fresh) old new outgoing incoming now = rejects old now segment.now options.now ≡ false → Learns old new outgoing incoming now (scaled_by old.agreed segment.now)
+LearnsBy (event.Arrives segment options fresh) old new outgoing incoming now =
+    rejects old now segment.now options.now ≡ false
+    → Learns old new outgoing incoming now (scaled_by old.agreed segment.now)
 LearnsBy event.Close old new outgoing incoming now = Unit {0}
 LearnsBy event.Abort old new outgoing incoming now = Unit {0}
 LearnsBy event.Tick old new outgoing incoming now = Unit {0}
@@ -313,4 +427,6 @@ pub record GoesRound (there : World) (s : Sending) (outgoing : List ℕ) (room :
   pub count : ℕ
   pub some : 0 < count
   pub more : there.acked < (run (round count room) there).acked
-  pub waits : ack ≡ Some (happens (happens there (Send 0 count)) (Segment_comes 0 room)).receiver.next → Waits (run (round count room) there) s outgoing
+  pub waits :
+      ack ≡ Some (happens (happens there (Send 0 count)) (Segment_comes 0 room)).receiver.next
+      → Waits (run (round count room) there) s outgoing

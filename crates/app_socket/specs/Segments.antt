@@ -28,7 +28,8 @@ use Rattle.app_socket.specs.Times.{is_open, mss_of}
 -- Whether a segment is rejected by its timestamp (RFC 7323, sections 3.2 and 5.3), at this time: in a synchronized state, if
 -- timestamps are agreed on, one without RST that has none, or one before TS.Recent.
 abbrev pub rejects : Socket → ℕ → Segment → TcpOptionSummary → Bool
-rejects s now segment options = is_open (state_from s.connection) && (not segment.rst && not (takes s.agreed.recent options.timestamp now))
+rejects s now segment options =
+    is_open (state_from s.connection) && (not segment.rst && not (takes s.agreed.recent options.timestamp now))
 
 -- whether an event is such a segment
 abbrev pub is_stale : Socket → ℕ → Event → Bool
@@ -43,7 +44,8 @@ is_stale s now event.Tick = false
 abbrev pub taken_of : Socket → ℕ → Event → Move
 taken_of s now event.Listen = move.Listen
 taken_of s now (event.Open iss) = move.Open iss
-taken_of s now (event.Arrives segment options fresh) = if rejects s now segment.now options.now then move.Send 0 0 else move.Arrives segment fresh
+taken_of s now (event.Arrives segment options fresh) =
+    if rejects s now segment.now options.now then move.Send 0 0 else move.Arrives segment fresh
 taken_of s now event.Close = move.Close
 taken_of s now event.Abort = move.Abort
 taken_of s now event.Tick = move.Send 0 0
@@ -84,11 +86,15 @@ text_of s = text_limit s.agreed s.limit (nat_lt 0 s.connection.receiving.kept)
 -- (RFC 9293, section 3.7.5).
 pub record Lowers (old new : Socket) (mss : ℕ) : Type 0 where
   pub limit : new.limit ≡ min mss old.limit
-  pub smss : sender_of new.flow.congestion ≡ record (sender_of old.flow.congestion) { mss = min (max 1 (text_of new)) old.flow.congestion.mss }
+  pub smss :
+      sender_of new.flow.congestion
+      ≡ record (sender_of old.flow.congestion) { mss = min (max 1 (text_of new)) old.flow.congestion.mss }
 
 -- All that is in flight goes again from the first item on, and what the peer had after a gap is forgotten.
 pub record GoesAgain (old new : Flow) : Type 0 where
-  pub same : new ≡ record old { congestion = new.congestion; cursor = 0; resend = false; rescued = 0; scoreboard = new.scoreboard }
+  pub same :
+      new
+      ≡ record old { congestion = new.congestion; cursor = 0; resend = false; rescued = 0; scoreboard = new.scoreboard }
   pub known : (n : ℕ) → has new.scoreboard n ≡ false
 
 -- The numbers of the bytes that are kept after a gap, as in a SACK block (RFC 2018, section 3): the first, and the one after

@@ -33,7 +33,9 @@ moved edge target = if is_ahead edge target then target else edge
 
 -- Whether the window has to be told again: little of it is left, and much would be won.
 abbrev pub is_update_due : ℕ → ℕ → ℕ → ℕ → Bool
-is_update_due edge next room least = nat_lt (promised edge next) least && (not (nat_lt room (promised edge next)) && not (nat_lt (room - promised edge next) least))
+is_update_due edge next room least =
+    nat_lt (promised edge next) least &&
+    (not (nat_lt room (promised edge next)) && not (nat_lt (room - promised edge next) least))
 
 -- The right edge that was told is not after that of the room.
 abbrev pub HasRoom : ℕ → Receiving → ℕ → Type 0

@@ -1,27 +1,23 @@
 //! A segment arrives.
 
-ghost use Rattle.std.specs.Prelude.{[], false, ◌≤◌, None, max, ◌≡◌, ◌<◌, ◌⊎◌, ℕ, List, is_some, length, true, IfSome, MatchOption, if◌then◌else◌, option_map, ◌+◌, ◌-◌, ◌%◌, ◌&&◌, not, nat_le, min, Option};
+ghost use Rattle.std.specs.Prelude.{false, ◌≤◌, None, max, ◌≡◌, ◌<◌, ℕ, List, is_some, length, true, IfSome, if◌then◌else◌, option_map, ◌+◌, ◌-◌, ◌%◌, ◌&&◌, not, nat_le, min, Option};
 ghost use Rattle.tcp_model.specs.Network.{World};
-ghost use Rattle.app_tcp.specs.Stands.{Stands, IsAnswer, room_of};
+ghost use Rattle.app_tcp.specs.Stands.{Stands, room_of};
 ghost use Rattle.app_connection.specs.Endpoints.{OutFits, InFits, answers_bare, has_items, is_bare, len_of};
 ghost use Rattle.app_connection.specs.States.{state_from};
-ghost use Rattle.app_connection.specs.Steps.{Steps};
 ghost use Rattle.app_connection.specs.Worlds.{GoesOut, said};
 ghost use Rattle.tcp_model.specs.Endpoint.{distance};
-ghost use Rattle.app_congestion.specs.Congestion.{is_in_recovery, is_partial, is_past};
-ghost use Rattle.app_socket.specs.Resends.{IsArmed, IsDuplicate, IsSound, Learns, restarted_at, scaled_by};
-ghost use Rattle.app_socket.specs.Segments.{GoesForward, rejects};
+ghost use Rattle.app_socket.specs.Resends.{IsArmed, IsDuplicate, IsSound, Learns, restarted_at, scaled_by, CountsDuplicate, ResendsOnPartial, ResendsOnThird, RestartsTimer, StaysSound, newly_after};
+ghost use Rattle.app_socket.specs.Segments.{rejects};
 ghost use Rattle.app_socket.specs.Times.{is_open, later, patience_of};
 ghost use Rattle.app_socket.specs.Window.{HasRoom, Tells};
+ghost use Rattle.app_connection.specs.Promises.{HasNoText, IsAnswerOf};
+ghost use Rattle.app_socket.specs.Promises.{AcknowledgesReceived, AcksSoon, AdvertisesWindow, ChangesOnlyAck, IsOpen, IsPatient, KeepsRecent, KeepsRoom, OwesNoAck, RemembersFlight, StepsBy, WhileOpen};
 
 use crate::socket::Socket;
 use crate::tick::is_open;
 use app_connection::{Event as Move, Segment, State};
-use app_options::{Agreed, peer_mss};
 use wire_tcp_options::TcpOptionSummary;
-
-// Half of the sequence numbers.
-const HALF: u32 = 1 << 31;
 
 // How many segments one acknowledgement counts for at most: receivers hold back no more than that.
 const MAX_SEGMENTS: u32 = 64;
@@ -43,7 +39,8 @@ pub(crate) struct Before {
 impl Before {
     // Whether the segment is near what is expected.
     fn is_near(&self, segment: &Segment) -> bool
-        ensures { result ≡ (not segment.now.rst && nat_le (distance segment.now.number self.now.next) (min 4294967295 (self.now.room + 1))) }
+        ensures { result ≡ (not segment.now.rst && nat_le (distance segment.now.number self.now.next)
+            (min 4294967295 (self.now.room + 1))) }
     {
         !segment.rst && segment.number.wrapping_sub(self.next) <= self.room.saturating_add(1)
     }
@@ -59,7 +56,8 @@ impl Before {
     // Whether it is a duplicate acknowledgement (RFC 5681, section 2), or has a SACK block, also with text (RFC 6675, section 2).
     // One with a closed window answers a probe.
     fn is_duplicate(&self, segment: &Segment, has_sack: bool) -> bool
-        ensures { IsDuplicate self.now.una self.now.flight self.now.window self.now.next self.now.room segment.now → result ≡ true }
+        ensures { IsDuplicate self.now.una self.now.flight self.now.window self.now.next self.now.room segment.now
+            → result ≡ true }
     {
         let is_bare = segment.payload.is_empty() && !segment.fin && segment.window == self.window;
         self.flight > 0
@@ -87,21 +85,29 @@ impl Socket {
         requires rings { InFits self.old.connection.receiving (length incoming.old) }
         ensures out { OutFits self.new.connection.sending (length outgoing.now) }
         ensures rings { InFits self.new.connection.receiving (length incoming.old) }
-        ensures tells { is_open (state_from self.old.connection) ≡ true → is_open (state_from self.new.connection) ≡ true → IfSome result (λ s. IfSome s.ack (λ ack. Tells self.old.edge self.new.edge self.new.connection.receiving (length incoming.old) ack s.window)) }
-        ensures keeps { is_open (state_from self.old.connection) ≡ true → is_open (state_from self.new.connection) ≡ true → self.old.connection.receiving.has_fin ≡ false → self.new.connection.receiving.has_fin ≡ false → HasRoom self.old.edge self.old.connection.receiving (length incoming.old) → HasRoom self.new.edge self.new.connection.receiving (length incoming.old) }
-        ensures acks { is_open (state_from self.old.connection) ≡ true → is_open (state_from self.new.connection) ≡ true → IfSome result (λ s. self.new.timers.ack_at ≡ None) }
-        ensures patience { self.new.timers.ends_at ≤ max self.old.timers.ends_at (later now (patience_of self.old.options)) }
-        ensures text { IfSome result (λ s. (s.payload.now ≡ []) × (s.fin ≡ false)) }
-        ensures bare { is_open (state_from self.old.connection) ≡ true → IfSome result (λ s. len_of s ≡ 0) }
-        ensures answers { is_open (state_from self.old.connection) ≡ true → is_open (state_from self.new.connection) ≡ true → IfSome result (λ s. (back : World) (consumed : List ℕ) → Stands back consumed self.new.connection.receiving incoming.new → (s.rst ≡ true) ⊎ IfSome s.ack (λ number. IsAnswer back number)) }
-        ensures owes { is_open (state_from self.old.connection) ≡ true → is_open (state_from self.new.connection) ≡ true → self.old.connection.receiving.is_open ≡ true → rejects self.old now segment.now options.now ≡ false → has_items segment.now ≡ true → result ≡ None → MatchOption self.new.timers.ack_at ⊥ (λ t. t ≤ later now 40) }
-        ensures to_bare { is_open (state_from self.old.connection) ≡ true → is_open (state_from self.new.connection) ≡ true → rejects self.old now segment.now options.now ≡ false → is_bare segment.now ≡ true → is_some result ≡ answers_bare self.old.connection (room_of self.old.connection.receiving (length incoming.old)) segment.now.number segment.now.ack }
-        ensures recent { is_open (state_from self.old.connection) ≡ true → GoesForward self.old.agreed.recent self.new.agreed.recent now }
-        ensures begins { is_open (state_from self.old.connection) ≡ false → is_open (state_from self.new.connection) ≡ true → IsSound self.new.flow self.new.connection.sending.flight }
-        ensures learns { is_open (state_from self.old.connection) ≡ true → is_open (state_from self.new.connection) ≡ true → rejects self.old now segment.now options.now ≡ false → Learns self.old self.new outgoing.now (length incoming.old) now (scaled_by self.old.agreed segment.now) }
-        ensures stale { rejects self.old now segment.now options.now ≡ true → self.new ≡ record self.old { timers = record self.old.timers { ack_at = self.new.timers.ack_at }; edge = self.new.edge } }
-        ensures answered { rejects self.old now segment.now options.now ≡ true → is_some result ≡ is_some options.now.timestamp }
-        ensures steps { Steps self.old.connection self.new.connection outgoing.now incoming.old incoming.new (if rejects self.old now segment.now options.now then Move.Send 0 0 else Move.Arrives segment.entry fresh) (option_map said result) }
+        ensures tells { AdvertisesWindow self.old self.new (length incoming.old) result }
+        ensures keeps { KeepsRoom self.old self.new (length incoming.old) }
+        ensures acks { OwesNoAck self.old self.new result }
+        ensures patience { IsPatient self.old self.new now }
+        ensures text { HasNoText result }
+        ensures bare { IsOpen self.old → IfSome result (λ s. len_of s ≡ 0) }
+        ensures answers { AcknowledgesReceived self.old self.new incoming.new result }
+        ensures owes { WhileOpen self.old self.new (self.old.connection.receiving.is_open ≡ true
+            → rejects self.old now segment.now options.now ≡ false → has_items segment.now ≡ true
+            → AcksSoon self.new now result) }
+        ensures to_bare { WhileOpen self.old self.new (rejects self.old now segment.now options.now ≡ false
+            → is_bare segment.now ≡ true → is_some result ≡ answers_bare self.old.connection
+            (room_of self.old.connection.receiving (length incoming.old)) segment.now.number segment.now.ack) }
+        ensures recent { KeepsRecent self.old self.new now }
+        ensures begins { is_open (state_from self.old.connection) ≡ false → IsOpen self.new → RemembersFlight self.new }
+        ensures learns { WhileOpen self.old self.new (rejects self.old now segment.now options.now ≡ false
+            → Learns self.old self.new outgoing.now (length incoming.old) now (scaled_by self.old.agreed segment.now)) }
+        ensures stale { rejects self.old now segment.now options.now ≡ true → ChangesOnlyAck self.old self.new }
+        ensures answered { rejects self.old now segment.now options.now ≡ true
+            → is_some result ≡ is_some options.now.timestamp }
+        ensures steps { StepsBy self.old self.new outgoing.now incoming.old incoming.new
+            (if rejects self.old now segment.now options.now then Move.Send 0 0 else Move.Arrives segment.entry fresh)
+            result }
     {
         if self.is_stale(segment, options, now) {
             return self.on_stale(outgoing, incoming.len(), options);
@@ -114,96 +120,6 @@ impl Socket {
             self.agreed.on_timestamp(options.timestamp, now);
         }
         reply
-    }
-
-    // Whether it may be a segment of an earlier round of the sequence numbers (PAWS; RFC 7323, section 5).
-    fn is_stale(&self, segment: &Segment, options: &TcpOptionSummary, now: u64) -> bool
-        ensures { result ≡ rejects self.now now segment.now options.now }
-    {
-        is_open(self.connection.state())
-            && !segment.rst
-            && !self.agreed.takes(options.timestamp, now)
-    }
-
-    // The answer to such a segment (section 5.3), and none to one without a timestamp (section 3.2).
-    fn on_stale<'a>(
-        &mut self,
-        outgoing: &'a [u8],
-        incoming: usize,
-        options: &TcpOptionSummary,
-    ) -> Option<Segment<'a>>
-        requires { InFits self.old.connection.receiving incoming }
-        ensures same { self.new ≡ record self.old { timers = record self.old.timers { ack_at = self.new.timers.ack_at }; edge = self.new.edge } }
-        ensures answered { is_some result ≡ is_some options.now.timestamp }
-        ensures tells { IfSome result (λ s. IfSome s.ack (λ ack. Tells self.old.edge self.new.edge self.old.connection.receiving incoming ack s.window)) }
-        ensures keeps { HasRoom self.old.edge self.old.connection.receiving incoming → HasRoom self.new.edge self.old.connection.receiving incoming }
-        ensures acks { IfSome result (λ s. self.new.timers.ack_at ≡ None) }
-        ensures text { IfSome result (λ s. (s.payload.now ≡ []) × (s.fin ≡ false)) }
-        ensures bare { IfSome result (λ s. len_of s ≡ 0) }
-        ensures answers { IfSome result (λ s. (back : World) (consumed buffer : List ℕ) → Stands back consumed self.old.connection.receiving buffer → IfSome s.ack (λ number. IsAnswer back number)) }
-        ensures goes_out { (there back : World) (consumed buffer : List ℕ) → Stands back consumed self.old.connection.receiving buffer → IfSome (option_map said result) (GoesOut there back) }
-    {
-        if options.timestamp.is_none() {
-            return None;
-        }
-        let number = self.connection.acknowledgement().number;
-        Some(self.acknowledge(outgoing, incoming, number))
-    }
-
-    // What the SYN of the peer says.
-    fn agree(&mut self, segment: &Segment, options: &TcpOptionSummary, now: u64, fresh: u32)
-        ensures same { self.new ≡ record self.old { agreed = self.new.agreed; limit = self.new.limit } }
-        ensures open { is_open (state_from self.old.connection) ≡ true → self.new ≡ self.old }
-    {
-        if !segment.syn {
-            return;
-        }
-        let state = self.connection.state();
-        if !matches!(state, State::Listen | State::SynSent) {
-            return;
-        }
-        if state == State::Listen {
-            self.agreed = Agreed::new(fresh);
-        }
-        self.agreed.on_syn(options, now);
-        self.limit = self.options.most().min(peer_mss(options));
-    }
-
-    // Whether the timestamp of the segment counts if it is taken (RFC 7323, section 4.3): it begins at or before the last
-    // number that was acknowledged, and is not all old.
-    fn is_timestamp_due(&self, segment: &Segment) -> bool
-        requires { length segment.now.payload.now < 65536 }
-        ensures { result ≡ true → segment.now.rst ≡ false }
-    {
-        let next = self.next();
-        let is_acknowledged = self.timers.ack_at.is_none();
-        let end = segment.number.wrapping_add(segment.len());
-        is_open(self.connection.state())
-            && !segment.rst
-            && !segment.syn
-            && is_acknowledged
-            && next.wrapping_sub(segment.number) < HALF
-            && end.wrapping_sub(next) < HALF
-    }
-
-    // The segment with the window of the peer in bytes. That of a SYN is not scaled (RFC 7323, section 2.2).
-    fn scaled<'s>(&self, segment: &Segment<'s>) -> Segment<'s>
-        ensures same { result ≡ record segment.now { window = result.window } }
-        ensures value { result ≡ scaled_by self.now.agreed segment.now }
-    {
-        Segment {
-            number: segment.number,
-            ack: segment.ack,
-            window: if segment.syn {
-                segment.window
-            } else {
-                self.agreed.window_in(segment.window)
-            },
-            syn: segment.syn,
-            rst: segment.rst,
-            fin: segment.fin,
-            payload: segment.payload,
-        }
     }
 
     // Takes a segment that comes, and returns what to send at once.
@@ -221,19 +137,24 @@ impl Socket {
         requires rings { InFits self.old.connection.receiving (length incoming.old) }
         ensures out { OutFits self.new.connection.sending (length outgoing.now) }
         ensures rings { InFits self.new.connection.receiving (length incoming.old) }
-        ensures tells { is_open (state_from self.old.connection) ≡ true → is_open (state_from self.new.connection) ≡ true → IfSome result (λ s. IfSome s.ack (λ ack. Tells self.old.edge self.new.edge self.new.connection.receiving (length incoming.old) ack s.window)) }
-        ensures keeps { is_open (state_from self.old.connection) ≡ true → is_open (state_from self.new.connection) ≡ true → self.old.connection.receiving.has_fin ≡ false → self.new.connection.receiving.has_fin ≡ false → HasRoom self.old.edge self.old.connection.receiving (length incoming.old) → HasRoom self.new.edge self.new.connection.receiving (length incoming.old) }
-        ensures acks { is_open (state_from self.old.connection) ≡ true → is_open (state_from self.new.connection) ≡ true → IfSome result (λ s. self.new.timers.ack_at ≡ None) }
-        ensures patience { self.new.timers.ends_at ≤ max self.old.timers.ends_at (later now (patience_of self.old.options)) }
-        ensures text { IfSome result (λ s. (s.payload.now ≡ []) × (s.fin ≡ false)) }
-        ensures bare { is_open (state_from self.old.connection) ≡ true → IfSome result (λ s. len_of s ≡ 0) }
-        ensures answers { is_open (state_from self.old.connection) ≡ true → is_open (state_from self.new.connection) ≡ true → IfSome result (λ s. (back : World) (consumed : List ℕ) → Stands back consumed self.new.connection.receiving incoming.new → (s.rst ≡ true) ⊎ IfSome s.ack (λ number. IsAnswer back number)) }
-        ensures owes { is_open (state_from self.old.connection) ≡ true → is_open (state_from self.new.connection) ≡ true → self.old.connection.receiving.is_open ≡ true → has_items segment.now ≡ true → result ≡ None → MatchOption self.new.timers.ack_at ⊥ (λ t. t ≤ later now 40) }
-        ensures to_bare { is_open (state_from self.old.connection) ≡ true → is_open (state_from self.new.connection) ≡ true → is_bare segment.now ≡ true → is_some result ≡ answers_bare self.old.connection (room_of self.old.connection.receiving (length incoming.old)) segment.now.number segment.now.ack }
+        ensures tells { AdvertisesWindow self.old self.new (length incoming.old) result }
+        ensures keeps { KeepsRoom self.old self.new (length incoming.old) }
+        ensures acks { OwesNoAck self.old self.new result }
+        ensures patience { IsPatient self.old self.new now }
+        ensures text { HasNoText result }
+        ensures bare { IsOpen self.old → IfSome result (λ s. len_of s ≡ 0) }
+        ensures answers { AcknowledgesReceived self.old self.new incoming.new result }
+        ensures owes { WhileOpen self.old self.new (self.old.connection.receiving.is_open ≡ true
+            → has_items segment.now ≡ true → AcksSoon self.new now result) }
+        ensures to_bare { WhileOpen self.old self.new (is_bare segment.now ≡ true → is_some result
+            ≡ answers_bare self.old.connection
+            (room_of self.old.connection.receiving (length incoming.old)) segment.now.number segment.now.ack) }
         ensures agreed { self.new.agreed ≡ self.old.agreed }
-        ensures steps { Steps self.old.connection self.new.connection outgoing.now incoming.old incoming.new (Move.Arrives segment.entry fresh) (option_map said result) }
-        ensures begins { is_open (state_from self.old.connection) ≡ false → is_open (state_from self.new.connection) ≡ true → IsSound self.new.flow self.new.connection.sending.flight }
-        ensures learns { is_open (state_from self.old.connection) ≡ true → is_open (state_from self.new.connection) ≡ true → Learns self.old self.new outgoing.now (length incoming.old) now segment.now }
+        ensures steps { StepsBy self.old self.new outgoing.now incoming.old incoming.new
+            (Move.Arrives segment.entry fresh) result }
+        ensures begins { is_open (state_from self.old.connection) ≡ false → IsOpen self.new → RemembersFlight self.new }
+        ensures learns { WhileOpen self.old self.new
+            (Learns self.old self.new outgoing.now (length incoming.old) now segment.now) }
     {
         let before = self.before(incoming.len());
         let reply = self
@@ -274,8 +195,9 @@ impl Socket {
 
     // In SYN-RECEIVED.
     fn on_syn(&mut self, before: &Before, now: u64, iss: u32, reply: &Option<Segment<'_>>)
-        ensures same { self.new ≡ record self.old { timers = self.new.timers; flow = self.new.flow; edge = self.new.edge } }
-        ensures patience { self.new.timers.ends_at ≤ max self.old.timers.ends_at (later now (patience_of self.old.options)) }
+        ensures same { self.new
+            ≡ record self.old { timers = self.new.timers; flow = self.new.flow; edge = self.new.edge } }
+        ensures patience { IsPatient self.old self.new now }
     {
         if before.state == State::Listen {
             self.begin(now, iss);
@@ -299,14 +221,21 @@ impl Socket {
     // What an open connection learns from a segment.
     fn learn(&mut self, before: &Before, now: u64, segment: &Segment, options: &TcpOptionSummary)
         ensures same { self.new ≡ record self.old { timers = self.new.timers; flow = self.new.flow } }
-        ensures patience { self.new.timers.ends_at ≤ max self.old.timers.ends_at (later now (patience_of self.old.options)) }
-        ensures restarts { is_open before.now.state ≡ true → (size : ℕ) → OutFits self.old.connection.sending size → 0 < distance self.old.connection.sending.una before.now.una → self.new.timers.resend_at ≡ restarted_at self.new now }
-        ensures keeps { is_open before.now.state ≡ true → distance self.old.connection.sending.una before.now.una ≡ 0 → (earlier : Option ℕ) → IsArmed earlier self.old.timers.resend_at now → IsArmed earlier self.new.timers.resend_at now }
-        ensures partial { is_open before.now.state ≡ true → 0 < distance self.old.connection.sending.una before.now.una → is_partial self.old.flow.congestion.phase self.old.connection.sending.una ≡ true → self.old.flow.rescued ≤ distance self.old.connection.sending.una before.now.una → self.new.flow.resend ≡ true }
-        ensures counted { is_open before.now.state ≡ true → distance self.old.connection.sending.una before.now.una ≡ 0 → IsDuplicate before.now.una before.now.flight before.now.window before.now.next before.now.room segment.now → is_in_recovery self.old.flow.congestion.phase ≡ false → is_past self.old.flow.congestion.phase self.old.connection.sending.una ≡ true → self.old.flow.congestion.duplicates < 3 → (self.new.flow.resend ≡ true) ⊎ (self.old.flow.congestion.duplicates < self.new.flow.congestion.duplicates) }
-        ensures third { is_open before.now.state ≡ true → distance self.old.connection.sending.una before.now.una ≡ 0 → IsDuplicate before.now.una before.now.flight before.now.window before.now.next before.now.room segment.now → is_in_recovery self.old.flow.congestion.phase ≡ false → is_past self.old.flow.congestion.phase self.old.connection.sending.una ≡ true → self.old.flow.congestion.duplicates ≡ 2 → self.new.flow.resend ≡ true }
+        ensures patience { IsPatient self.old self.new now }
+        ensures restarts { is_open before.now.state ≡ true → RestartsTimer self.old self.new before.now.una now }
+        ensures keeps { is_open before.now.state ≡ true → newly_after self.old before.now.una ≡ 0 → (earlier : Option ℕ)
+            → IsArmed earlier self.old.timers.resend_at now → IsArmed earlier self.new.timers.resend_at now }
+        ensures partial { is_open before.now.state ≡ true
+            → ResendsOnPartial self.old.flow self.new.flow self.old.connection.sending.una
+            (newly_after self.old before.now.una) }
+        ensures counted { is_open before.now.state ≡ true → newly_after self.old before.now.una ≡ 0 → IsDuplicate
+            before.now.una before.now.flight before.now.window before.now.next before.now.room segment.now
+            → CountsDuplicate self.old.flow self.new.flow self.old.connection.sending.una }
+        ensures third { is_open before.now.state ≡ true → newly_after self.old before.now.una ≡ 0 → IsDuplicate
+            before.now.una before.now.flight before.now.window before.now.next before.now.room segment.now
+            → ResendsOnThird self.old.flow self.new.flow self.old.connection.sending.una }
         ensures off { is_open before.now.state ≡ false → self.new.timers.resend_at ≡ None }
-        ensures sound { is_open before.now.state ≡ true → IsSound self.old.flow (self.old.connection.sending.flight + distance self.old.connection.sending.una before.now.una) → IsSound self.new.flow self.old.connection.sending.flight }
+        ensures sound { is_open before.now.state ≡ true → StaysSound self.old self.new before.now.una }
         ensures begins { is_open before.now.state ≡ false → IsSound self.new.flow self.old.connection.sending.flight }
     {
         let window = self.connection.window();
@@ -339,7 +268,7 @@ impl Socket {
     fn learn_life(&mut self, before: &Before, now: u64, segment: &Segment)
         ensures same { self.new ≡ record self.old { timers = self.new.timers } }
         ensures resend_at { self.new.timers.resend_at ≡ self.old.timers.resend_at }
-        ensures patience { self.new.timers.ends_at ≤ max self.old.timers.ends_at (later now (patience_of self.old.options)) }
+        ensures patience { IsPatient self.old self.new now }
     {
         if self.connection.state() == State::TimeWait {
             if before.state != State::TimeWait || segment.fin {
@@ -364,13 +293,18 @@ impl Socket {
         options: &TcpOptionSummary,
     )
         ensures same { self.new ≡ record self.old { timers = self.new.timers; flow = self.new.flow } }
-        ensures patience { self.new.timers.ends_at ≤ max self.old.timers.ends_at (later now (patience_of self.old.options)) }
-        ensures restarts { (size : ℕ) → OutFits self.old.connection.sending size → 0 < distance self.old.connection.sending.una before.now.una → self.new.timers.resend_at ≡ restarted_at self.new now }
-        ensures sound { IsSound self.old.flow (self.old.connection.sending.flight + distance self.old.connection.sending.una before.now.una) → IsSound self.new.flow self.old.connection.sending.flight }
-        ensures still { distance self.old.connection.sending.una before.now.una ≡ 0 → self.new.timers ≡ self.old.timers }
-        ensures partial { 0 < distance self.old.connection.sending.una before.now.una → is_partial self.old.flow.congestion.phase self.old.connection.sending.una ≡ true → self.old.flow.rescued ≤ distance self.old.connection.sending.una before.now.una → self.new.flow.resend ≡ true }
-        ensures counted { distance self.old.connection.sending.una before.now.una ≡ 0 → IsDuplicate before.now.una before.now.flight before.now.window before.now.next before.now.room segment.now → is_in_recovery self.old.flow.congestion.phase ≡ false → is_past self.old.flow.congestion.phase self.old.connection.sending.una ≡ true → self.old.flow.congestion.duplicates < 3 → (self.new.flow.resend ≡ true) ⊎ (self.old.flow.congestion.duplicates < self.new.flow.congestion.duplicates) }
-        ensures third { distance self.old.connection.sending.una before.now.una ≡ 0 → IsDuplicate before.now.una before.now.flight before.now.window before.now.next before.now.room segment.now → is_in_recovery self.old.flow.congestion.phase ≡ false → is_past self.old.flow.congestion.phase self.old.connection.sending.una ≡ true → self.old.flow.congestion.duplicates ≡ 2 → self.new.flow.resend ≡ true }
+        ensures patience { IsPatient self.old self.new now }
+        ensures restarts { RestartsTimer self.old self.new before.now.una now }
+        ensures sound { StaysSound self.old self.new before.now.una }
+        ensures still { newly_after self.old before.now.una ≡ 0 → self.new.timers ≡ self.old.timers }
+        ensures partial { ResendsOnPartial self.old.flow self.new.flow self.old.connection.sending.una
+            (newly_after self.old before.now.una) }
+        ensures counted { newly_after self.old before.now.una ≡ 0 → IsDuplicate before.now.una before.now.flight
+            before.now.window before.now.next before.now.room segment.now
+            → CountsDuplicate self.old.flow self.new.flow self.old.connection.sending.una }
+        ensures third { newly_after self.old before.now.una ≡ 0 → IsDuplicate before.now.una before.now.flight
+            before.now.window before.now.next before.now.room segment.now
+            → ResendsOnThird self.old.flow self.new.flow self.old.connection.sending.una }
     {
         let newly = self.connection.una().wrapping_sub(before.una);
         if newly > 0 {
@@ -381,10 +315,16 @@ impl Socket {
 
     // So many numbers after `una` were newly acknowledged: the timer starts anew (RFC 6298, section 5.3).
     fn learn_newly(&mut self, una: u32, newly: u32, now: u64, options: &TcpOptionSummary)
-        ensures same { self.new ≡ record self.old { timers = record self.old.timers { resend_at = self.new.timers.resend_at }; flow = self.new.flow } }
-        ensures sound { (flight : ℕ) → newly ≤ flight → IsSound self.old.flow flight → IsSound self.new.flow (flight - newly) }
-        ensures restarts { (size : ℕ) → OutFits self.old.connection.sending size → self.new.timers.resend_at ≡ restarted_at self.new now }
-        ensures partial { 0 < newly → is_partial self.old.flow.congestion.phase ((una + newly) % 4294967296) ≡ true → self.old.flow.rescued ≤ newly → self.new.flow.resend ≡ true }
+        ensures same { self.new
+            ≡ record self.old {
+              timers = record self.old.timers { resend_at = self.new.timers.resend_at };
+              flow = self.new.flow;
+            } }
+        ensures sound { (flight : ℕ) → newly ≤ flight → IsSound self.old.flow flight
+            → IsSound self.new.flow (flight - newly) }
+        ensures restarts { (size : ℕ) → OutFits self.old.connection.sending size
+            → self.new.timers.resend_at ≡ restarted_at self.new now }
+        ensures partial { ResendsOnPartial self.old.flow self.new.flow ((una + newly) % 4294967296) newly }
     {
         let flight = self.connection.flight();
         let round_trip = self.agreed.round_trip(options.timestamp, now);
@@ -401,11 +341,21 @@ impl Socket {
         segment: &Segment,
         options: &TcpOptionSummary,
     )
-        ensures same { self.new ≡ record self.old { flow = record self.old.flow { congestion = self.new.flow.congestion; resend = self.new.flow.resend; scoreboard = self.new.flow.scoreboard; rescued = self.new.flow.rescued } } }
+        ensures same { self.new ≡ record self.old {
+          flow = record self.old.flow {
+            congestion = self.new.flow.congestion;
+            resend = self.new.flow.resend;
+            scoreboard = self.new.flow.scoreboard;
+            rescued = self.new.flow.rescued;
+          };
+        } }
         ensures still { self.old.flow.resend ≡ true → self.new.flow.resend ≡ true }
-        ensures sound { IsSound self.old.flow self.old.connection.sending.flight → IsSound self.new.flow self.old.connection.sending.flight }
-        ensures counted { newly ≡ 0 → IsDuplicate before.now.una before.now.flight before.now.window before.now.next before.now.room segment.now → is_in_recovery self.old.flow.congestion.phase ≡ false → is_past self.old.flow.congestion.phase self.old.connection.sending.una ≡ true → self.old.flow.congestion.duplicates < 3 → (self.new.flow.resend ≡ true) ⊎ (self.old.flow.congestion.duplicates < self.new.flow.congestion.duplicates) }
-        ensures third { newly ≡ 0 → IsDuplicate before.now.una before.now.flight before.now.window before.now.next before.now.room segment.now → is_in_recovery self.old.flow.congestion.phase ≡ false → is_past self.old.flow.congestion.phase self.old.connection.sending.una ≡ true → self.old.flow.congestion.duplicates ≡ 2 → self.new.flow.resend ≡ true }
+        ensures sound { IsSound self.old.flow self.old.connection.sending.flight
+            → IsSound self.new.flow self.old.connection.sending.flight }
+        ensures counted { newly ≡ 0 → IsDuplicate before.now.una before.now.flight before.now.window before.now.next
+            before.now.room segment.now → CountsDuplicate self.old.flow self.new.flow self.old.connection.sending.una }
+        ensures third { newly ≡ 0 → IsDuplicate before.now.una before.now.flight before.now.window before.now.next
+            before.now.room segment.now → ResendsOnThird self.old.flow self.new.flow self.old.connection.sending.una }
     {
         let (una, flight) = (self.connection.una(), self.connection.flight());
         let has_sack = self.agreed.has_sack() && before.has_sack(segment, options);
@@ -424,8 +374,10 @@ impl Socket {
     // What the peer has after a gap. Returns how many segments that is more than it told before (RFC 6675, section 5): receivers
     // answer several segments with one acknowledgement.
     fn learn_sack(&mut self, options: &TcpOptionSummary) -> u32
-        ensures same { self.new ≡ record self.old { flow = record self.old.flow { scoreboard = self.new.flow.scoreboard } } }
-        ensures sound { IsSound self.old.flow self.old.connection.sending.flight → IsSound self.new.flow self.old.connection.sending.flight }
+        ensures same { self.new
+            ≡ record self.old { flow = record self.old.flow { scoreboard = self.new.flow.scoreboard } } }
+        ensures sound { IsSound self.old.flow self.old.connection.sending.flight
+            → IsSound self.new.flow self.old.connection.sending.flight }
     {
         let (una, flight) = (self.connection.una(), self.connection.flight());
         let known = self.flow.sacked();
@@ -446,21 +398,28 @@ impl Socket {
         reply: Option<Segment<'a>>,
     ) -> Option<Segment<'a>>
         requires rings { InFits self.old.connection.receiving incoming }
-        requires text { IfSome reply (λ s. (s.payload.now ≡ []) × (s.fin ≡ false)) }
+        requires text { HasNoText reply }
         requires bare { is_open before.now.state ≡ true → IfSome reply (λ s. len_of s ≡ 0) }
         ensures same { self.new ≡ record self.old { timers = self.new.timers; edge = self.new.edge } }
-        ensures text { IfSome result (λ s. (s.payload.now ≡ []) × (s.fin ≡ false)) }
+        ensures text { HasNoText result }
         ensures bare { is_open before.now.state ≡ true → IfSome result (λ s. len_of s ≡ 0) }
-        ensures goes_out { (there back : World) (consumed buffer : List ℕ) → Stands back consumed self.old.connection.receiving buffer → IfSome (option_map said reply.entry) (GoesOut there back) → IfSome (option_map said result) (GoesOut there back) }
-        ensures answers { is_open before.now.state ≡ true → IfSome result (λ s. (back : World) (consumed buffer : List ℕ) → Stands back consumed self.old.connection.receiving buffer → IfSome s.ack (λ number. IsAnswer back number)) }
-        ensures tells { is_open before.now.state ≡ true → IfSome result (λ s. IfSome s.ack (λ ack. Tells self.old.edge self.new.edge self.old.connection.receiving incoming ack s.window)) }
-        ensures keeps { is_open before.now.state ≡ true → HasRoom self.old.edge self.old.connection.receiving incoming → HasRoom self.new.edge self.old.connection.receiving incoming }
+        ensures goes_out { (there back : World) (consumed buffer : List ℕ)
+            → Stands back consumed self.old.connection.receiving buffer
+            → IfSome (option_map said reply.entry) (GoesOut there back)
+            → IfSome (option_map said result) (GoesOut there back) }
+        ensures answers { is_open before.now.state ≡ true
+            → IfSome result (λ s. IsAnswerOf self.old.connection.receiving s.ack) }
+        ensures tells { is_open before.now.state ≡ true → IfSome result (λ s. IfSome s.ack
+            (λ ack. Tells self.old.edge self.new.edge self.old.connection.receiving incoming ack s.window)) }
+        ensures keeps { is_open before.now.state ≡ true → HasRoom self.old.edge self.old.connection.receiving incoming
+            → HasRoom self.new.edge self.old.connection.receiving incoming }
         ensures acks { is_open before.now.state ≡ true → IfSome result (λ s. self.new.timers.ack_at ≡ None) }
         ensures ends_at { self.new.timers.ends_at ≡ self.old.timers.ends_at }
         ensures resend_at { self.new.timers.resend_at ≡ self.old.timers.resend_at }
-        ensures owes { is_open before.now.state ≡ true → is_some reply.entry ≡ true → result ≡ None → MatchOption self.new.timers.ack_at ⊥ (λ t. t ≤ later now 40) }
+        ensures owes { is_open before.now.state ≡ true → is_some reply.entry ≡ true → AcksSoon self.new now result }
         ensures none { is_open before.now.state ≡ true → is_some reply.entry ≡ false → result ≡ None }
-        ensures some { is_open before.now.state ≡ true → self.old.connection.receiving.is_open ≡ true → before.now.next ≡ self.old.connection.receiving.next → is_some result ≡ is_some reply.entry }
+        ensures some { is_open before.now.state ≡ true → self.old.connection.receiving.is_open ≡ true
+            → before.now.next ≡ self.old.connection.receiving.next → is_some result ≡ is_some reply.entry }
     {
         if before.state == State::SynSent {
             self.begin_edge(&reply);

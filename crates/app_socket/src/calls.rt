@@ -36,7 +36,8 @@ impl Socket {
         ensures same { self.new ≡ record self.old { connection = self.new.connection } }
         ensures listens { state_from self.old.connection ≡ State.Closed → endpoint_of self.new.connection ≡ In_listen }
         ensures stays { (state_from self.old.connection ≡ State.Closed → ⊥) → self.new ≡ self.old }
-        ensures steps { (outgoing incoming : List ℕ) → Steps self.old.connection self.new.connection outgoing incoming incoming Move.Listen None }
+        ensures steps { (outgoing incoming : List ℕ)
+            → Steps self.old.connection self.new.connection outgoing incoming incoming Move.Listen None }
     {
         self.connection.listen();
     }
@@ -46,9 +47,13 @@ impl Socket {
         ensures same { self.new ≡ record self.old { connection = self.new.connection } }
         ensures state { state_from self.new.connection ≡ state_closed (state_from self.old.connection) }
         ensures receiving { self.new.connection.receiving ≡ self.old.connection.receiving }
-        ensures waits { may_close (state_from self.old.connection) ≡ true → (there : World) (outgoing : List ℕ) → Waits there self.old.connection.sending outgoing → Waits (happens there Close) self.new.connection.sending outgoing }
-        ensures stays { may_close (state_from self.old.connection) ≡ false → self.new.connection.sending ≡ self.old.connection.sending }
-        ensures steps { (outgoing incoming : List ℕ) → Steps self.old.connection self.new.connection outgoing incoming incoming Move.Close None }
+        ensures waits { may_close (state_from self.old.connection) ≡ true → (there : World) (outgoing : List ℕ)
+            → Waits there self.old.connection.sending outgoing
+            → Waits (happens there Close) self.new.connection.sending outgoing }
+        ensures stays { may_close (state_from self.old.connection) ≡ false
+            → self.new.connection.sending ≡ self.old.connection.sending }
+        ensures steps { (outgoing incoming : List ℕ)
+            → Steps self.old.connection self.new.connection outgoing incoming incoming Move.Close None }
     {
         self.connection.close();
     }
@@ -60,14 +65,17 @@ impl Socket {
         ensures sending { self.new.connection.sending ≡ self.old.connection.sending }
         ensures receiving { self.new.connection.receiving ≡ self.old.connection.receiving }
         ensures reset { IfSome result (λ r. r.rst ≡ true) }
-        ensures steps { (outgoing incoming : List ℕ) → Steps self.old.connection self.new.connection outgoing incoming incoming Move.Abort (option_map replied result) }
+        ensures steps { (outgoing incoming : List ℕ)
+            → Steps self.old.connection self.new.connection outgoing incoming incoming Move.Abort
+            (option_map replied result) }
     {
         self.connection.abort()
     }
 
     /// How many items the peer has not acknowledged: bytes that were written, a SYN and a FIN.
     pub fn waiting(&self) -> usize
-        ensures { (size : ℕ) → OutFits self.now.connection.sending size → result ≡ min 18446744073709551615 (self.now.connection.sending.flight + unsent_of self.now.connection.sending) }
+        ensures { (size : ℕ) → OutFits self.now.connection.sending size → result
+            ≡ min 18446744073709551615 (self.now.connection.sending.flight + unsent_of self.now.connection.sending) }
     {
         (self.connection.flight() as usize).saturating_add(self.connection.unsent())
     }

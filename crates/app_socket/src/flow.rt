@@ -1,11 +1,10 @@
-//! What is sent, and when again (RFC 6298, RFC 5681, RFC 6582; RFC 9293, sections 3.7.4 and 3.8.6).
+//! What is remembered of what is sent, and when it goes again (RFC 6298, RFC 5681, RFC 6582).
 
-ghost use Rattle.std.specs.Prelude.{◌≡◌, ◌<◌, ◌≤◌, ◌⊎◌, ◌+◌, ◌-◌, ◌%◌, ◌==◌, ◌&&◌, ℕ, true, false, not, nat_lt, min, max, Some, None, IfSome, MatchOption};
-ghost use Rattle.tcp_model.specs.Endpoint.{distance};
+ghost use Rattle.std.specs.Prelude.{◌≡◌, ◌<◌, ◌≤◌, ◌⊎◌, ◌+◌, ◌-◌, ◌%◌, ◌==◌, ◌&&◌, ℕ, true, false, not, nat_lt, min, max, Some, None, IfSome};
 ghost use Rattle.app_congestion.specs.Congestion.{acknowledged, begins, duplicated, is_in_recovery, is_partial, is_past, is_third, probed, restarted, sender_of};
-ghost use Rattle.app_congestion.specs.Scoreboard.{HasNoHole, IsHole, has, total};
-ghost use Rattle.app_socket.specs.Pieces.{IsSacked, IsWithin, is_worth};
-ghost use Rattle.app_socket.specs.Resends.{BacksOff, IsBeyond, IsHeld, IsSound, Samples, TimesOut, is_probe_useful, next_in, timer_of};
+ghost use Rattle.app_congestion.specs.Scoreboard.{has, total};
+ghost use Rattle.app_socket.specs.Pieces.{IsSacked, IsWithin};
+ghost use Rattle.app_socket.specs.Resends.{BacksOff, Samples, TimesOut, is_probe_useful, next_in, timer_of, ChangesRecovery, SamplesTimed};
 
 use app_congestion::{Congestion, Rto, Scoreboard};
 
@@ -82,16 +81,6 @@ impl Queue {
     }
 }
 
-// Whether so many new items of those that are available are worth a segment: Nagle's algorithm (section 3.7.4) and the sender's
-// avoidance of silly windows (section 3.8.6.2.1).
-fn is_worth(queue: &Queue, count: u32, available: usize, max_window: u32) -> bool
-    ensures { result ≡ is_worth queue.now count available max_window }
-{
-    let is_all = count as usize == available;
-    let at_once = queue.is_eager || queue.flight == 0 || queue.has_fin;
-    count == u32::from(queue.mss) || is_all && at_once || count.saturating_mul(2) >= max_window
-}
-
 impl Flow {
     pub(crate) fn new() -> Flow {
         Flow {
@@ -139,7 +128,19 @@ impl Flow {
 
     // A SYN goes out; `end` is the number after it.
     pub(crate) fn begin(&mut self, end: u32, now: u64)
-        ensures same { self.new ≡ record self.old { rto = self.new.rto; timing = Some (record { end = end; sent_at = now }); cursor = 1; resend = false; scoreboard = self.new.scoreboard; rescued = 0; max_window = 0; is_probed = false } }
+        ensures same { self.new ≡ record self.old {
+          rto = self.new.rto;
+          timing = Some (record {
+            end = end;
+            sent_at = now;
+          });
+          cursor = 1;
+          resend = false;
+          scoreboard = self.new.scoreboard;
+          rescued = 0;
+          max_window = 0;
+          is_probed = false;
+        } }
         ensures timeout { self.new.rto.timeout ≡ 1000 }
         ensures estimate { self.new.rto.estimate ≡ None }
         ensures known { (n : ℕ) → has self.new.scoreboard n ≡ false }
@@ -156,9 +157,17 @@ impl Flow {
 
     // The SYN was acknowledged. One that was sent again is not timed (RFC 6298, section 5.7; RFC 5681, section 3.1).
     pub(crate) fn establish(&mut self, mss: u16, window: u32, now: u64)
-        ensures same { self.new ≡ record self.old { rto = self.new.rto; congestion = self.new.congestion; timing = None; cursor = 0; scoreboard = self.new.scoreboard; max_window = window } }
+        ensures same { self.new ≡ record self.old {
+          rto = self.new.rto;
+          congestion = self.new.congestion;
+          timing = None;
+          cursor = 0;
+          scoreboard = self.new.scoreboard;
+          max_window = window;
+        } }
         ensures known { (n : ℕ) → has self.new.scoreboard n ≡ false }
-        ensures times { IfSome self.old.timing (λ t. Samples self.old.rto self.new.rto (min 4294967295 (now - t.sent_at))) }
+        ensures times { IfSome self.old.timing
+            (λ t. Samples self.old.rto self.new.rto (min 4294967295 (now - t.sent_at))) }
         ensures begins { IfSome self.old.timing (λ t. sender_of self.new.congestion ≡ begins (max 1 mss)) }
         ensures lost { self.old.timing ≡ None → self.new.rto.timeout ≡ 3000 }
         ensures slow { self.old.timing ≡ None → self.new.congestion.cwnd ≡ max 1 mss }
@@ -186,13 +195,26 @@ impl Flow {
         round_trip: Option<u32>,
         now: u64,
     )
-        ensures same { self.new ≡ record self.old { rto = self.new.rto; congestion = self.new.congestion; timing = self.new.timing; cursor = self.old.cursor - newly; resend = self.new.resend; scoreboard = self.new.scoreboard; rescued = self.old.rescued - newly; is_probed = self.new.is_probed } }
+        ensures same { self.new ≡ record self.old {
+          rto = self.new.rto;
+          congestion = self.new.congestion;
+          timing = self.new.timing;
+          cursor = self.old.cursor - newly;
+          resend = self.new.resend;
+          scoreboard = self.new.scoreboard;
+          rescued = self.old.rescued - newly;
+          is_probed = self.new.is_probed;
+        } }
         ensures known { (n : ℕ) → has self.new.scoreboard n ≡ has self.old.scoreboard (n + newly) }
-        ensures sender { sender_of self.new.congestion ≡ acknowledged (sender_of self.old.congestion) newly flight ((una + newly) % 4294967296) }
-        ensures partial { is_partial self.old.congestion.phase ((una + newly) % 4294967296) ≡ true → 0 < newly → self.old.rescued ≤ newly → self.new.resend ≡ true }
-        ensures alone { is_partial self.old.congestion.phase ((una + newly) % 4294967296) ≡ true → 0 < newly → ((n : ℕ) → has self.new.scoreboard n ≡ false) → self.new.resend ≡ true }
-        ensures other { is_partial self.old.congestion.phase ((una + newly) % 4294967296) ≡ false → self.new.resend ≡ false }
-        ensures timed { IfSome self.old.timing (λ t. distance t.end una ≤ newly → Samples self.old.rto self.new.rto (min 4294967295 (now - t.sent_at))) }
+        ensures sender { sender_of self.new.congestion
+            ≡ acknowledged (sender_of self.old.congestion) newly flight ((una + newly) % 4294967296) }
+        ensures partial { is_partial self.old.congestion.phase ((una + newly) % 4294967296) ≡ true → 0 < newly
+            → self.old.rescued ≤ newly → self.new.resend ≡ true }
+        ensures alone { is_partial self.old.congestion.phase ((una + newly) % 4294967296) ≡ true → 0 < newly
+            → ((n : ℕ) → has self.new.scoreboard n ≡ false) → self.new.resend ≡ true }
+        ensures other { is_partial self.old.congestion.phase ((una + newly) % 4294967296) ≡ false
+            → self.new.resend ≡ false }
+        ensures timed { SamplesTimed self.old self.new una newly now }
         ensures told { self.old.timing ≡ None → IfSome round_trip (λ rtt. Samples self.old.rto self.new.rto rtt) }
         ensures ends { self.old.is_probed ≡ false → self.new.is_probed ≡ false }
     {
@@ -210,8 +232,9 @@ impl Flow {
     // Takes the round trip of the segment that is timed; where none is, since segments went again, the one that timestamps tell
     // (RFC 6298, section 3).
     fn time(&mut self, una: u32, newly: u32, round_trip: Option<u32>, now: u64)
-        ensures same { self.new ≡ record self.old { rto = self.new.rto; timing = self.new.timing; is_probed = self.new.is_probed } }
-        ensures timed { IfSome self.old.timing (λ t. distance t.end una ≤ newly → Samples self.old.rto self.new.rto (min 4294967295 (now - t.sent_at))) }
+        ensures same { self.new
+            ≡ record self.old { rto = self.new.rto; timing = self.new.timing; is_probed = self.new.is_probed } }
+        ensures timed { SamplesTimed self.old self.new una newly now }
         ensures told { self.old.timing ≡ None → IfSome round_trip (λ rtt. Samples self.old.rto self.new.rto rtt) }
         ensures ends { self.old.is_probed ≡ false → self.new.is_probed ≡ false }
     {
@@ -230,7 +253,8 @@ impl Flow {
     // The peer has these numbers after a gap (RFC 2018), of the `flight` that were sent after `una`.
     pub(crate) fn on_sack(&mut self, una: u32, flight: u32, first: u32, end: u32)
         ensures same { self.new ≡ record self.old { scoreboard = self.new.scoreboard } }
-        ensures known { (n : ℕ) → has self.new.scoreboard n ≡ true → (has self.old.scoreboard n ≡ true) ⊎ IsSacked una flight first end n }
+        ensures known { (n : ℕ) → has self.new.scoreboard n ≡ true
+            → (has self.old.scoreboard n ≡ true) ⊎ IsSacked una flight first end n }
     {
         let (from, to) = (first.wrapping_sub(una), end.wrapping_sub(una));
         if to <= flight {
@@ -254,11 +278,14 @@ impl Flow {
 
     // As many duplicate acknowledgements.
     pub(crate) fn on_duplicates(&mut self, count: u32, flight: u32, una: u32)
-        ensures same { self.new ≡ record self.old { congestion = self.new.congestion; resend = self.new.resend; rescued = self.new.rescued } }
+        ensures same { ChangesRecovery self.old self.new }
         ensures still { self.old.resend ≡ true → self.new.resend ≡ true }
         ensures none { count ≡ 0 → self.new ≡ self.old }
-        ensures counts { is_in_recovery self.old.congestion.phase ≡ false → self.old.congestion.duplicates + count < 3 → (self.new.congestion.phase ≡ self.old.congestion.phase) × (self.new.congestion.duplicates ≡ self.old.congestion.duplicates + count) }
-        ensures third { is_in_recovery self.old.congestion.phase ≡ false → is_past self.old.congestion.phase una ≡ true → self.old.congestion.duplicates < 3 → 3 ≤ self.old.congestion.duplicates + count → self.new.resend ≡ true }
+        ensures counts { is_in_recovery self.old.congestion.phase ≡ false → self.old.congestion.duplicates + count < 3
+            → (self.new.congestion.phase ≡ self.old.congestion.phase)
+            × (self.new.congestion.duplicates ≡ self.old.congestion.duplicates + count) }
+        ensures third { is_in_recovery self.old.congestion.phase ≡ false → is_past self.old.congestion.phase una ≡ true
+            → self.old.congestion.duplicates < 3 → 3 ≤ self.old.congestion.duplicates + count → self.new.resend ≡ true }
     {
         for _ in 0..count {
             self.on_duplicate(flight, una);
@@ -266,11 +293,14 @@ impl Flow {
     }
 
     fn on_duplicate(&mut self, flight: u32, una: u32)
-        ensures same { self.new ≡ record self.old { congestion = self.new.congestion; resend = self.new.resend; rescued = self.new.rescued } }
-        ensures sender { sender_of self.new.congestion ≡ duplicated (sender_of self.old.congestion) flight una ((una + flight) % 4294967296) }
+        ensures same { ChangesRecovery self.old self.new }
+        ensures sender { sender_of self.new.congestion
+            ≡ duplicated (sender_of self.old.congestion) flight una ((una + flight) % 4294967296) }
         ensures still { self.old.resend ≡ true → self.new.resend ≡ true }
-        ensures third { (not (is_in_recovery self.old.congestion.phase) && is_third (sender_of self.old.congestion) una) ≡ true → (self.new.resend ≡ true) × (self.new.rescued ≡ 0) }
-        ensures other { (not (is_in_recovery self.old.congestion.phase) && is_third (sender_of self.old.congestion) una) ≡ false → self.new ≡ record self.old { congestion = self.new.congestion } }
+        ensures third { (not (is_in_recovery self.old.congestion.phase) && is_third (sender_of self.old.congestion) una)
+            ≡ true → (self.new.resend ≡ true) × (self.new.rescued ≡ 0) }
+        ensures other { (not (is_in_recovery self.old.congestion.phase) && is_third (sender_of self.old.congestion) una)
+            ≡ false → self.new ≡ record self.old { congestion = self.new.congestion } }
     {
         let next = una.wrapping_add(flight);
         if self.congestion.on_duplicate(flight, una, next) {
@@ -306,9 +336,15 @@ impl Flow {
     // The timer of a loss probe expired: fast recovery begins, and the first segment goes again. Nothing happens if the window is
     // closed, while everything goes again, and for one segment, whose acknowledgement the peer may delay.
     pub(crate) fn on_probe(&mut self, queue: &Queue)
-        ensures same { self.new ≡ record self.old { congestion = self.new.congestion; resend = self.new.resend; rescued = self.new.rescued; is_probed = true } }
+        ensures same { self.new ≡ record self.old {
+          congestion = self.new.congestion;
+          resend = self.new.resend;
+          rescued = self.new.rescued;
+          is_probed = true;
+        } }
         ensures first { is_probe_useful self.old queue.now ≡ true → (self.new.resend ≡ true) × (self.new.rescued ≡ 0) }
-        ensures sender { is_probe_useful self.old queue.now ≡ true → sender_of self.new.congestion ≡ probed (sender_of self.old.congestion) queue.now.flight (next_in queue.now) }
+        ensures sender { is_probe_useful self.old queue.now ≡ true → sender_of self.new.congestion
+            ≡ probed (sender_of self.old.congestion) queue.now.flight (next_in queue.now) }
         ensures other { is_probe_useful self.old queue.now ≡ false → self.new ≡ record self.old { is_probed = true } }
         ensures still { self.old.resend ≡ true → self.new.resend ≡ true }
     {
@@ -347,128 +383,22 @@ impl Flow {
     // The path takes smaller segments.
     pub(crate) fn lower_mss(&mut self, mss: u16)
         ensures same { self.new ≡ record self.old { congestion = self.new.congestion } }
-        ensures smss { sender_of self.new.congestion ≡ record (sender_of self.old.congestion) { mss = min (max 1 mss) self.old.congestion.mss } }
+        ensures smss { sender_of self.new.congestion
+            ≡ record (sender_of self.old.congestion) { mss = min (max 1 mss) self.old.congestion.mss } }
     {
         self.congestion.lower_mss(mss);
     }
 
     // All goes again, also what the peer had after a gap: it may have dropped that (RFC 2018, section 8).
     pub(crate) fn go_back(&mut self)
-        ensures same { self.new ≡ record self.old { cursor = 0; resend = false; rescued = 0; scoreboard = self.new.scoreboard } }
+        ensures same { self.new
+            ≡ record self.old { cursor = 0; resend = false; rescued = 0; scoreboard = self.new.scoreboard } }
         ensures known { (n : ℕ) → has self.new.scoreboard n ≡ false }
     {
         self.cursor = 0;
         self.resend = false;
         self.rescued = 0;
         self.scoreboard.clear();
-    }
-
-    // The first segment: one item even where the window is closed.
-    fn first(&self, queue: &Queue, kind: Kind) -> Piece
-        ensures within { IsWithin result queue.now.window self.now.congestion.cwnd }
-        ensures offset { result.offset ≡ 0 }
-        ensures kind { result.kind ≡ kind }
-    {
-        let usable = self.congestion.may_send(queue.window, 0);
-        Piece {
-            offset: 0,
-            count: usable.min(u32::from(queue.mss)).max(1),
-            kind,
-        }
-    }
-
-    // The next segment, if there is one that may go and is worth it.
-    pub(crate) fn next(&mut self, queue: &Queue) -> Option<Piece>
-        ensures same { self.new ≡ record self.old { resend = false } }
-        ensures within { IfSome result (λ p. IsWithin p queue.now.window self.new.congestion.cwnd) }
-        ensures first { self.old.resend ≡ true → MatchOption result ⊥ (λ p. p.offset ≡ 0) }
-        ensures held { result ≡ None → IsHeld self.new queue.now }
-        ensures hole { (offset count : ℕ) → self.old.resend ≡ false → is_in_recovery self.old.congestion.phase ≡ true → IsHole self.old.scoreboard self.old.rescued offset count → 0 < queue.now.mss → offset < min queue.now.window self.old.congestion.cwnd → MatchOption result ⊥ (λ p. p.offset ≡ offset) }
-        ensures place { IsSound self.old queue.now.flight → self.old.resend ≡ false → IfSome result (λ p. (p.offset ≤ queue.now.flight) × (p.offset < queue.now.flight + queue.now.unsent)) }
-        ensures kind { IfSome result (λ p. (p.kind ≡ Kind.Again) ⊎ ((p.kind ≡ Kind.New) × (queue.now.flight ≤ p.offset))) }
-    {
-        if self.resend {
-            self.resend = false;
-            return Some(self.first(queue, Kind::Again));
-        }
-        if let Some(piece) = self.hole(queue) {
-            return Some(piece);
-        }
-        let again = queue.flight.saturating_sub(self.cursor);
-        let available = (again as usize).saturating_add(queue.unsent);
-        let usable = self.congestion.may_send(queue.window, self.cursor);
-        let count = usable.min(u32::from(queue.mss));
-        let count = available.min(count as usize) as u32;
-        if count == 0 {
-            return None;
-        }
-        if again > 0 {
-            return Some(self.piece(count, Kind::Again));
-        }
-        if is_worth(queue, count, available, self.max_window) {
-            return Some(self.piece(count, Kind::New));
-        }
-        None
-    }
-
-    // In fast recovery: the next items that the peer has not, before some that it has, and that were not sent again (RFC 6675,
-    // section 4, rule 1 of NextSeg).
-    fn hole(&self, queue: &Queue) -> Option<Piece>
-        ensures within { IfSome result (λ p. IsWithin p queue.now.window self.now.congestion.cwnd) }
-        ensures kind { IfSome result (λ p. p.kind ≡ Kind.Again) }
-        ensures place { IsSound self.now queue.now.flight → IfSome result (λ p. p.offset < queue.now.flight) }
-        ensures first { (offset count : ℕ) → is_in_recovery self.now.congestion.phase ≡ true → IsHole self.now.scoreboard self.now.rescued offset count → 0 < queue.now.mss → offset < min queue.now.window self.now.congestion.cwnd → MatchOption result ⊥ (λ p. p.offset ≡ offset) }
-        ensures none { result ≡ None → is_in_recovery self.now.congestion.phase ≡ true → 0 < queue.now.mss → HasNoHole self.now.scoreboard self.now.rescued ⊎ IsBeyond self.now.scoreboard self.now.rescued (min queue.now.window self.now.congestion.cwnd) }
-    {
-        if !self.is_recovering() {
-            return None;
-        }
-        let (offset, len) = self.scoreboard.hole(self.rescued)?;
-        let usable = self.congestion.may_send(queue.window, offset);
-        let count = usable.min(u32::from(queue.mss)).min(len);
-        if count == 0 {
-            return None;
-        }
-        Some(Piece {
-            offset,
-            count,
-            kind: Kind::Again,
-        })
-    }
-
-    // So many items after those that were sent.
-    fn piece(&self, count: u32, kind: Kind) -> Piece
-        ensures { result ≡ record { offset = self.now.cursor; count = count; kind = kind } }
-    {
-        Piece {
-            offset: self.cursor,
-            count,
-            kind,
-        }
-    }
-
-    // This piece went out, with so many items.
-    pub(crate) fn on_sent(&mut self, queue: &Queue, piece: &Piece, items: u32, now: u64)
-        ensures same { self.new ≡ record self.old { timing = self.new.timing; cursor = self.new.cursor; rescued = self.new.rescued } }
-        ensures probe { piece.now.kind ≡ Kind.Probe → self.new ≡ self.old }
-        ensures cursor { (piece.now.kind ≡ Kind.Probe → ⊥) → self.new.cursor ≡ max self.old.cursor (min 4294967295 (piece.now.offset + items)) }
-        ensures again { piece.now.kind ≡ Kind.Again → self.new.timing ≡ None }
-        ensures karn { IfSome self.new.timing (λ t. (self.old.timing ≡ Some t) ⊎ (piece.now.kind ≡ Kind.New)) }
-    {
-        if piece.kind == Kind::Probe {
-            return;
-        }
-        let end = piece.offset.saturating_add(items);
-        self.cursor = self.cursor.max(end);
-        if piece.kind == Kind::Again {
-            self.rescued = self.rescued.max(end);
-            self.timing = None;
-        } else if self.timing.is_none() {
-            self.timing = Some(Timed {
-                end: queue.una.wrapping_add(end),
-                sent_at: now,
-            });
-        }
     }
 }
 

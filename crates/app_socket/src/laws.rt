@@ -75,7 +75,10 @@ pub fn a_time_out_goes_on(socket: &mut Socket, outgoing: &[u8], incoming: &mut [
     requires due { is_due socket.old.timers.resend_at now ≡ true }
     requires probed { socket.old.flow.is_probed ≡ true }
     requires patient { now < socket.old.timers.ends_at }
-    ensures { (initial room : ℕ) (events : List WorldEvent) → let there : World = run events (start initial) in Waits there socket.old.connection.sending outgoing.now → there.acked < length (stream there.written there.closed) → there.receiver.is_open ≡ true → 0 < room → ComesAcross there socket.new.connection.sending outgoing.now room }
+    ensures { (initial room : ℕ) (events : List WorldEvent)
+        → let there : World = run events (start initial) in Waits there socket.old.connection.sending outgoing.now
+        → there.acked < length (stream there.written there.closed) → there.receiver.is_open ≡ true → 0 < room
+        → ComesAcross there socket.new.connection.sending outgoing.now room }
 {
     let _ = socket.step(outgoing, incoming, now, Event::Tick);
 }
@@ -101,7 +104,10 @@ pub fn a_round_is_acknowledged(
     requires no_rst { answer.now.rst ≡ false }
     requires bare { len_of answer.now ≡ 0 }
     requires taken { takes socket.old.agreed.recent options.now.timestamp times.1 ≡ true }
-    ensures { is_open (state_from socket.new.connection) ≡ true → (initial room : ℕ) (events : List WorldEvent) → let there : World = run events (start initial) in Waits there socket.old.connection.sending outgoing.now → there.acked < length (stream there.written there.closed) → there.receiver.is_open ≡ true → 0 < room → GoesRound there socket.new.connection.sending outgoing.now room answer.now.ack }
+    ensures { is_open (state_from socket.new.connection) ≡ true → (initial room : ℕ) (events : List WorldEvent)
+        → let there : World = run events (start initial) in Waits there socket.old.connection.sending outgoing.now
+        → there.acked < length (stream there.written there.closed) → there.receiver.is_open ≡ true → 0 < room
+        → GoesRound there socket.new.connection.sending outgoing.now room answer.now.ack }
 {
     let _ = socket.step(outgoing, incoming, times.0, Event::Tick);
     let _ = socket.step(
@@ -127,7 +133,9 @@ pub fn small_text_goes_at_once<'a>(
     requires idle { socket.old.connection.sending.flight ≡ 0 }
     requires waits { 0 < count_of socket.old.connection.sending }
     requires window { count_of socket.old.connection.sending ≤ socket.old.connection.wnd }
-    ensures { count_of socket.old.connection.sending ≤ text_of socket.new → count_of socket.old.connection.sending ≤ socket.new.flow.congestion.cwnd → MatchOption result ⊥ (λ s. 0 < len_of s) }
+    ensures { count_of socket.old.connection.sending ≤ text_of socket.new
+        → count_of socket.old.connection.sending ≤ socket.new.flow.congestion.cwnd
+        → MatchOption result ⊥ (λ s. 0 < len_of s) }
 {
     socket.step(outgoing, incoming, now, Event::Tick)
 }

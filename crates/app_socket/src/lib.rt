@@ -9,6 +9,8 @@ mod fields;
 mod flow;
 pub mod laws;
 mod options;
+mod paws;
+mod pieces;
 mod socket;
 mod step;
 mod tick;

@@ -111,7 +111,10 @@ impl Socket {
 
     /// Lowers the largest segment that is sent, with its options: when the MTU of the path gets smaller. 0 changes nothing.
     pub fn limit_mss(&mut self, mss: u16)
-        ensures same { self.new ≡ record self.old { limit = self.new.limit; flow = record self.old.flow { congestion = self.new.flow.congestion } } }
+        ensures same { self.new ≡ record self.old {
+          limit = self.new.limit;
+          flow = record self.old.flow { congestion = self.new.flow.congestion };
+        } }
         ensures lowers { 0 < mss → Lowers self.old self.new mss }
         ensures none { mss ≡ 0 → self.new ≡ self.old }
     {
@@ -122,7 +125,10 @@ impl Socket {
 
     // The largest segment, and with it that of congestion control (SMSS).
     fn lower(&mut self, mss: u16)
-        ensures same { self.new ≡ record self.old { limit = self.new.limit; flow = record self.old.flow { congestion = self.new.flow.congestion } } }
+        ensures same { self.new ≡ record self.old {
+          limit = self.new.limit;
+          flow = record self.old.flow { congestion = self.new.flow.congestion };
+        } }
         ensures lowers { Lowers self.old self.new mss }
     {
         self.limit = mss.min(self.limit);
@@ -156,7 +162,8 @@ impl Socket {
     pub fn fits(&self, outgoing: usize, incoming: usize) -> bool
         ensures out { result ≡ true → OutFits self.now.connection.sending outgoing }
         ensures rings { result ≡ true → InFits self.now.connection.receiving incoming }
-        ensures all { OutFits self.now.connection.sending outgoing → InFits self.now.connection.receiving incoming → result ≡ true }
+        ensures all { OutFits self.now.connection.sending outgoing → InFits self.now.connection.receiving incoming
+            → result ≡ true }
     {
         self.connection.fits(outgoing, incoming)
     }
@@ -175,7 +182,8 @@ impl Socket {
         requires { OutFits self.old.connection.sending (length outgoing.old) }
         ensures few { result ≤ length bytes.now }
         ensures out { OutFits self.new.connection.sending (length outgoing.old) }
-        ensures writes { Writes self.old.connection self.new.connection outgoing.old outgoing.new (take result bytes.now) }
+        ensures writes { Writes self.old.connection self.new.connection outgoing.old outgoing.new
+            (take result bytes.now) }
         ensures none { has_peer (state_from self.old.connection) ≡ false → result ≡ 0 }
         ensures timers { self.new.timers ≡ self.old.timers }
     {
@@ -189,7 +197,10 @@ impl Socket {
         ensures rings { InFits self.new.connection.receiving (length incoming.now) }
         ensures few { length result.now ≤ count }
         ensures reads { Reads self.old.connection self.new.connection incoming.now result.now }
-        ensures delivers { (initial : ℕ) (events : List Event) (consumed : List ℕ) → let back : World = run events (start initial) in Stands back consumed self.old.connection.receiving incoming.now → IsPrefixOf (consumed ++ result.now) back.written }
+        ensures delivers { (initial : ℕ) (events : List Event) (consumed : List ℕ)
+            → let back : World = run events (start initial) in
+            Stands back consumed self.old.connection.receiving incoming.now
+            → IsPrefixOf (consumed ++ result.now) back.written }
         ensures timers { self.new.timers ≡ self.old.timers }
     {
         self.connection.read(incoming, count)
@@ -198,7 +209,9 @@ impl Socket {
     /// Whether the application has read all that the peer wrote, and the peer has closed.
     pub fn is_ended(&self) -> bool
         ensures value { result ≡ (self.now.connection.receiving.has_fin && self.now.connection.receiving.len == 0) }
-        ensures whole { (initial : ℕ) (events : List Event) (consumed buffer : List ℕ) → result ≡ true → let back : World = run events (start initial) in Stands back consumed self.now.connection.receiving buffer → (back.closed ≡ true) × (consumed ≡ back.written) }
+        ensures whole { (initial : ℕ) (events : List Event) (consumed buffer : List ℕ) → result ≡ true
+            → let back : World = run events (start initial) in Stands back consumed self.now.connection.receiving buffer
+            → (back.closed ≡ true) × (consumed ≡ back.written) }
     {
         self.connection.is_ended()
     }
@@ -206,7 +219,8 @@ impl Socket {
     /// When the next `Tick` has something to do if nothing happens before, after one that returned None. None: never.
     pub fn due(&self) -> Option<u64>
         ensures value { result ≡ due_in (state_from self.now.connection) self.now.timers }
-        ensures ends { has_peer (state_from self.now.connection) ≡ true → MatchOption result ⊥ (λ t. t ≤ self.now.timers.ends_at) }
+        ensures ends { has_peer (state_from self.now.connection) ≡ true
+            → MatchOption result ⊥ (λ t. t ≤ self.now.timers.ends_at) }
     {
         match self.connection.state() {
             State::Closed | State::Listen => None,
@@ -218,8 +232,10 @@ impl Socket {
 
     // Whether something waits: it was not sent, or the peer did not acknowledge it.
     pub(crate) fn waits(&self) -> bool
-        ensures value { (size : ℕ) → OutFits self.now.connection.sending size → result ≡ nat_lt 0 (self.now.connection.sending.flight + unsent_of self.now.connection.sending) }
-        ensures some { (size : ℕ) → OutFits self.now.connection.sending size → 0 < count_of self.now.connection.sending → result ≡ true }
+        ensures value { (size : ℕ) → OutFits self.now.connection.sending size
+            → result ≡ nat_lt 0 (self.now.connection.sending.flight + unsent_of self.now.connection.sending) }
+        ensures some { (size : ℕ) → OutFits self.now.connection.sending size → 0 < count_of self.now.connection.sending
+            → result ≡ true }
     {
         self.connection.flight() > 0 || self.connection.unsent() > 0
     }

@@ -1,20 +1,13 @@
 //! One call for everything that can happen.
 
-ghost use Rattle.std.specs.Prelude.{[], max, false, ◌≡◌, ◌<◌, ◌≤◌, ◌⊎◌, ℕ, List, is_some, length, true, Some, None, IfSome, MatchOption, option_map};
-ghost use Rattle.tcp_model.specs.Network.{World};
-ghost use Rattle.app_tcp.specs.Stands.{Stands, IsAnswer, room_of};
-ghost use Rattle.app_tcp.specs.Waits.{Waits};
-ghost use Rattle.app_connection.specs.SetUp.{In_closed};
-ghost use Rattle.app_connection.specs.Endpoints.{endpoint_of, len_of, OutFits, InFits};
-ghost use Rattle.app_connection.specs.Steps.{Steps};
-ghost use Rattle.app_connection.specs.Worlds.{said};
-ghost use Rattle.app_connection.specs.Events.{brings_bare, brings_items, is_answered};
+ghost use Rattle.std.specs.Prelude.{[], false, ◌≡◌, ◌≤◌, is_some, length, Some, None};
+ghost use Rattle.app_connection.specs.Endpoints.{OutFits, InFits};
 ghost use Rattle.app_connection.specs.States.{has_peer, state_from};
-ghost use Rattle.app_socket.specs.Events.{IsShort, IsTick, IsQuiet, move_of};
-ghost use Rattle.app_socket.specs.Segments.{GoesForward, IsSent, has_timestamp, is_stale, taken_of};
-ghost use Rattle.app_socket.specs.Resends.{Acknowledges, BeginsBy, Connects, ConnectsBy, LearnsBy, Resends, SendsSyn, is_due};
-ghost use Rattle.app_socket.specs.Times.{due_in, is_open, later, patience_of};
-ghost use Rattle.app_socket.specs.Window.{HasRoom, Tells, end_after, limit_of};
+ghost use Rattle.app_socket.specs.Events.{IsShort, IsTick, IsQuiet};
+ghost use Rattle.app_socket.specs.Resends.{Connects, ConnectsBy};
+ghost use Rattle.app_socket.specs.Times.{later, patience_of};
+ghost use Rattle.app_connection.specs.Promises.{HasNoText};
+ghost use Rattle.app_socket.specs.Promises.{AcknowledgesInTime, AcknowledgesReceived, AdvertisesWindow, AnswersBare, AnswersStale, BeginsSound, Continues, DropsStale, EndsBySilence, EndsNoLater, IsOpen, IsPatient, KeepsRecent, KeepsRoom, LearnsFrom, OwesAck, OwesNoAck, ResendsInTime, ResendsSyn, RestsUntilDue, SendsStream, SendsWithin, StaysIdle, StepsBy};
 
 use crate::socket::Socket;
 use crate::tick::has_peer;
@@ -53,30 +46,30 @@ impl Socket {
         requires rings { InFits self.old.connection.receiving (length incoming.old) }
         ensures out { OutFits self.new.connection.sending (length outgoing.now) }
         ensures rings { InFits self.new.connection.receiving (length incoming.old) }
-        ensures steps { Steps self.old.connection self.new.connection outgoing.now incoming.old incoming.new (taken_of self.old now event.entry) (option_map said result) }
-        ensures ends { IsTick event.entry → has_peer (state_from self.old.connection) ≡ true → self.old.timers.ends_at ≤ now → endpoint_of self.new.connection ≡ In_closed }
-        ensures idle { IsTick event.entry → has_peer (state_from self.old.connection) ≡ false → self.new ≡ self.old }
-        ensures later { IsQuiet event.entry → self.new.timers.ends_at ≤ self.old.timers.ends_at }
-        ensures tells { is_open (state_from self.old.connection) ≡ true → is_open (state_from self.new.connection) ≡ true → IfSome result (λ s. IfSome s.ack (λ ack. Tells self.old.edge self.new.edge self.new.connection.receiving (length incoming.old) ack s.window)) }
-        ensures keeps { is_open (state_from self.old.connection) ≡ true → is_open (state_from self.new.connection) ≡ true → self.old.connection.receiving.has_fin ≡ false → self.new.connection.receiving.has_fin ≡ false → HasRoom self.old.edge self.old.connection.receiving (length incoming.old) → HasRoom self.new.edge self.new.connection.receiving (length incoming.old) }
-        ensures text { (IsTick event.entry → ⊥) → IfSome result (λ s. (s.payload.now ≡ []) × (s.fin ≡ false)) }
-        ensures sends { is_open (state_from self.old.connection) ≡ true → IfSome result (λ s. 0 < len_of s → (there : World) → Waits there self.old.connection.sending outgoing.now → IsSent there s) }
-        ensures answers { is_open (state_from self.old.connection) ≡ true → is_open (state_from self.new.connection) ≡ true → IfSome result (λ s. (back : World) (consumed : List ℕ) → Stands back consumed self.new.connection.receiving incoming.new → (s.rst ≡ true) ⊎ IfSome s.ack (λ number. IsAnswer back number)) }
-        ensures stale { is_stale self.old now event.entry ≡ true → self.new ≡ record self.old { timers = record self.old.timers { ack_at = self.new.timers.ack_at }; edge = self.new.edge } }
-        ensures answered { is_stale self.old now event.entry ≡ true → is_some result ≡ has_timestamp event.entry }
-        ensures within { is_open (state_from self.old.connection) ≡ true → is_open (state_from self.new.connection) ≡ true → IfSome result (λ s. 0 < len_of s → end_after self.old.connection.sending.una s ≤ limit_of self.old.connection.wnd self.new.flow.congestion.cwnd) }
-        ensures acks { is_open (state_from self.old.connection) ≡ true → is_open (state_from self.new.connection) ≡ true → IfSome result (λ s. self.new.timers.ack_at ≡ None) }
-        ensures owes { is_open (state_from self.old.connection) ≡ true → is_open (state_from self.new.connection) ≡ true → self.old.connection.receiving.is_open ≡ true → is_stale self.old now event.entry ≡ false → brings_items (move_of event.entry) ≡ true → result ≡ None → MatchOption self.new.timers.ack_at ⊥ (λ t. t ≤ later now 40) }
-        ensures to_bare { is_open (state_from self.old.connection) ≡ true → is_open (state_from self.new.connection) ≡ true → is_stale self.old now event.entry ≡ false → brings_bare (move_of event.entry) ≡ true → is_some result ≡ is_answered (move_of event.entry) self.old.connection (room_of self.old.connection.receiving (length incoming.old)) }
-        ensures recent { is_open (state_from self.old.connection) ≡ true → GoesForward self.old.agreed.recent self.new.agreed.recent now }
-        ensures patience { self.new.timers.ends_at ≤ max self.old.timers.ends_at (later now (patience_of self.old.options)) }
-        ensures begins { is_open (state_from self.old.connection) ≡ false → is_open (state_from self.new.connection) ≡ true → BeginsBy event.entry self.new }
-        ensures learns { is_open (state_from self.old.connection) ≡ true → is_open (state_from self.new.connection) ≡ true → LearnsBy event.entry self.old self.new outgoing.now (length incoming.old) now }
+        ensures steps { Continues self.old self.new outgoing.now incoming.old incoming.new now event.entry result }
+        ensures ends { IsTick event.entry → EndsBySilence self.old self.new now }
+        ensures idle { IsTick event.entry → StaysIdle self.old self.new }
+        ensures later { IsQuiet event.entry → EndsNoLater self.old self.new }
+        ensures tells { AdvertisesWindow self.old self.new (length incoming.old) result }
+        ensures keeps { KeepsRoom self.old self.new (length incoming.old) }
+        ensures text { (IsTick event.entry → ⊥) → HasNoText result }
+        ensures sends { SendsStream self.old outgoing.now result }
+        ensures answers { AcknowledgesReceived self.old self.new incoming.new result }
+        ensures stale { DropsStale self.old self.new now event.entry }
+        ensures answered { AnswersStale self.old now event.entry result }
+        ensures within { SendsWithin self.old self.new result }
+        ensures acks { OwesNoAck self.old self.new result }
+        ensures owes { OwesAck self.old self.new now event.entry result }
+        ensures to_bare { AnswersBare self.old self.new (length incoming.old) now event.entry result }
+        ensures recent { KeepsRecent self.old self.new now }
+        ensures patience { IsPatient self.old self.new now }
+        ensures begins { BeginsSound self.old self.new event.entry }
+        ensures learns { LearnsFrom self.old self.new outgoing.now (length incoming.old) now event.entry }
         ensures connects { ConnectsBy event.entry self.old self.new now }
-        ensures resends { IsTick event.entry → is_open (state_from self.old.connection) ≡ true → now < self.old.timers.ends_at → Resends self.old self.new outgoing.now now result }
-        ensures acknowledges { IsTick event.entry → is_open (state_from self.old.connection) ≡ true → now < self.old.timers.ends_at → Acknowledges self.old (length incoming.old) now result }
-        ensures again { IsTick event.entry → has_peer (state_from self.old.connection) ≡ true → is_open (state_from self.old.connection) ≡ false → now < self.old.timers.ends_at → is_due self.old.timers.resend_at now ≡ true → SendsSyn self.old self.new now result }
-        ensures rests { IsTick event.entry → now < 9223372036854775808 → result ≡ None → IfSome (due_in (state_from self.new.connection) self.new.timers) (λ t. now < t) }
+        ensures resends { IsTick event.entry → ResendsInTime self.old self.new outgoing.now now result }
+        ensures acknowledges { IsTick event.entry → AcknowledgesInTime self.old (length incoming.old) now result }
+        ensures again { IsTick event.entry → ResendsSyn self.old self.new now result }
+        ensures rests { IsTick event.entry → RestsUntilDue self.new now result }
     {
         match event {
             Event::Tick => self.tick(outgoing, incoming, now),
@@ -109,11 +102,11 @@ impl Socket {
         ensures out { OutFits self.new.connection.sending (length outgoing.now) }
         ensures rings { InFits self.new.connection.receiving (length incoming.old) }
         ensures connects { has_peer (state_from self.old.connection) ≡ false → Connects self.new now }
-        ensures none { is_open (state_from self.old.connection) ≡ true → result ≡ None }
-        ensures stays { is_open (state_from self.old.connection) ≡ true → self.new ≡ self.old }
-        ensures text { IfSome result (λ s. (s.payload.now ≡ []) × (s.fin ≡ false)) }
-        ensures patience { self.new.timers.ends_at ≤ max self.old.timers.ends_at (later now (patience_of self.old.options)) }
-        ensures steps { Steps self.old.connection self.new.connection outgoing.now incoming.old incoming.new (Move.Open iss) (option_map said result) }
+        ensures none { IsOpen self.old → result ≡ None }
+        ensures stays { IsOpen self.old → self.new ≡ self.old }
+        ensures text { HasNoText result }
+        ensures patience { IsPatient self.old self.new now }
+        ensures steps { StepsBy self.old self.new outgoing.now incoming.old incoming.new (Move.Open iss) result }
     {
         if has_peer(self.connection.state()) {
             return None;

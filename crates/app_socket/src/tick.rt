@@ -1,22 +1,22 @@
 //! Time passes.
 
-ghost use Rattle.std.specs.Prelude.{[], false, ◌≡◌, ◌<◌, ◌≤◌, ◌⊎◌, ℕ, List, length, true, Some, None, IfSome, ◌||◌, option_map, Option, MatchOption, min, ◌+◌, ◌%◌};
+ghost use Rattle.std.specs.Prelude.{[], false, ◌≡◌, ◌<◌, ◌≤◌, ℕ, List, length, true, Some, None, IfSome, ◌||◌, option_map, Option, MatchOption, min, ◌+◌, ◌%◌};
 ghost use Rattle.tcp_model.specs.Network.{World};
-ghost use Rattle.app_tcp.specs.Stands.{Stands, IsAnswer};
+ghost use Rattle.app_tcp.specs.Stands.{Stands};
 ghost use Rattle.app_tcp.specs.Waits.{Waits, count_of};
 ghost use Rattle.app_connection.specs.declared.state.Phase.TheVariants.{Open};
-ghost use Rattle.app_connection.specs.SetUp.{In_closed};
 ghost use Rattle.app_connection.specs.Endpoints.{endpoint_of, len_of, OutFits, InFits, acknowledgement_of};
-ghost use Rattle.app_connection.specs.Steps.{Steps};
-ghost use Rattle.app_connection.specs.Worlds.{Goes, GoesOut, Stand, said};
+ghost use Rattle.app_connection.specs.Worlds.{GoesOut, said};
 ghost use Rattle.app_connection.specs.States.{has_peer, state_from};
 ghost use Rattle.app_congestion.specs.Congestion.{is_in_recovery};
 ghost use Rattle.app_congestion.specs.Scoreboard.{IsHole};
 ghost use Rattle.app_socket.specs.Pieces.{IsWithin};
-ghost use Rattle.app_socket.specs.Resends.{Acknowledges, IsArmed, IsHeld, IsSound, Resends, SendsFirst, SendsSyn, TimesOut, is_due, is_room_news, queue_of};
+ghost use Rattle.app_socket.specs.Resends.{Acknowledges, IsArmed, IsHeld, IsSound, Resends, SendsFirst, SendsSyn, TimesOut, is_due, is_room_news, queue_of, KeepsCount, WhenDue, WhenNotDue, WhenTimeout};
 ghost use Rattle.app_socket.specs.Segments.{IsSent, text_of};
-ghost use Rattle.app_socket.specs.Times.{due_in, is_open, later};
+ghost use Rattle.app_socket.specs.Times.{is_open, later};
 ghost use Rattle.app_socket.specs.Window.{HasRoom, Tells, end_after, limit_of};
+ghost use Rattle.app_connection.specs.Promises.{ChangesOnlyNext, GoesFrom, IsAnswerOf};
+ghost use Rattle.app_socket.specs.Promises.{AcknowledgesInTime, AcknowledgesReceived, AdvertisesWindow, EndsBySilence, EndsNoLater, KeepsRoom, OwesNoAck, ResendsInTime, ResendsSyn, RestsUntilDue, SendsStream, SendsWithin, StaysIdle, StepsBy};
 
 use crate::flow::{Piece, Queue};
 use crate::socket::Socket;
@@ -50,21 +50,21 @@ impl Socket {
         requires rings { InFits self.old.connection.receiving (length incoming.old) }
         ensures out { OutFits self.new.connection.sending (length outgoing.now) }
         ensures rings { InFits self.new.connection.receiving (length incoming.old) }
-        ensures steps { Steps self.old.connection self.new.connection outgoing.now incoming.old incoming.new (Move.Send 0 0) (option_map said result) }
-        ensures ends { has_peer (state_from self.old.connection) ≡ true → self.old.timers.ends_at ≤ now → endpoint_of self.new.connection ≡ In_closed }
-        ensures later { self.new.timers.ends_at ≤ self.old.timers.ends_at }
-        ensures idle { has_peer (state_from self.old.connection) ≡ false → self.new ≡ self.old }
-        ensures tells { is_open (state_from self.old.connection) ≡ true → is_open (state_from self.new.connection) ≡ true → IfSome result (λ s. IfSome s.ack (λ ack. Tells self.old.edge self.new.edge self.new.connection.receiving (length incoming.old) ack s.window)) }
-        ensures within { is_open (state_from self.old.connection) ≡ true → is_open (state_from self.new.connection) ≡ true → IfSome result (λ s. 0 < len_of s → end_after self.old.connection.sending.una s ≤ limit_of self.old.connection.wnd self.new.flow.congestion.cwnd) }
-        ensures keeps { is_open (state_from self.old.connection) ≡ true → is_open (state_from self.new.connection) ≡ true → self.old.connection.receiving.has_fin ≡ false → self.new.connection.receiving.has_fin ≡ false → HasRoom self.old.edge self.old.connection.receiving (length incoming.old) → HasRoom self.new.edge self.new.connection.receiving (length incoming.old) }
-        ensures acks { is_open (state_from self.old.connection) ≡ true → is_open (state_from self.new.connection) ≡ true → IfSome result (λ s. self.new.timers.ack_at ≡ None) }
-        ensures sends { is_open (state_from self.old.connection) ≡ true → IfSome result (λ s. 0 < len_of s → (there : World) → Waits there self.old.connection.sending outgoing.now → IsSent there s) }
-        ensures answers { is_open (state_from self.old.connection) ≡ true → is_open (state_from self.new.connection) ≡ true → IfSome result (λ s. (back : World) (consumed : List ℕ) → Stands back consumed self.new.connection.receiving incoming.new → (s.rst ≡ true) ⊎ IfSome s.ack (λ number. IsAnswer back number)) }
+        ensures steps { StepsBy self.old self.new outgoing.now incoming.old incoming.new (Move.Send 0 0) result }
+        ensures ends { EndsBySilence self.old self.new now }
+        ensures later { EndsNoLater self.old self.new }
+        ensures idle { StaysIdle self.old self.new }
+        ensures tells { AdvertisesWindow self.old self.new (length incoming.old) result }
+        ensures within { SendsWithin self.old self.new result }
+        ensures keeps { KeepsRoom self.old self.new (length incoming.old) }
+        ensures acks { OwesNoAck self.old self.new result }
+        ensures sends { SendsStream self.old outgoing.now result }
+        ensures answers { AcknowledgesReceived self.old self.new incoming.new result }
         ensures agreed { self.new.agreed ≡ self.old.agreed }
-        ensures resends { is_open (state_from self.old.connection) ≡ true → now < self.old.timers.ends_at → Resends self.old self.new outgoing.now now result }
-        ensures acknowledges { is_open (state_from self.old.connection) ≡ true → now < self.old.timers.ends_at → Acknowledges self.old (length incoming.old) now result }
-        ensures again { has_peer (state_from self.old.connection) ≡ true → is_open (state_from self.old.connection) ≡ false → now < self.old.timers.ends_at → is_due self.old.timers.resend_at now ≡ true → SendsSyn self.old self.new now result }
-        ensures rests { now < 9223372036854775808 → result ≡ None → IfSome (due_in (state_from self.new.connection) self.new.timers) (λ t. now < t) }
+        ensures resends { ResendsInTime self.old self.new outgoing.now now result }
+        ensures acknowledges { AcknowledgesInTime self.old (length incoming.old) now result }
+        ensures again { ResendsSyn self.old self.new now result }
+        ensures rests { RestsUntilDue self.new now result }
     {
         let state = self.connection.state();
         if !has_peer(state) {
@@ -91,7 +91,7 @@ impl Socket {
         ensures out { OutFits self.new.connection.sending (length outgoing.now) }
         ensures receiving { self.new.connection.receiving ≡ self.old.connection.receiving }
         ensures endpoint { endpoint_of self.new.connection ≡ endpoint_of self.old.connection }
-        ensures goes { (there back : World) (consumed buffer : List ℕ) → Stand there back consumed self.old.connection outgoing.now buffer → Goes there back consumed self.new.connection outgoing.now buffer (option_map said result) }
+        ensures goes { GoesFrom self.old.connection self.new.connection outgoing.now (option_map said result) }
         ensures agreed { self.new.agreed ≡ self.old.agreed }
         ensures again { is_due self.old.timers.resend_at now ≡ true → SendsSyn self.old self.new now result }
         ensures ends_at { self.new.timers.ends_at ≡ self.old.timers.ends_at }
@@ -116,21 +116,28 @@ impl Socket {
         requires rings { InFits self.old.connection.receiving incoming }
         ensures out { OutFits self.new.connection.sending (length outgoing.now) }
         ensures receiving { self.new.connection.receiving ≡ self.old.connection.receiving }
-        ensures goes { (there back : World) (consumed buffer : List ℕ) → Stand there back consumed self.old.connection outgoing.now buffer → Goes there back consumed self.new.connection outgoing.now buffer (option_map said result) }
+        ensures goes { GoesFrom self.old.connection self.new.connection outgoing.now (option_map said result) }
         ensures agreed { self.new.agreed ≡ self.old.agreed }
-        ensures ends_at { self.new.timers.ends_at ≤ self.old.timers.ends_at }
+        ensures ends_at { EndsNoLater self.old self.new }
         ensures still { now < 9223372036854775808 → now < self.old.timers.ends_at → now < self.new.timers.ends_at }
         ensures resend { now < 9223372036854775808 → IfSome self.new.timers.resend_at (λ t. now < t) }
-        ensures tells { IfSome result (λ s. IfSome s.ack (λ ack. Tells self.old.edge self.new.edge self.new.connection.receiving incoming ack s.window)) }
-        ensures sends { self.old.connection.phase ≡ Open → IfSome result (λ s. 0 < len_of s → (there : World) → Waits there self.old.connection.sending outgoing.now → IsSent there s) }
-        ensures answers { IfSome result (λ s. (back : World) (consumed buffer : List ℕ) → Stands back consumed self.old.connection.receiving buffer → IfSome s.ack (λ number. IsAnswer back number)) }
-        ensures within { self.old.connection.phase ≡ Open → IfSome result (λ s. 0 < len_of s → end_after self.old.connection.sending.una s ≤ limit_of self.old.connection.wnd self.new.flow.congestion.cwnd) }
-        ensures keeps { HasRoom self.old.edge self.old.connection.receiving incoming → HasRoom self.new.edge self.old.connection.receiving incoming }
+        ensures tells { IfSome result (λ s. IfSome s.ack
+            (λ ack. Tells self.old.edge self.new.edge self.new.connection.receiving incoming ack s.window)) }
+        ensures sends { self.old.connection.phase ≡ Open → IfSome result (λ s. 0 < len_of s → (there : World)
+            → Waits there self.old.connection.sending outgoing.now → IsSent there s) }
+        ensures answers { IfSome result (λ s. IsAnswerOf self.old.connection.receiving s.ack) }
+        ensures within { self.old.connection.phase ≡ Open → IfSome result (λ s. 0 < len_of s
+            → end_after self.old.connection.sending.una s
+            ≤ limit_of self.old.connection.wnd self.new.flow.congestion.cwnd) }
+        ensures keeps { HasRoom self.old.edge self.old.connection.receiving incoming
+            → HasRoom self.new.edge self.old.connection.receiving incoming }
         ensures acks { IfSome result (λ s. self.new.timers.ack_at ≡ None) }
         ensures ack { result ≡ None → IfSome self.new.timers.ack_at (λ t. now < t) }
-        ensures resends { self.old.connection.phase ≡ Open → has_peer (state_from self.old.connection) ≡ true → Resends self.old self.new outgoing.now now result }
+        ensures resends { self.old.connection.phase ≡ Open → has_peer (state_from self.old.connection) ≡ true
+            → Resends self.old self.new outgoing.now now result }
         ensures acknowledges { self.old.connection.phase ≡ Open → Acknowledges self.old incoming now result }
-        ensures probe { result ≡ None → (state_from self.new.connection ≡ State.TimeWait → ⊥) → self.new.timers.resend_at ≡ None → now < self.new.timers.probe_at }
+        ensures probe { result ≡ None → (state_from self.new.connection ≡ State.TimeWait → ⊥)
+            → self.new.timers.resend_at ≡ None → now < self.new.timers.probe_at }
     {
         if let Some(segment) = self.next_text(outgoing, incoming, now) {
             return Some(self.advertise(segment, incoming));
@@ -157,19 +164,24 @@ impl Socket {
         requires rings { InFits self.old.connection.receiving incoming }
         ensures out { OutFits self.new.connection.sending (length outgoing.now) }
         ensures receiving { self.new.connection.receiving ≡ self.old.connection.receiving }
-        ensures goes { (there back : World) (consumed buffer : List ℕ) → Stand there back consumed self.old.connection outgoing.now buffer → Goes there back consumed self.new.connection outgoing.now buffer (option_map said result) }
-        ensures ends_at { self.new.timers.ends_at ≤ self.old.timers.ends_at }
+        ensures goes { GoesFrom self.old.connection self.new.connection outgoing.now (option_map said result) }
+        ensures ends_at { EndsNoLater self.old self.new }
         ensures still { now < 9223372036854775808 → now < self.old.timers.ends_at → now < self.new.timers.ends_at }
         ensures resend { now < 9223372036854775808 → IfSome self.new.timers.resend_at (λ t. now < t) }
         ensures edge { self.new.edge ≡ self.old.edge }
-        ensures resends { self.old.connection.phase ≡ Open → has_peer (state_from self.old.connection) ≡ true → Resends self.old self.new outgoing.now now result }
+        ensures resends { self.old.connection.phase ≡ Open → has_peer (state_from self.old.connection) ≡ true
+            → Resends self.old self.new outgoing.now now result }
         ensures none { result ≡ None → self.new.connection ≡ self.old.connection }
         ensures items { self.old.connection.phase ≡ Open → IfSome result (λ s. 0 < len_of s) }
-        ensures same { self.new ≡ record self.old { connection = self.new.connection; timers = self.new.timers; flow = self.new.flow } }
+        ensures same { self.new
+            ≡ record self.old { connection = self.new.connection; timers = self.new.timers; flow = self.new.flow } }
         ensures ack_at { self.new.timers.ack_at ≡ self.old.timers.ack_at }
         ensures agreed { self.new.agreed ≡ self.old.agreed }
-        ensures sends { self.old.connection.phase ≡ Open → IfSome result (λ s. (there : World) → Waits there self.old.connection.sending outgoing.now → IsSent there s) }
-        ensures within { self.old.connection.phase ≡ Open → IfSome result (λ s. end_after self.old.connection.sending.una s ≤ limit_of self.old.connection.wnd self.new.flow.congestion.cwnd) }
+        ensures sends { self.old.connection.phase ≡ Open → IfSome result (λ s. (there : World)
+            → Waits there self.old.connection.sending outgoing.now → IsSent there s) }
+        ensures within { self.old.connection.phase ≡ Open → IfSome result
+            (λ s. end_after self.old.connection.sending.una s
+            ≤ limit_of self.old.connection.wnd self.new.flow.congestion.cwnd) }
     {
         let Some(piece) = self.piece(now) else {
             return None;
@@ -180,24 +192,38 @@ impl Socket {
     // What is to be sent now.
     fn piece(&mut self, now: u64) -> Option<Piece>
         ensures same { self.new ≡ record self.old { timers = self.new.timers; flow = self.new.flow } }
-        ensures ends_at { self.new.timers.ends_at ≤ self.old.timers.ends_at }
+        ensures ends_at { EndsNoLater self.old self.new }
         ensures still { now < 9223372036854775808 → now < self.old.timers.ends_at → now < self.new.timers.ends_at }
         ensures resend { now < 9223372036854775808 → IfSome self.new.timers.resend_at (λ t. now < t) }
         ensures within { IfSome result (λ p. IsWithin p self.new.connection.wnd self.new.flow.congestion.cwnd) }
-        ensures armed { (size : ℕ) → OutFits self.old.connection.sending size → 0 < count_of self.old.connection.sending → IsArmed self.old.timers.resend_at self.new.timers.resend_at now }
-        ensures expires { (size : ℕ) → OutFits self.old.connection.sending size → 0 < count_of self.old.connection.sending → is_due self.old.timers.resend_at now ≡ true → self.old.flow.is_probed ≡ true → MatchOption result ⊥ (λ p. p.offset ≡ 0) }
-        ensures times_out { (size : ℕ) → OutFits self.old.connection.sending size → 0 < count_of self.old.connection.sending → is_due self.old.timers.resend_at now ≡ true → self.old.flow.is_probed ≡ true → TimesOut self.old.flow self.new.flow (queue_of self.old) }
-        ensures probed { (size : ℕ) → OutFits self.old.connection.sending size → 0 < count_of self.old.connection.sending → is_due self.old.timers.resend_at now ≡ true → self.new.flow.is_probed ≡ true }
+        ensures armed { (size : ℕ) → OutFits self.old.connection.sending size → 0 < count_of self.old.connection.sending
+            → IsArmed self.old.timers.resend_at self.new.timers.resend_at now }
+        ensures expires { (size : ℕ) → OutFits self.old.connection.sending size
+            → WhenTimeout self.old now (MatchOption result ⊥ (λ p. p.offset ≡ 0)) }
+        ensures times_out { (size : ℕ) → OutFits self.old.connection.sending size
+            → WhenTimeout self.old now (TimesOut self.old.flow self.new.flow (queue_of self.old)) }
+        ensures probed { (size : ℕ) → OutFits self.old.connection.sending size
+            → WhenDue self.old now (self.new.flow.is_probed ≡ true) }
         ensures again { self.old.flow.resend ≡ true → MatchOption result ⊥ (λ p. p.offset ≡ 0) }
         ensures ack_at { self.new.timers.ack_at ≡ self.old.timers.ack_at }
         ensures stays { self.old.flow.is_probed ≡ true → self.new.flow.is_probed ≡ true }
-        ensures patience { (size : ℕ) → OutFits self.old.connection.sending size → 0 < count_of self.old.connection.sending → is_due self.old.timers.resend_at now ≡ true → self.new.timers.ends_at ≡ self.old.timers.ends_at }
-        ensures place { (size : ℕ) → OutFits self.old.connection.sending size → 0 < count_of self.old.connection.sending → self.old.connection.sending.flight ≤ count_of self.old.connection.sending → IsSound self.old.flow self.old.connection.sending.flight → IfSome result (λ p. (p.offset ≤ self.old.connection.sending.flight) × (p.offset < count_of self.old.connection.sending)) }
+        ensures patience { (size : ℕ) → OutFits self.old.connection.sending size
+            → WhenDue self.old now (self.new.timers.ends_at ≡ self.old.timers.ends_at) }
+        ensures place { (size : ℕ) → OutFits self.old.connection.sending size → 0 < count_of self.old.connection.sending
+            → self.old.connection.sending.flight ≤ count_of self.old.connection.sending
+            → IsSound self.old.flow self.old.connection.sending.flight → IfSome result
+            (λ p. (p.offset ≤ self.old.connection.sending.flight) × (p.offset < count_of self.old.connection.sending)) }
         ensures sound { (flight : ℕ) → IsSound self.old.flow flight → IsSound self.new.flow flight }
-        ensures held { (size : ℕ) → OutFits self.old.connection.sending size → result ≡ None → IsHeld self.new.flow (queue_of self.new) }
-        ensures hole { (size offset count : ℕ) → OutFits self.old.connection.sending size → now < 9223372036854775808 → is_due self.old.timers.resend_at now ≡ false → self.old.flow.resend ≡ false → is_in_recovery self.old.flow.congestion.phase ≡ true → IsHole self.old.flow.scoreboard self.old.flow.rescued offset count → 0 < text_of self.old → offset < min self.old.connection.wnd self.new.flow.congestion.cwnd → MatchOption result ⊥ (λ p. p.offset ≡ offset) }
-        ensures rto { now < 9223372036854775808 → is_due self.old.timers.resend_at now ≡ false → self.new.flow.rto ≡ self.old.flow.rto }
-        ensures calm { now < 9223372036854775808 → is_due self.old.timers.resend_at now ≡ false → (self.new.flow.congestion.phase ≡ self.old.flow.congestion.phase) × (self.new.flow.congestion.duplicates ≡ self.old.flow.congestion.duplicates) }
+        ensures held { (size : ℕ) → OutFits self.old.connection.sending size → result ≡ None
+            → IsHeld self.new.flow (queue_of self.new) }
+        ensures hole { (size offset count : ℕ) → OutFits self.old.connection.sending size
+            → WhenNotDue self.old now (self.old.flow.resend ≡ false
+            → is_in_recovery self.old.flow.congestion.phase ≡ true
+            → IsHole self.old.flow.scoreboard self.old.flow.rescued offset count → 0 < text_of self.old
+            → offset < min self.old.connection.wnd self.new.flow.congestion.cwnd
+            → MatchOption result ⊥ (λ p. p.offset ≡ offset)) }
+        ensures rto { WhenNotDue self.old now (self.new.flow.rto ≡ self.old.flow.rto) }
+        ensures calm { WhenNotDue self.old now (KeepsCount self.old.flow self.new.flow) }
     {
         let queue = self.queue();
         self.run_timer(now);
@@ -210,16 +236,21 @@ impl Socket {
     // The retransmission timer runs if something waits, and only then. Something that begins to wait after an idle time does so
     // with a smaller cwnd.
     fn run_timer(&mut self, now: u64)
-        ensures same { self.new ≡ record self.old { timers = self.new.timers; flow = record self.old.flow { congestion = self.new.flow.congestion } } }
-        ensures ends_at { self.new.timers.ends_at ≤ self.old.timers.ends_at }
+        ensures same { self.new ≡ record self.old {
+          timers = self.new.timers;
+          flow = record self.old.flow { congestion = self.new.flow.congestion };
+        } }
+        ensures ends_at { EndsNoLater self.old self.new }
         ensures still { now < 9223372036854775808 → now < self.old.timers.ends_at → now < self.new.timers.ends_at }
-        ensures armed { (size : ℕ) → OutFits self.old.connection.sending size → 0 < count_of self.old.connection.sending → IsArmed self.old.timers.resend_at self.new.timers.resend_at now }
+        ensures armed { (size : ℕ) → OutFits self.old.connection.sending size → 0 < count_of self.old.connection.sending
+            → IsArmed self.old.timers.resend_at self.new.timers.resend_at now }
         ensures sound { (flight : ℕ) → IsSound self.old.flow flight → IsSound self.new.flow flight }
         ensures ack_at { self.new.timers.ack_at ≡ self.old.timers.ack_at }
-        ensures due { (size : ℕ) → OutFits self.old.connection.sending size → 0 < count_of self.old.connection.sending → is_due self.old.timers.resend_at now ≡ true → self.new ≡ self.old }
+        ensures due { (size : ℕ) → OutFits self.old.connection.sending size
+            → WhenDue self.old now (self.new ≡ self.old) }
         ensures phase { self.new.flow.congestion.phase ≡ self.old.flow.congestion.phase }
         ensures duplicates { self.new.flow.congestion.duplicates ≡ self.old.flow.congestion.duplicates }
-        ensures rests { now < 9223372036854775808 → is_due self.old.timers.resend_at now ≡ false → is_due self.new.timers.resend_at now ≡ false }
+        ensures rests { WhenNotDue self.old now (is_due self.new.timers.resend_at now ≡ false) }
     {
         let waits = self.waits();
         if waits
@@ -236,14 +267,21 @@ impl Socket {
     // If the timer expires it starts anew (RFC 6298, sections 5.4 to 5.6): that of a loss probe, or the retransmission timer, and
     // then the first segment goes again.
     fn expire(&mut self, queue: &Queue, now: u64) -> Option<Piece>
-        ensures same { self.new ≡ record self.old { timers = record self.old.timers { resend_at = self.new.timers.resend_at }; flow = self.new.flow } }
+        ensures same { self.new
+            ≡ record self.old {
+              timers = record self.old.timers { resend_at = self.new.timers.resend_at };
+              flow = self.new.flow;
+            } }
         ensures resend { now < 9223372036854775808 → IfSome self.new.timers.resend_at (λ t. now < t) }
-        ensures armed { (before : Option ℕ) → IsArmed before self.old.timers.resend_at now → IsArmed before self.new.timers.resend_at now }
+        ensures armed { (before : Option ℕ) → IsArmed before self.old.timers.resend_at now
+            → IsArmed before self.new.timers.resend_at now }
         ensures rests { is_due self.old.timers.resend_at now ≡ false → (self.new ≡ self.old) × (result ≡ None) }
         ensures within { IfSome result (λ p. IsWithin p queue.now.window self.new.flow.congestion.cwnd) }
         ensures first { IfSome result (λ p. p.offset ≡ 0) }
-        ensures some { is_due self.old.timers.resend_at now ≡ true → self.old.flow.is_probed ≡ true → MatchOption result ⊥ (λ p. p.offset ≡ 0) }
-        ensures times_out { is_due self.old.timers.resend_at now ≡ true → self.old.flow.is_probed ≡ true → TimesOut self.old.flow self.new.flow queue.now }
+        ensures some { is_due self.old.timers.resend_at now ≡ true → self.old.flow.is_probed ≡ true
+            → MatchOption result ⊥ (λ p. p.offset ≡ 0) }
+        ensures times_out { is_due self.old.timers.resend_at now ≡ true → self.old.flow.is_probed ≡ true
+            → TimesOut self.old.flow self.new.flow queue.now }
         ensures probed { is_due self.old.timers.resend_at now ≡ true → self.new.flow.is_probed ≡ true }
         ensures stays { self.old.flow.is_probed ≡ true → self.new.flow.is_probed ≡ true }
         ensures again { result ≡ None → self.old.flow.resend ≡ true → self.new.flow.resend ≡ true }
@@ -276,18 +314,34 @@ impl Socket {
         ensures same { self.new ≡ record self.old { connection = self.new.connection; flow = self.new.flow } }
         ensures out { OutFits self.new.connection.sending (length outgoing.now) }
         ensures receiving { self.new.connection.receiving ≡ self.old.connection.receiving }
-        ensures goes { (there back : World) (consumed buffer : List ℕ) → Stand there back consumed self.old.connection outgoing.now buffer → Goes there back consumed self.new.connection outgoing.now buffer (option_map said result) }
-        ensures flow { self.new.flow ≡ record self.old.flow { timing = self.new.flow.timing; cursor = self.new.flow.cursor; rescued = self.new.flow.rescued } }
-        ensures only { self.new.connection ≡ record self.old.connection { sending = record self.old.connection.sending { flight = self.new.connection.sending.flight } } }
-        ensures some { self.old.connection.phase ≡ Open → has_peer (state_from self.old.connection) ≡ true → 0 < piece.now.count → piece.now.offset ≤ self.old.connection.sending.flight → piece.now.offset < count_of self.old.connection.sending → MatchOption result ⊥ (λ s. 0 < len_of s) }
+        ensures goes { GoesFrom self.old.connection self.new.connection outgoing.now (option_map said result) }
+        ensures flow { self.new.flow ≡ record self.old.flow {
+          timing = self.new.flow.timing;
+          cursor = self.new.flow.cursor;
+          rescued = self.new.flow.rescued;
+        } }
+        ensures only { ChangesOnlyNext self.old.connection self.new.connection }
+        ensures some { self.old.connection.phase ≡ Open → has_peer (state_from self.old.connection) ≡ true
+            → 0 < piece.now.count → piece.now.offset ≤ self.old.connection.sending.flight
+            → piece.now.offset < count_of self.old.connection.sending → MatchOption result ⊥ (λ s. 0 < len_of s) }
         ensures none { result ≡ None → self.new ≡ self.old }
         ensures items { self.old.connection.phase ≡ Open → IfSome result (λ s. 0 < len_of s) }
-        ensures number { self.old.connection.phase ≡ Open → piece.now.offset ≤ self.old.connection.sending.flight → piece.now.offset < count_of self.old.connection.sending → IfSome result (λ s. s.number ≡ (self.old.connection.sending.una + piece.now.offset) % 4294967296) }
+        ensures number { self.old.connection.phase ≡ Open → piece.now.offset ≤ self.old.connection.sending.flight
+            → piece.now.offset < count_of self.old.connection.sending
+            → IfSome result (λ s. s.number ≡ (self.old.connection.sending.una + piece.now.offset) % 4294967296) }
         ensures nothing { self.old.connection.phase ≡ Open → count_of self.old.connection.sending ≡ 0 → result ≡ None }
-        ensures sound { self.old.connection.phase ≡ Open → piece.now.offset ≤ self.old.connection.sending.flight → piece.now.offset < count_of self.old.connection.sending → IsSound self.old.flow self.old.connection.sending.flight → IsSound self.new.flow self.new.connection.sending.flight }
-        ensures first { self.old.connection.phase ≡ Open → has_peer (state_from self.old.connection) ≡ true → 0 < piece.now.count → piece.now.offset ≡ 0 → 0 < count_of self.old.connection.sending → SendsFirst self.old.connection.sending self.new.connection.sending outgoing.now result }
-        ensures sends { self.old.connection.phase ≡ Open → IfSome result (λ s. (there : World) → Waits there self.old.connection.sending outgoing.now → IsSent there s) }
-        ensures within { self.old.connection.phase ≡ Open → (window : ℕ) → IsWithin piece.now window self.old.flow.congestion.cwnd → IfSome result (λ s. end_after self.old.connection.sending.una s ≤ limit_of window self.old.flow.congestion.cwnd) }
+        ensures sound { self.old.connection.phase ≡ Open → piece.now.offset ≤ self.old.connection.sending.flight
+            → piece.now.offset < count_of self.old.connection.sending
+            → IsSound self.old.flow self.old.connection.sending.flight
+            → IsSound self.new.flow self.new.connection.sending.flight }
+        ensures first { self.old.connection.phase ≡ Open → has_peer (state_from self.old.connection) ≡ true
+            → 0 < piece.now.count → piece.now.offset ≡ 0 → 0 < count_of self.old.connection.sending
+            → SendsFirst self.old.connection.sending self.new.connection.sending outgoing.now result }
+        ensures sends { self.old.connection.phase ≡ Open → IfSome result (λ s. (there : World)
+            → Waits there self.old.connection.sending outgoing.now → IsSent there s) }
+        ensures within { self.old.connection.phase ≡ Open → (window : ℕ)
+            → IsWithin piece.now window self.old.flow.congestion.cwnd → IfSome result
+            (λ s. end_after self.old.connection.sending.una s ≤ limit_of window self.old.flow.congestion.cwnd) }
     {
         let queue = self.queue();
         let (offset, count) = (piece.offset as usize, piece.count as usize);
@@ -302,7 +356,8 @@ impl Socket {
 
     // Whether a keep-alive probe goes (section 3.8.4).
     fn is_probe_due(&self, now: u64) -> bool
-        ensures { result ≡ false → (state_from self.now.connection ≡ State.TimeWait → ⊥) → self.now.timers.resend_at ≡ None → now < self.now.timers.probe_at }
+        ensures { result ≡ false → (state_from self.now.connection ≡ State.TimeWait → ⊥)
+            → self.now.timers.resend_at ≡ None → now < self.now.timers.probe_at }
     {
         self.connection.state() != State::TimeWait
             && self.timers.resend_at.is_none()
@@ -331,15 +386,19 @@ impl Socket {
         number: u32,
     ) -> Segment<'a>
         requires { InFits self.old.connection.receiving incoming }
-        ensures same { self.new ≡ record self.old { timers = record self.old.timers { ack_at = None }; edge = self.new.edge } }
+        ensures same { self.new
+            ≡ record self.old { timers = record self.old.timers { ack_at = None }; edge = self.new.edge } }
         ensures text { (result.payload.now ≡ []) × (result.fin ≡ false) }
         ensures len { len_of result ≡ 0 }
-        ensures goes_out { (there back : World) (consumed buffer : List ℕ) → Stands back consumed self.old.connection.receiving buffer → GoesOut there back (said result) }
+        ensures goes_out { (there back : World) (consumed buffer : List ℕ)
+            → Stands back consumed self.old.connection.receiving buffer → GoesOut there back (said result) }
         ensures ack { result.ack ≡ (acknowledgement_of self.old.connection).ack }
         ensures number { result.number ≡ number }
-        ensures answers { (back : World) (consumed buffer : List ℕ) → Stands back consumed self.old.connection.receiving buffer → IfSome result.ack (λ number. IsAnswer back number) }
-        ensures tells { IfSome result.ack (λ ack. Tells self.old.edge self.new.edge self.old.connection.receiving incoming ack result.window) }
-        ensures keeps { HasRoom self.old.edge self.old.connection.receiving incoming → HasRoom self.new.edge self.old.connection.receiving incoming }
+        ensures answers { IsAnswerOf self.old.connection.receiving result.ack }
+        ensures tells { IfSome result.ack
+            (λ ack. Tells self.old.edge self.new.edge self.old.connection.receiving incoming ack result.window) }
+        ensures keeps { HasRoom self.old.edge self.old.connection.receiving incoming
+            → HasRoom self.new.edge self.old.connection.receiving incoming }
     {
         let segment = Segment {
             number,
@@ -356,13 +415,18 @@ impl Socket {
     // The segment with an acknowledgement of all that came, and the window.
     pub(crate) fn advertise<'a>(&mut self, segment: Segment<'a>, incoming: usize) -> Segment<'a>
         requires { InFits self.old.connection.receiving incoming }
-        ensures same { self.new ≡ record self.old { timers = record self.old.timers { ack_at = None }; edge = self.new.edge } }
+        ensures same { self.new
+            ≡ record self.old { timers = record self.old.timers { ack_at = None }; edge = self.new.edge } }
         ensures segment { result ≡ record segment.entry { ack = result.ack; window = result.window } }
-        ensures goes_out { (there back : World) (consumed buffer : List ℕ) → Stands back consumed self.old.connection.receiving buffer → GoesOut there back (said segment.entry) → GoesOut there back (said result) }
+        ensures goes_out { (there back : World) (consumed buffer : List ℕ)
+            → Stands back consumed self.old.connection.receiving buffer → GoesOut there back (said segment.entry)
+            → GoesOut there back (said result) }
         ensures ack { result.ack ≡ (acknowledgement_of self.old.connection).ack }
-        ensures answers { (back : World) (consumed buffer : List ℕ) → Stands back consumed self.old.connection.receiving buffer → IfSome result.ack (λ number. IsAnswer back number) }
-        ensures tells { IfSome result.ack (λ ack. Tells self.old.edge self.new.edge self.old.connection.receiving incoming ack result.window) }
-        ensures keeps { HasRoom self.old.edge self.old.connection.receiving incoming → HasRoom self.new.edge self.old.connection.receiving incoming }
+        ensures answers { IsAnswerOf self.old.connection.receiving result.ack }
+        ensures tells { IfSome result.ack
+            (λ ack. Tells self.old.edge self.new.edge self.old.connection.receiving incoming ack result.window) }
+        ensures keeps { HasRoom self.old.edge self.old.connection.receiving incoming
+            → HasRoom self.new.edge self.old.connection.receiving incoming }
     {
         self.timers.ack_at = None;
         let ack = self.connection.acknowledgement().ack;

@@ -68,7 +68,8 @@ impl Timers {
 
     // A SYN goes out.
     pub(crate) fn begin(&mut self, now: u64, rto: u32)
-        ensures { self.new ≡ record self.old { ends_at = later now 180000; resend_at = Some (later now rto); ack_at = None } }
+        ensures { self.new
+            ≡ record self.old { ends_at = later now 180000; resend_at = Some (later now rto); ack_at = None } }
     {
         self.ends_at = now.saturating_add(SYN_PATIENCE);
         self.resend_at = Some(now.saturating_add(u64::from(rto)));
@@ -90,7 +91,8 @@ impl Timers {
     // with the user timeout.
     pub(crate) fn run(&mut self, now: u64, rto: u32, waits: bool)
         ensures off { waits ≡ false → self.new ≡ record self.old { resend_at = None } }
-        ensures starts { waits ≡ true → self.old.resend_at ≡ None → self.new ≡ record self.old { resend_at = Some (later now rto); ends_at = min self.old.ends_at (later now 300000) } }
+        ensures starts { waits ≡ true → self.old.resend_at ≡ None → self.new
+            ≡ record self.old { resend_at = Some (later now rto); ends_at = min self.old.ends_at (later now 300000) } }
         ensures runs { waits ≡ true → IfSome self.old.resend_at (λ t. self.new ≡ self.old) }
     {
         if !waits {
@@ -110,7 +112,10 @@ impl Timers {
     // A segment of the peer came.
     pub(crate) fn hear(&mut self, now: u64, idle: u64, waits: bool)
         requires { idle ≤ 4294967295000 }
-        ensures { self.new ≡ record self.old { ends_at = later now (if waits then 300000 else idle + 675000); probe_at = later now idle } }
+        ensures { self.new ≡ record self.old {
+          ends_at = later now (if waits then 300000 else idle + 675000);
+          probe_at = later now idle;
+        } }
     {
         let patience = if waits {
             USER_TIMEOUT

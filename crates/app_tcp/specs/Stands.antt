@@ -87,7 +87,8 @@ abbrev pub StaysKept : Receiving → Receiving → Type 0
 StaysKept old new =
     0 < old.gap → 0 < old.kept → new.has_fin ≡ false
     → (old.gap + old.kept ≤ distance new.next old.next)
-    ⊎ ((distance new.next old.next < old.gap) × ((distance new.next old.next + new.gap ≤ old.gap) × (old.gap + old.kept ≤ distance new.next old.next + new.gap + new.kept)))
+    ⊎ ((distance new.next old.next < old.gap) × ((distance new.next old.next + new.gap ≤ old.gap) × (old.gap + old.kept
+    ≤ distance new.next old.next + new.gap + new.kept)))
 
 -- This number is what the event Answer acknowledges.
 pub record IsAnswer (w : World) (number : ℕ) : Type 0 where

@@ -38,7 +38,9 @@ from_of c offset = min (min offset c.flight) (length (syn_of c.has_syn) + c.len)
 
 -- These items with this number are what the event Send puts on the network.
 pub record IsSend (w : World) (offset number : ℕ) (items : List Item) : Type 0 where
-  pub last : (happens w (Send offset (length items))).segments ≡ record { place = w.acked + offset; number = number; items = items } ∷ w.segments
+  pub last :
+      (happens w (Send offset (length items))).segments
+      ≡ record { place = w.acked + offset; number = number; items = items } ∷ w.segments
 
 -- An acknowledgement with this number comes, which was sent before. It is not older than the sequence space allows.
 pub record AckComes (w : World) (which number : ℕ) : Type 0 where

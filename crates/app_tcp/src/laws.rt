@@ -26,7 +26,10 @@ pub fn goes_on(
     requires is_open { receiving.old.is_open ≡ true }
     requires count { 0 < count }
     requires room { receiving.old.has_fin ≡ false → 0 < room_of receiving.old (length incoming.old) }
-    ensures { (initial : ℕ) (events : List Event) (consumed : List ℕ) → let w : World = run events (start initial) in Waits w sending.old outgoing.now → Stands w consumed receiving.old incoming.old → w.acked < length (stream w.written w.closed) → GoesOn w consumed sending.new outgoing.now receiving.new incoming.new }
+    ensures { (initial : ℕ) (events : List Event) (consumed : List ℕ)
+        → let w : World = run events (start initial) in Waits w sending.old outgoing.now
+        → Stands w consumed receiving.old incoming.old → w.acked < length (stream w.written w.closed)
+        → GoesOn w consumed sending.new outgoing.now receiving.new incoming.new }
 {
     let segment = sending.segment(outgoing, 0, count);
     receiving.on_segment(incoming, segment.number, segment.payload, segment.fin);

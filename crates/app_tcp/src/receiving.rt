@@ -52,8 +52,11 @@ impl Receiving {
         ensures begin { self.new.start ≡ self.old.start }
         ensures len { reach self.new ≡ reach self.old }
         ensures again { self.old.is_open ≡ true → self.new ≡ self.old }
-        ensures first { self.old.is_open ≡ false → (self.new.is_open ≡ true) × (self.new.next ≡ (number + 1) % 4294967296) }
-        ensures opens { (w : World) (consumed buffer : List ℕ) (which : ℕ) (rest : List Item) → self.old.is_open ≡ false → SegmentComes w which number (Syn ∷ rest) → Stands w consumed self.old buffer → Stands (happens w (Segment_comes which 1)) consumed self.new buffer }
+        ensures first { self.old.is_open ≡ false
+            → (self.new.is_open ≡ true) × (self.new.next ≡ (number + 1) % 4294967296) }
+        ensures opens { (w : World) (consumed buffer : List ℕ) (which : ℕ) (rest : List Item) → self.old.is_open ≡ false
+            → SegmentComes w which number (Syn ∷ rest) → Stands w consumed self.old buffer
+            → Stands (happens w (Segment_comes which 1)) consumed self.new buffer }
     {
         if !self.is_open {
             self.next = number.wrapping_add(1);
@@ -73,10 +76,16 @@ impl Receiving {
         ensures begin { self.new.start < length ring.old }
         ensures len { reach self.new ≤ length ring.old }
         ensures opened { self.new.is_open ≡ self.old.is_open }
-        ensures edge { self.new.has_fin ≡ false → (self.new.next + (length ring.old - self.new.len)) % 4294967296 ≡ (self.old.next + (length ring.old - self.old.len)) % 4294967296 }
-        ensures keeps { self.old.is_open ≡ true → self.old.kept ≡ 0 → 0 < length payload.now → 0 < distance number self.old.next → distance number self.old.next + length payload.now ≤ room_of self.old (length ring.old) → (self.new.gap ≡ distance number self.old.next) × (self.new.kept ≡ length payload.now) }
+        ensures edge { self.new.has_fin ≡ false → (self.new.next + (length ring.old - self.new.len)) % 4294967296
+            ≡ (self.old.next + (length ring.old - self.old.len)) % 4294967296 }
+        ensures keeps { self.old.is_open ≡ true → self.old.kept ≡ 0 → 0 < length payload.now
+            → 0 < distance number self.old.next
+            → distance number self.old.next + length payload.now ≤ room_of self.old (length ring.old)
+            → (self.new.gap ≡ distance number self.old.next) × (self.new.kept ≡ length payload.now) }
         ensures stays { StaysKept self.old self.new }
-        ensures stands { (w : World) (consumed : List ℕ) (which : ℕ) → SegmentComes w which number (items_of false payload.now fin) → Stands w consumed self.old ring.old → Uses (happens w (Segment_comes which (room_of self.old (length ring.old)))) which consumed self.new ring.new }
+        ensures stands { (w : World) (consumed : List ℕ) (which : ℕ)
+            → SegmentComes w which number (items_of false payload.now fin) → Stands w consumed self.old ring.old → Uses
+            (happens w (Segment_comes which (room_of self.old (length ring.old)))) which consumed self.new ring.new }
     {
         if !self.is_open {
             return;
@@ -117,9 +126,13 @@ impl Receiving {
         requires is_open { self.old.is_open ≡ true }
         ensures same { self.new ≡ record self.old { gap = self.new.gap; kept = self.new.kept } }
         ensures len { reach self.new ≤ length ring.old }
-        ensures first { self.old.kept ≡ 0 → 0 < length bytes.now → ahead + length bytes.now ≤ room_of self.old (length ring.old) → (self.new.gap ≡ ahead) × (self.new.kept ≡ length bytes.now) }
-        ensures wider { 0 < self.old.kept → (self.new.gap ≤ self.old.gap) × (self.old.gap + self.old.kept ≤ self.new.gap + self.new.kept) }
-        ensures stands { (w : World) (consumed : List ℕ) (which : ℕ) → ComesAhead w self.old.next which ahead bytes.now → Stands w consumed self.old ring.old → Uses w which consumed self.new ring.new }
+        ensures first { self.old.kept ≡ 0 → 0 < length bytes.now
+            → ahead + length bytes.now ≤ room_of self.old (length ring.old)
+            → (self.new.gap ≡ ahead) × (self.new.kept ≡ length bytes.now) }
+        ensures wider { 0 < self.old.kept
+            → (self.new.gap ≤ self.old.gap) × (self.old.gap + self.old.kept ≤ self.new.gap + self.new.kept) }
+        ensures stands { (w : World) (consumed : List ℕ) (which : ℕ) → ComesAhead w self.old.next which ahead bytes.now
+            → Stands w consumed self.old ring.old → Uses w which consumed self.new ring.new }
     {
         let room = self.room(ring.len());
         if ahead >= room {
@@ -139,7 +152,12 @@ impl Receiving {
     // Takes what is kept, without its first bytes.
     fn join(&mut self, skip: usize)
         requires small { self.old.len + (self.old.kept - skip) < 1073741824 }
-        ensures value { self.new ≡ record self.old { next = (self.old.next + (self.old.kept - skip)) % 4294967296; len = self.old.len + (self.old.kept - skip); gap = 0; kept = 0 } }
+        ensures value { self.new ≡ record self.old {
+          next = (self.old.next + (self.old.kept - skip)) % 4294967296;
+          len = self.old.len + (self.old.kept - skip);
+          gap = 0;
+          kept = 0;
+        } }
     {
         let more = self.kept.saturating_sub(skip);
         self.len += more;
@@ -159,8 +177,11 @@ impl Receiving {
         ensures fewer { self.new.len + length result.now ≡ self.old.len }
         ensures few { length result.now ≤ count }
         ensures some { 0 < count → 0 < self.old.len → 0 < length result.now }
-        ensures stands { (w : World) (consumed : List ℕ) → Stands w consumed self.old ring.now → Stands w (consumed ++ result.now) self.new ring.now }
-        ensures delivers { (initial : ℕ) (events : List Event) (consumed : List ℕ) → let w : World = run events (start initial) in Stands w consumed self.old ring.now → IsPrefixOf (consumed ++ result.now) w.written }
+        ensures stands { (w : World) (consumed : List ℕ) → Stands w consumed self.old ring.now
+            → Stands w (consumed ++ result.now) self.new ring.now }
+        ensures delivers { (initial : ℕ) (events : List Event) (consumed : List ℕ)
+            → let w : World = run events (start initial) in Stands w consumed self.old ring.now
+            → IsPrefixOf (consumed ++ result.now) w.written }
     {
         let n = count.min(self.len).min(ring.len() - self.start);
         let bytes = &ring[self.start..self.start + n];
@@ -172,7 +193,9 @@ impl Receiving {
     /// Whether the application has read all that the peer wrote, and the peer has closed.
     pub fn is_ended(&self) -> bool
         ensures value { result ≡ (self.now.has_fin && self.now.len == 0) }
-        ensures whole { (initial : ℕ) (events : List Event) (consumed buffer : List ℕ) → result ≡ true → let w : World = run events (start initial) in Stands w consumed self.now buffer → (w.closed ≡ true) × (consumed ≡ w.written) }
+        ensures whole { (initial : ℕ) (events : List Event) (consumed buffer : List ℕ) → result ≡ true
+            → let w : World = run events (start initial) in Stands w consumed self.now buffer
+            → (w.closed ≡ true) × (consumed ≡ w.written) }
     {
         self.has_fin && self.len == 0
     }
@@ -180,7 +203,8 @@ impl Receiving {
     /// The number to acknowledge (RCV.NXT); `None` before the SYN.
     pub fn next(&self) -> Option<u32>
         ensures value { result ≡ (if self.now.is_open then Some self.now.next else None) }
-        ensures legal { (w : World) (consumed buffer : List ℕ) → Stands w consumed self.now buffer → IfSome result (λ number. IsAnswer w number) }
+        ensures legal { (w : World) (consumed buffer : List ℕ) → Stands w consumed self.now buffer
+            → IfSome result (λ number. IsAnswer w number) }
     {
         if self.is_open { Some(self.next) } else { None }
     }
@@ -189,9 +213,12 @@ impl Receiving {
     /// section 3).
     pub fn kept(&self) -> Option<(u32, u32)>
         requires { reach self.now < 1073741824 }
-        ensures some { 0 < self.now.kept → result ≡ Some ((self.now.next + self.now.gap) % 4294967296, (self.now.next + self.now.gap + self.now.kept) % 4294967296) }
+        ensures some { 0 < self.now.kept → result ≡ Some
+            ((self.now.next + self.now.gap) % 4294967296, (self.now.next + self.now.gap + self.now.kept) % 4294967296) }
         ensures none { self.now.kept ≡ 0 → result ≡ None }
-        ensures legal { (w : World) (consumed buffer : List ℕ) → self.now.start < length buffer → reach self.now ≤ length buffer → Stands w consumed self.now buffer → IfSome result (λ range. (range.0 ≡ w.later.number) × (range.1 ≡ (w.later.number + length w.later.items) % 4294967296)) }
+        ensures legal { (w : World) (consumed buffer : List ℕ) → self.now.start < length buffer
+            → reach self.now ≤ length buffer → Stands w consumed self.now buffer → IfSome result
+            (λ range. (range.0 ≡ w.later.number) × (range.1 ≡ (w.later.number + length w.later.items) % 4294967296)) }
     {
         if self.kept == 0 {
             return None;

@@ -75,8 +75,10 @@ impl Sending {
         ensures start { self.new.start < length ring.old }
         ensures len { self.new.len ≤ length ring.old }
         ensures same { self.new ≡ record self.old { len = self.new.len } }
-        ensures count { result ≡ (if self.old.is_closed then 0 else min (length bytes.now) (length ring.old - self.old.len)) }
-        ensures waits { (w : World) → Waits w self.old ring.old → Waits (happens w (Write (take result bytes.now))) self.new ring.new }
+        ensures count { result
+            ≡ (if self.old.is_closed then 0 else min (length bytes.now) (length ring.old - self.old.len)) }
+        ensures waits { (w : World) → Waits w self.old ring.old
+            → Waits (happens w (Write (take result bytes.now))) self.new ring.new }
     {
         if self.is_closed {
             return 0;
@@ -94,7 +96,8 @@ impl Sending {
         ensures same { self.new ≡ record self.old { has_fin = self.new.has_fin; is_closed = true } }
         ensures closed { self.new.is_closed ≡ true }
         ensures fin { self.old.is_closed ≡ false → self.new.has_fin ≡ true }
-        ensures waits { (w : World) (buffer : List ℕ) → Waits w self.old buffer → Waits (happens w Close) self.new buffer }
+        ensures waits { (w : World) (buffer : List ℕ) → Waits w self.old buffer
+            → Waits (happens w Close) self.new buffer }
     {
         if !self.is_closed {
             self.is_closed = true;
@@ -110,9 +113,14 @@ impl Sending {
         ensures start { self.new.start < length ring.now }
         ensures len { self.new.len ≤ length ring.now }
         ensures flight { self.new.flight + distance self.new.una self.old.una ≡ self.old.flight }
-        ensures una { self.new.una ≡ (if nat_lt self.old.flight (distance number self.old.una) then self.old.una else number) }
-        ensures waits { (w : World) (which : ℕ) → AckComes w which number → Waits w self.old ring.now → Waits (happens w (Ack_comes which)) self.new ring.now }
-        ensures counted { (initial : ℕ) (events : List Event) (which : ℕ) → AckComes (run events (start initial)) which number → let v : World = happens (run events (start initial)) (Ack_comes which) in v.acked ≤ length v.receiver.got }
+        ensures una { self.new.una
+            ≡ (if nat_lt self.old.flight (distance number self.old.una) then self.old.una else number) }
+        ensures waits { (w : World) (which : ℕ) → AckComes w which number → Waits w self.old ring.now
+            → Waits (happens w (Ack_comes which)) self.new ring.now }
+        ensures counted { (initial : ℕ) (events : List Event) (which : ℕ)
+            → AckComes (run events (start initial)) which number
+            → let v : World = happens (run events (start initial)) (Ack_comes which) in v.acked
+            ≤ length v.receiver.got }
     {
         let newly = number.wrapping_sub(self.una);
         if newly > self.flight {
@@ -130,18 +138,26 @@ impl Sending {
         requires len { self.old.len ≤ length ring.now }
         requires small { length ring.now < 1073741824 }
         ensures same { self.new ≡ record self.old { flight = self.new.flight } }
-        ensures legal { (w : World) → Waits w self.old ring.now → IsSend w (from_of self.old offset) result.number (items_of result.syn result.payload.now result.fin) }
-        ensures waits { (w : World) → Waits w self.old ring.now → Waits (happens w (Send (from_of self.old offset) (length (items_of result.syn result.payload.now result.fin)))) self.new ring.now }
-        ensures flight { self.new.flight ≡ max self.old.flight (from_of self.old offset + length (items_of result.syn result.payload.now result.fin)) }
-        ensures some { 0 < count → offset < length (pending self.old ring.now) → 0 < length (items_of result.syn result.payload.now result.fin) }
+        ensures legal { (w : World) → Waits w self.old ring.now
+            → IsSend w (from_of self.old offset) result.number (items_of result.syn result.payload.now result.fin) }
+        ensures waits { (w : World) → Waits w self.old ring.now → Waits
+            (happens w (Send (from_of self.old offset) (length (items_of result.syn result.payload.now result.fin))))
+            self.new ring.now }
+        ensures flight { self.new.flight ≡ max self.old.flight
+            (from_of self.old offset + length (items_of result.syn result.payload.now result.fin)) }
+        ensures some { 0 < count → offset < length (pending self.old ring.now)
+            → 0 < length (items_of result.syn result.payload.now result.fin) }
         ensures few { length result.payload.now ≤ count }
         ensures inner { length result.payload.now ≤ length ring.now }
         ensures syn { self.old.has_syn ≡ false → result.syn ≡ false }
-        ensures brings { 0 < count → offset < count_of self.old → 0 < length result.payload.now + (if result.syn then 1 else 0) + (if result.fin then 1 else 0) }
+        ensures brings { 0 < count → offset < count_of self.old
+            → 0 < length result.payload.now + (if result.syn then 1 else 0) + (if result.fin then 1 else 0) }
         ensures at_una { offset ≡ 0 → result.number ≡ self.old.una }
-        ensures first { self.old.has_syn ≡ true → offset ≡ 0 → items_of result.syn result.payload.now result.fin ≡ Syn ∷ [] }
+        ensures first { self.old.has_syn ≡ true → offset ≡ 0
+            → items_of result.syn result.payload.now result.fin ≡ Syn ∷ [] }
         ensures number { result.number ≡ (self.old.una + from_of self.old offset) % 4294967296 }
-        ensures most { length result.payload.now + (if result.syn then 1 else 0) + (if result.fin then 1 else 0) ≤ max 1 count }
+        ensures most { length result.payload.now + (if result.syn then 1 else 0) + (if result.fin then 1 else 0)
+            ≤ max 1 count }
     {
         let from = offset
             .min(self.flight as usize)
@@ -169,16 +185,22 @@ impl Sending {
         requires small { length ring.now < 1073741824 }
         requires from { from ≤ length (syn_of self.now.has_syn) + self.now.len }
         ensures number { result.number ≡ (self.now.una + from) % 4294967296 }
-        ensures items { let items : List Item = items_of result.syn result.payload.now result.fin in items ≡ take (length items) (drop from (pending self.now ring.now)) }
-        ensures inside { from + length (items_of result.syn result.payload.now result.fin) ≤ length (pending self.now ring.now) }
-        ensures some { 0 < count → from < length (pending self.now ring.now) → 0 < length (items_of result.syn result.payload.now result.fin) }
+        ensures items { let items : List Item = items_of result.syn result.payload.now result.fin in items
+            ≡ take (length items) (drop from (pending self.now ring.now)) }
+        ensures inside { from + length (items_of result.syn result.payload.now result.fin)
+            ≤ length (pending self.now ring.now) }
+        ensures some { 0 < count → from < length (pending self.now ring.now)
+            → 0 < length (items_of result.syn result.payload.now result.fin) }
         ensures few { length result.payload.now ≤ count }
         ensures inner { length result.payload.now ≤ length ring.now }
         ensures syn { self.now.has_syn ≡ false → result.syn ≡ false }
-        ensures brings { 0 < count → from < count_of self.now → 0 < length result.payload.now + (if result.syn then 1 else 0) + (if result.fin then 1 else 0) }
+        ensures brings { 0 < count → from < count_of self.now
+            → 0 < length result.payload.now + (if result.syn then 1 else 0) + (if result.fin then 1 else 0) }
         ensures at_una { from ≡ 0 → result.number ≡ self.now.una }
-        ensures first { self.now.has_syn ≡ true → from ≡ 0 → items_of result.syn result.payload.now result.fin ≡ Syn ∷ [] }
-        ensures most { length result.payload.now + (if result.syn then 1 else 0) + (if result.fin then 1 else 0) ≤ max 1 count }
+        ensures first { self.now.has_syn ≡ true → from ≡ 0
+            → items_of result.syn result.payload.now result.fin ≡ Syn ∷ [] }
+        ensures most { length result.payload.now + (if result.syn then 1 else 0) + (if result.fin then 1 else 0)
+            ≤ max 1 count }
     {
         if self.has_syn && from == 0 {
             return Segment {
@@ -210,7 +232,8 @@ impl Sending {
         ensures flight { self.new.flight ≡ self.old.flight }
         ensures closed { self.new.is_closed ≡ self.old.is_closed }
         ensures fin { self.old.has_fin ≡ false → self.new.has_fin ≡ false }
-        ensures rest { (buffer : List ℕ) → length buffer ≡ size → pending self.new buffer ≡ drop count (pending self.old buffer) }
+        ensures rest { (buffer : List ℕ) → length buffer ≡ size
+            → pending self.new buffer ≡ drop count (pending self.old buffer) }
     {
         if self.has_syn {
             if count > 0 {
@@ -234,7 +257,8 @@ impl Sending {
         ensures closed { self.new.is_closed ≡ self.old.is_closed }
         ensures syn { self.new.has_syn ≡ self.old.has_syn }
         ensures fin { self.old.has_fin ≡ false → self.new.has_fin ≡ false }
-        ensures rest { (buffer : List ℕ) → length buffer ≡ size → rest_of self.new buffer ≡ drop count (rest_of self.old buffer) }
+        ensures rest { (buffer : List ℕ) → length buffer ≡ size
+            → rest_of self.new buffer ≡ drop count (rest_of self.old buffer) }
     {
         if count > self.len {
             self.len = 0;

@@ -35,7 +35,8 @@ pub record Listens (old new : Socket) : Type 0 where
   pub same : new ≡ record old { connection = new.connection }
   pub listens : state_from old.connection ≡ Closed → endpoint_of new.connection ≡ In_listen
   pub stays : (state_from old.connection ≡ Closed → ⊥) → new ≡ old
-  pub steps : (outgoing incoming : List ℕ) → Steps old.connection new.connection outgoing incoming incoming move.Listen None
+  pub steps :
+      (outgoing incoming : List ℕ) → Steps old.connection new.connection outgoing incoming incoming move.Listen None
 
 -- The application writes no more (section 3.10.4): a FIN follows what it wrote.
 pub record Closes (old new : Socket) : Type 0 where
@@ -45,7 +46,8 @@ pub record Closes (old new : Socket) : Type 0 where
   pub waits : may_close (state_from old.connection) ≡ true → (there : World) (outgoing : List ℕ)
       → Waits there old.connection.sending outgoing → Waits (happens there Close) new.connection.sending outgoing
   pub stays : may_close (state_from old.connection) ≡ false → new.connection.sending ≡ old.connection.sending
-  pub steps : (outgoing incoming : List ℕ) → Steps old.connection new.connection outgoing incoming incoming move.Close None
+  pub steps :
+      (outgoing incoming : List ℕ) → Steps old.connection new.connection outgoing incoming incoming move.Close None
 
 -- 1 is returned and an RST is stored; or 0, and nothing is
 abbrev pub StoresReset : SegmentFields → SegmentFields → ℤ → Type 0
@@ -60,7 +62,8 @@ pub record Aborts (old new : Socket) (out out' : SegmentFields) (code : ℤ) : T
   pub receiving : new.connection.receiving ≡ old.connection.receiving
   pub given : Option Said
   pub reset : IfSome given (λ s. s.rst ≡ true)
-  pub steps : (outgoing incoming : List ℕ) → Steps old.connection new.connection outgoing incoming incoming move.Abort given
+  pub steps :
+      (outgoing incoming : List ℕ) → Steps old.connection new.connection outgoing incoming incoming move.Abort given
   pub stores : StoresReset out out' code
 
 -- The path takes segments of `mss` bytes, by an error about one in flight: what is in flight goes again in such segments.

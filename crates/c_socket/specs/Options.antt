@@ -16,11 +16,14 @@ nth_range s place = get_or s.sack_ranges place None
 
 -- their structs
 abbrev pub ranges_of : TcpOptionSummary → List SackRange
-ranges_of s = range_of (nth_range s 0) ∷ range_of (nth_range s 1) ∷ range_of (nth_range s 2) ∷ range_of (nth_range s 3) ∷ []
+ranges_of s =
+    range_of (nth_range s 0) ∷ range_of (nth_range s 1) ∷ range_of (nth_range s 2) ∷ range_of (nth_range s 3) ∷ []
 
 -- how many there are
 abbrev pub range_count : TcpOptionSummary → ℕ
-range_count s = flag (is_some (nth_range s 0)) + flag (is_some (nth_range s 1)) + flag (is_some (nth_range s 2)) + flag (is_some (nth_range s 3))
+range_count s =
+    flag (is_some (nth_range s 0)) + flag (is_some (nth_range s 1)) + flag (is_some (nth_range s 2)) + flag
+    (is_some (nth_range s 3))
 
 -- the struct of these options
 abbrev pub options_of : TcpOptionSummary → TcpOptions

@@ -33,7 +33,9 @@ fields_of s header = record {
 
 -- the struct is of an RST (section 3.5.2), with window 0 and without options
 abbrev pub IsReset : SegmentFields → Type 0
-IsReset f = (segment : Segment) × (segment.rst ≡ true) × (f ≡ fields_of segment (record { window = 0; options = summary_of [] }))
+IsReset f =
+    (segment : Segment) × (segment.rst ≡ true)
+    × (f ≡ fields_of segment (record { window = 0; options = summary_of [] }))
 
 -- whether the struct has a flag
 abbrev pub has : SegmentFields → ℕ → Bool

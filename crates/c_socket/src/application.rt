@@ -24,9 +24,11 @@ use c_structs::is_set;
 /// Makes a connection in CLOSED. 0 is the default of each option.
 pub fn init(connection: &mut SocketFields, mss: u16, keep_alive: u32, is_eager: i32)
     ensures closed { endpoint_of (socket_of connection.new).connection ≡ In_closed }
-    ensures options { (socket_of connection.new).options ≡ record { mss = mss; keep_alive = keep_alive; is_eager = is_set is_eager } }
+    ensures options { (socket_of connection.new).options
+        ≡ record { mss = mss; keep_alive = keep_alive; is_eager = is_set is_eager } }
     ensures stands { (buffer : List ℕ) → Stands (start 0) [] (socket_of connection.new).connection.receiving buffer }
-    ensures out { (size : ℕ) → 0 < size → size < 1073741824 → OutFits (socket_of connection.new).connection.sending size }
+    ensures out { (size : ℕ) → 0 < size → size < 1073741824
+        → OutFits (socket_of connection.new).connection.sending size }
 {
     let options = Options {
         mss,
@@ -72,7 +74,8 @@ pub fn abort<'a>(connection: &mut SocketFields, out: &mut SegmentFields<'a>) -> 
 
 /// When `tick` has something to do if nothing happens before. The last time: never.
 pub fn due(connection: &SocketFields) -> u64
-    ensures { let s = socket_of connection.now in result ≡ unwrap_or (due_in (state_from s.connection) s.timers) 18446744073709551615 }
+    ensures { let s = socket_of connection.now in result
+        ≡ unwrap_or (due_in (state_from s.connection) s.timers) 18446744073709551615 }
 {
     connection.value().due().unwrap_or(u64::MAX)
 }
@@ -99,14 +102,18 @@ pub fn state(connection: &SocketFields) -> i32
 /// Whether the application has read all that the peer wrote, and the peer has closed: 1 or 0.
 pub fn is_ended(connection: &SocketFields) -> i32
     ensures all { result ≡ pos 1 → HasAll (socket_of connection.now).connection }
-    ensures whole { (initial : ℕ) (events : List Event) (consumed buffer : List ℕ) → result ≡ pos 1 → let back : World = run events (start initial) in Stands back consumed (socket_of connection.now).connection.receiving buffer → (back.closed ≡ true) × (consumed ≡ back.written) }
+    ensures whole { (initial : ℕ) (events : List Event) (consumed buffer : List ℕ) → result ≡ pos 1
+        → let back : World = run events (start initial) in
+        Stands back consumed (socket_of connection.now).connection.receiving buffer
+        → (back.closed ≡ true) × (consumed ≡ back.written) }
 {
     i32::from(connection.value().is_ended())
 }
 
 /// How many items the peer has not acknowledged: bytes that were written, a SYN and a FIN.
 pub fn waiting(connection: &SocketFields) -> usize
-    ensures { let s = (socket_of connection.now).connection.sending in (size : ℕ) → OutFits s size → result ≡ min 18446744073709551615 (s.flight + unsent_of s) }
+    ensures { let s = (socket_of connection.now).connection.sending in (size : ℕ) → OutFits s size
+        → result ≡ min 18446744073709551615 (s.flight + unsent_of s) }
 {
     connection.value().waiting()
 }

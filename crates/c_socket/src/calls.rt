@@ -33,7 +33,8 @@ pub fn connect<'a>(
     iss: u32,
     out: &mut SegmentFields<'a>,
 ) -> i32
-    ensures { Meets (λ e. e ≡ event.Open iss) connection.old connection.new outgoing.now incoming.old incoming.new now out.old out.new result }
+    ensures { Meets (λ e. e ≡ event.Open iss) connection.old connection.new outgoing.now incoming.old incoming.new now
+        out.old out.new result }
 {
     meet(connection, outgoing, incoming, now, Event::Open(iss), out)
 }
@@ -49,8 +50,11 @@ pub fn take<'a>(
     fresh: u32,
     out: &mut SegmentFields<'a>,
 ) -> i32
-    ensures short { length segment.now.payload.now ≤ 65535 → Meets (IsArrival (segment_of segment.now) (summary_of segment.now.options) fresh) connection.old connection.new outgoing.now incoming.old incoming.new now out.old out.new result }
-    ensures long { 65535 < length segment.now.payload.now → IsUnchanged connection.old connection.new incoming.old incoming.new out.old out.new result }
+    ensures short { length segment.now.payload.now ≤ 65535 → Meets
+        (IsArrival (segment_of segment.now) (summary_of segment.now.options) fresh) connection.old connection.new
+        outgoing.now incoming.old incoming.new now out.old out.new result }
+    ensures long { 65535 < length segment.now.payload.now
+        → IsUnchanged connection.old connection.new incoming.old incoming.new out.old out.new result }
 {
     if segment.payload.len() > MAX_TEXT {
         return MISUSE;
@@ -69,7 +73,8 @@ pub fn tick<'a>(
     now: u64,
     out: &mut SegmentFields<'a>,
 ) -> i32
-    ensures { Meets (λ e. e ≡ event.Tick) connection.old connection.new outgoing.now incoming.old incoming.new now out.old out.new result }
+    ensures { Meets (λ e. e ≡ event.Tick) connection.old connection.new outgoing.now incoming.old incoming.new now
+        out.old out.new result }
 {
     meet(connection, outgoing, incoming, now, Event::Tick, out)
 }
@@ -84,7 +89,8 @@ fn meet<'a>(
     out: &mut SegmentFields<'a>,
 ) -> i32
     requires { IsShort event }
-    ensures { Meets (λ e. e ≡ event.entry) connection.old connection.new outgoing.now incoming.old incoming.new now out.old out.new result }
+    ensures { Meets (λ e. e ≡ event.entry) connection.old connection.new outgoing.now incoming.old incoming.new now
+        out.old out.new result }
 {
     let mut socket = connection.value();
     if !socket.fits(outgoing.len(), incoming.len()) {
