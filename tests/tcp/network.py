@@ -2,8 +2,8 @@
 """Pairs of sockets over a simulated network: tests/tcp/network.py PROGRAM SEED COUNT
 
 The program is crates/tcp_steps, or `model` for the model. Each of the COUNT connections has its own losses, repetitions,
-delays, windows and readers, by a virtual clock. In some the network removes options of SYNs, or takes only small segments from
-some time on, and sends errors. All bytes must come in both directions, and both ends must be CLOSED at the end. In some
+delays, windows and readers, by a virtual clock. In some the network removes options of SYNs, splits and joins segments, or takes
+only small ones from some time on, and sends errors. All bytes must come in both directions, and both ends must be CLOSED at the end. In some
 connections an end vanishes: then the other must be CLOSED by its bound.
 """
 import collections
@@ -17,6 +17,7 @@ import sys
 sys.path.append(str(pathlib.Path(__file__).resolve().parents[1] / "frames"))
 from dice import Random  # noqa: E402
 from ends import End, machine_of  # noqa: E402
+from model import MASK  # noqa: E402
 from tcp_options import NONE  # noqa: E402
 from watch import Watch  # noqa: E402
 
@@ -26,6 +27,8 @@ PART = 50
 # The most events of a connection.
 TOO_MANY = 20000
 LOSSES = (0, 0, 0.01, 0.03, 0.1)
+# How often a middlebox splits a segment, or joins it with the one before it.
+REMADE = (0, 0, 0.1, 0.6)
 # The part of the MSS that the path takes from some time on: at least 48 bytes with options.
 PATHS, LEAST = (None, None, 0.3, 0.8), 48
 
@@ -83,6 +86,7 @@ class Network:
         self.without = {name: value for name, value in NONE._asdict().items() if rng.random() < 0.2}
         share, self.narrow_at = rng.choice(PATHS), rng.randrange(3000)
         self.path = share and max(LEAST, int(share * max(host.mss for host in self.hosts)))
+        self.remade, self.last, self.made = rng.choice(REMADE), [None, None], 0
         self.vanishes = rng.choice((None,) * 6 + (rng.randrange(3000), rng.randrange(100_000)))
 
     def later(self, delay, kind, *operands):
@@ -98,11 +102,27 @@ class Network:
             if rng.random() >= self.loss:
                 self.later(2 * self.delay, self.is_too_big, 1 - to, segment.seq)
             return
-        while segment and rng.random() >= self.loss:
-            delay = self.delay + rng.randrange(self.jitter + 1)
-            self.later(delay if rng.random() < 0.99 else delay + rng.randrange(20_000), self.come, to, segment)
-            if rng.random() >= self.repeats:
-                break
+        for part in self.parts(to, segment) if segment else ():
+            while rng.random() >= self.loss:
+                delay = self.delay + rng.randrange(self.jitter + 1)
+                self.later(delay if rng.random() < 0.99 else delay + rng.randrange(20_000), self.come, to, part)
+                if rng.random() >= self.repeats:
+                    break
+
+    def parts(self, to, segment):
+        """What a middlebox makes of a segment: its two parts, or one segment of the one before it and this one."""
+        rng, before = self.rng, self.last[to]
+        if {"S", "R"} & set(segment.bits) or not segment.length:
+            return [segment]
+        self.last[to] = segment
+        if rng.random() >= self.remade:
+            return [segment]
+        self.made += 1
+        if before and (before.seq + before.length) & MASK == segment.seq:
+            return [segment._replace(seq=before.seq, text=before.text + segment.text)]
+        cut = rng.randrange(len(segment.text) + 1)
+        first = segment._replace(bits=segment.bits.replace("F", ""), text=segment.text[:cut])
+        return [first, segment._replace(seq=(segment.seq + cut) & MASK, text=segment.text[cut:])]
 
     def settle(self, at):
         """Sends what goes out now, and looks again when it is due."""
@@ -195,6 +215,7 @@ def part(program, seed):
         counts["bytes"] += sum(len(host.got) for host in network.hosts)
         counts["silent"] += network.vanishes is not None
         counts["errors"] += network.errors
+        counts["made"] += network.made
     for machine in machines:
         machine.close()
     return counts
@@ -213,7 +234,7 @@ def main():
                 sys.exit(found)
             total += found
     print(f"{total['connections']} connections, {total['silent']} with a peer that vanishes: {total['events']} events, "
-          f"{total['errors']} errors, {total['bytes']} bytes, nothing wrong")
+          f"{total['made']} segments split or joined, {total['errors']} errors, {total['bytes']} bytes, nothing wrong")
 
 
 if __name__ == "__main__":

@@ -20,11 +20,12 @@ use Rattle.app_connection.specs.Events.{ComesBy, called}
 use Rattle.app_connection.specs.Sequence.{after}
 use Rattle.app_connection.specs.States.{has_peer, may_close, state_from}
 use Rattle.app_connection.specs.Steps.{IsFresh, Opens, Reads, Rests, Steps, Writes, first}
-use Rattle.app_connection.specs.Runs.{BothRead, Calls, End, Ends, IsFrom, IsNew, MayCome, OpensOnce, Read, Runs, Sent, begins, here, reads, stepped, steps, there, with_returned, writes}
+use Rattle.app_connection.specs.Runs.{BothRead, Calls, End, Ends, IsNew, MayCome, OpensOnce, Read, Runs, Sent, begins, here, reads, stepped, steps, there, with_returned, writes}
 use Rattle.app_connection.specs.Worlds.{Goes, GoesOut, IsOut, Said, Stand, said}
 use Rattle.app_connection.proofs.Going.{brought, fresh_stands, shut_phase}
 use Rattle.app_connection.proofs.Moving.{ByReceiver, answer_by, by_receiver, by_sender, closed_by, receiver_idle, receiver_none, receiver_then, stands_kept, waits_kept, written_still, wrote_by}
-use Rattle.app_connection.proofs.Pair.{AckIn, Carries, Direction, Each, IsKeptAck, IsSound, Pair, TextIn, acks_grow, carries_on, comes_from, each_weaker, grows_as, out_kept, texts_grow, turned, wrote_near}
+use Rattle.app_connection.proofs.Pair.{AckIn, Carries, Direction, Each, IsKeptAck, IsSound, Pair, TextIn, acks_grow, carries_on, each_weaker, grows_as, out_kept, texts_grow, turned, wrote_near}
+use Rattle.app_connection.proofs.Resegments.{coming}
 use Rattle.app_connection.proofs.Stepping.{received_peer, sent_peer, shut_peerless}
 
 either : (b : Bool) → (b ≡ true) ⊎ (b ≡ false)
@@ -156,7 +157,7 @@ reset_text w o wrote peer_wrote ts reset each = with_each (TextIn w) o wrote pee
 reset_ack : (w : World) (o : Option Said) (wrote peer_wrote : ℕ) (ts : List Sent) → IfSome o (λ s. s.rst ≡ true) → Each (AckIn w) ts → Each (AckIn w) (with_returned o wrote peer_wrote ts)
 reset_ack w o wrote peer_wrote ts reset each = with_each (AckIn w) o wrote peer_wrote ts (if_said (λ s. s.rst ≡ true) (λ s. AckIn w (record { said = s; wrote = wrote; peer_wrote = peer_wrote })) o (λ s rst. inl rst) reset) each
 
-rests_pair : (a b : End) (new : Connection) (incoming : List ℕ) (result : Option Said) → has_peer (state_from new) ≡ false → Rests a.connection new a.incoming incoming result → OutFits new.sending (length a.outgoing) → Pair a b → Pair (stepped a b new incoming result) b
+pub rests_pair : (a b : End) (new : Connection) (incoming : List ℕ) (result : Option Said) → has_peer (state_from new) ≡ false → Rests a.connection new a.incoming incoming result → OutFits new.sending (length a.outgoing) → Pair a b → Pair (stepped a b new incoming result) b
 rests_pair a b new incoming result none rests out p =
     let was : (a.was_opened || has_peer (state_from new)) ≡ a.was_opened = shut_or a.was_opened (has_peer (state_from new)) none in
     let c = p.writes.carries in
@@ -207,17 +208,18 @@ or_right : (a b : Bool) → b ≡ true → (a || b) ≡ true
 or_right true b is = refl
 or_right false b is = is
 
--- what an event brings
-comes_by : (e : Event) (a b : End) (p : Pair a b) → MayCome e a b → ComesBy e p.there p.back
-comes_by event.Listen a b p may = tt
-comes_by (event.Open iss) a b p may = tt
-comes_by (event.Arrives segment iss) a b p may =
-    comes_from p.there p.back (said segment.now) b.sent p.writes.carries.reached p.reads.carries.reached
-    (subst (λ (n : ℕ). IsFrom b.sent (length p.back.written) n (said segment.now)) (sym (ap length p.writes.carries.written)) (subst (λ (n : ℕ). IsFrom b.sent n (length a.wrote) (said segment.now)) (sym (ap length p.reads.carries.written)) may))
-    p.reads.carries.texts p.writes.carries.acks
-comes_by (event.Send offset count) a b p may = tt
-comes_by event.Close a b p may = tt
-comes_by event.Abort a b p may = tt
+-- what an event brings, after what the network did
+record Brought (e : Event) (a b : End) : Type 0 where
+  pair : Pair a b
+  comes : ComesBy e pair.there pair.back
+
+comes_by : (e : Event) (a b : End) (p : Pair a b) → MayCome e a b → Brought e a b
+comes_by event.Listen a b p may = record { pair = p; comes = tt }
+comes_by (event.Open iss) a b p may = record { pair = p; comes = tt }
+comes_by (event.Arrives segment iss) a b p may = let c = coming a b p (said segment.now) may in record { pair = c.pair; comes = c.comes }
+comes_by (event.Send offset count) a b p may = record { pair = p; comes = tt }
+comes_by event.Close a b p may = record { pair = p; comes = tt }
+comes_by event.Abort a b p may = record { pair = p; comes = tt }
 
 -- the application's call
 carries_called : (e : Event) (may : Bool) (w : World) (a b : End) → Carries w a b → Carries (called e may w) a b
@@ -242,8 +244,10 @@ goes_pair : (a b : End) (e : Event) (new : Connection) (incoming : List ℕ) (re
 goes_pair a b e new incoming result has may out s p =
     let opened = opened_of a p.here_sound has in
     let may_end = may_close (state_from a.connection) in
-    went_pair a b (called e may_end p.there) p.back new incoming result (or_left a.was_opened (has_peer (state_from new)) opened) (carries_called e may_end p.there a b p.writes.carries) p.reads p.there_sound out
-    (s.goes has p.there p.back a.read (comes_by e a b p may) (stand_of a b p opened))
+    let it = comes_by e a b p may in
+    let q = it.pair in
+    went_pair a b (called e may_end q.there) q.back new incoming result (or_left a.was_opened (has_peer (state_from new)) opened) (carries_called e may_end q.there a b q.writes.carries) q.reads q.there_sound out
+    (s.goes has q.there q.back a.read it.comes (stand_of a b q opened))
 
 -- ---- a step that opens
 
@@ -274,9 +278,9 @@ unread w read r incoming empty stands = nil_of read _ (sym (ap bytes_of empty) �
 first_fresh : (iss : ℕ) → IsFresh (first iss)
 first_fresh iss = record { reached = record { initial = iss; events = Send 0 1 ∷ []; is = refl }; shut = refl; empty = refl }
 
--- the history that begins carries what none carried
-carries_first : (a b : End) (iss : ℕ) → Carries (start 0) a b → Carries (first iss) a b
-carries_first a b iss c =
+-- The history that begins carries what none carried, and its sender's ring may be another one.
+carries_first : (a b : End) (ring : List ℕ) (iss : ℕ) → Carries (start 0) a b → Carries (first iss) (record a { outgoing = ring }) b
+carries_first a b ring iss c =
     let none : b.read ≡ [] = unread (start 0) b.read b.connection.receiving b.incoming refl c.stands in
     record {
       reached = (first_fresh iss).reached;
@@ -288,12 +292,17 @@ carries_first a b iss c =
       acks = each_weaker (AckIn (start 0)) (AckIn (first iss)) (start_ack (first iss)) b.sent c.acks;
     }
 
-opened_pair : (a b : End) (iss : ℕ) (new : Connection) (incoming : List ℕ) (result : Option Said) → a.was_opened ≡ false → has_peer (state_from new) ≡ true → OutFits new.sending (length a.outgoing) → (p : Pair a b)
-    → Goes (first iss) p.back [] new a.outgoing incoming result → Pair (stepped a b new incoming result) b
-opened_pair a b iss new incoming result shut has out p goes =
-    let none : a.read ≡ [] = unread p.back a.read a.connection.receiving a.incoming (p.reads.carries.fresh shut).1 p.reads.carries.stands in
-    went_pair a b (first iss) p.back new incoming result (or_right a.was_opened (has_peer (state_from new)) has) (carries_first a b iss (subst (λ (w : World). Carries w a b) (p.writes.idle shut) p.writes.carries)) p.reads p.there_sound out
-    (subst (λ (l : List ℕ). Goes (first iss) p.back l new a.outgoing incoming result) (sym none) goes)
+opened_pair : (a b : End) (ring : List ℕ) (iss : ℕ) (new : Connection) (incoming : List ℕ) (result : Option Said) → a.was_opened ≡ false → has_peer (state_from new) ≡ true → OutFits new.sending (length ring) → (p : Pair a b)
+    → Goes (first iss) p.back [] new ring incoming result → Pair (stepped (record a { outgoing = ring }) b new incoming result) b
+opened_pair a b ring iss new incoming result shut has out p goes =
+    let d = p.reads.carries in
+    let none : a.read ≡ [] = unread p.back a.read a.connection.receiving a.incoming (d.fresh shut).1 d.stands in
+    let peer = direction_kept p.back p.back a (record a { outgoing = ring }) b (receiver_none p.back)
+    (record { reached = d.reached; written = d.written; stands = d.stands; fresh = d.fresh; texts = d.texts; acks = d.acks }) p.reads.idle p.reads
+    in
+    went_pair (record a { outgoing = ring }) b (first iss) p.back new incoming result (or_right a.was_opened (has_peer (state_from new)) has)
+    (carries_first a b ring iss (subst (λ (w : World). Carries w a b) (p.writes.idle shut) p.writes.carries)) peer p.there_sound out
+    (subst (λ (l : List ℕ). Goes (first iss) p.back l new ring incoming result) (sym none) goes)
 
 peer_fresh : (a b : End) (p : Pair a b) → a.was_opened ≡ false → IsFresh p.back
 peer_fresh a b p shut = let f = p.reads.carries.fresh shut in record { reached = p.reads.carries.reached; shut = f.0; empty = f.1 }
@@ -302,17 +311,19 @@ syn_text : (w : World) (s : Packet) → s.syn ≡ true → (items_of s.syn s.pay
 syn_text w s syn (inl none) = absurd (let e : items_of true s.payload.now s.fin ≡ [] = ap (λ (b : Bool). items_of b s.payload.now s.fin) (sym syn) ∙ none in cc)
 syn_text w s syn (inr comes) = comes
 
-opens_pair : (e : Event) (a b : End) (new : Connection) (incoming : List ℕ) (result : Option Said) → a.was_opened ≡ false → has_peer (state_from new) ≡ true → MayCome e a b → OutFits new.sending (length a.outgoing)
-    → Opens e new a.outgoing incoming result → Pair a b → Pair (stepped a b new incoming result) b
-opens_pair event.Listen a b new incoming result shut has may out opens p = absurd opens
-opens_pair (event.Open iss) a b new incoming result shut has may out opens p = opened_pair a b iss new incoming result shut has out p (opens.goes p.back (peer_fresh a b p shut))
-opens_pair (event.Arrives segment iss) a b new incoming result shut has may out opens p =
+pub opens_pair : (e : Event) (a b : End) (ring : List ℕ) (new : Connection) (incoming : List ℕ) (result : Option Said) → a.was_opened ≡ false → has_peer (state_from new) ≡ true → MayCome e a b → OutFits new.sending (length ring)
+    → Opens e new ring incoming result → Pair a b → Pair (stepped (record a { outgoing = ring }) b new incoming result) b
+opens_pair event.Listen a b ring new incoming result shut has may out opens p = absurd opens
+opens_pair (event.Open iss) a b ring new incoming result shut has may out opens p = opened_pair a b ring iss new incoming result shut has out p (opens.goes p.back (peer_fresh a b p shut))
+opens_pair (event.Arrives segment iss) a b ring new incoming result shut has may out opens p =
     let s = segment.now in
-    let text = syn_text p.back s opens.syn (brought p.there p.back s opens.rst (comes_by (event.Arrives segment iss) a b p may)).text in
-    opened_pair a b iss new incoming result shut has out p (opens.goes p.back text.0 (peer_fresh a b p shut) text.1)
-opens_pair (event.Send offset count) a b new incoming result shut has may out opens p = absurd opens
-opens_pair event.Close a b new incoming result shut has may out opens p = absurd opens
-opens_pair event.Abort a b new incoming result shut has may out opens p = absurd opens
+    let it = coming a b p (said s) may in
+    let q = it.pair in
+    let text = syn_text q.back s opens.syn (brought q.there q.back s opens.rst it.comes).text in
+    opened_pair a b ring iss new incoming result shut has out q (opens.goes q.back text.0 (peer_fresh a b q shut) text.1)
+opens_pair (event.Send offset count) a b ring new incoming result shut has may out opens p = absurd opens
+opens_pair event.Close a b ring new incoming result shut has may out opens p = absurd opens
+opens_pair event.Abort a b ring new incoming result shut has may out opens p = absurd opens
 
 -- ---- each call
 
@@ -321,7 +332,7 @@ steps_pair : (a b : End) (e : Event) (new : Connection) (incoming : List ℕ) (r
 steps_pair a b e new incoming result may once out s p = elim (either (has_peer (state_from a.connection))) [
   | inl has ↦ goes_pair a b e new incoming result has may out s p
   | inr none ↦ (elim (either (has_peer (state_from new))) [
-    | inl opened ↦ opens_pair e a b new incoming result (once none opened) opened may out (s.opens none opened) p
+    | inl opened ↦ opens_pair e a b a.outgoing new incoming result (once none opened) opened may out (s.opens none opened) p
     | inr still ↦ rests_pair a b new incoming result still (s.rests none still) out p
   ])
 ]
@@ -430,7 +441,7 @@ reads_pair a b new bytes s p =
       there_sound = p.there_sound;
     }
 
-calls_pair : (a b c : End) → Calls a b c → Pair a b → Pair c b
+pub calls_pair : (a b c : End) → Calls a b c → Pair a b → Pair c b
 calls_pair a b c (steps e new incoming result may once out s) p = steps_pair a b e new incoming result may once out s p
 calls_pair a b c (writes new outgoing bytes out s) p = writes_pair a b new outgoing bytes out s p
 calls_pair a b c (reads new bytes s) p = reads_pair a b new bytes s p
@@ -458,15 +469,11 @@ new_sound a new =
     let none = shut_peerless a.connection (shut_phase a.connection new.endpoint) in
     record { out = new.out; peerless = λ shut. none; sent = λ at. absurd (false≢true (sym none ∙ sent_peer a.connection at)); received = λ at. absurd (false≢true (sym none ∙ received_peer a.connection at)) }
 
+pub new_pair : (a b : End) → IsNew a → IsNew b → Pair a b
+new_pair a b new peer = record { there = start 0; back = start 0; writes = new_direction a b new peer; reads = new_direction b a peer new; here_sound = new_sound a new; there_sound = new_sound b peer }
+
 runs_pair : (p : Ends) → Runs p → Pair p.here p.there
-runs_pair p (begins q here_new there_new) = record {
-  there = start 0;
-  back = start 0;
-  writes = new_direction p.here p.there here_new there_new;
-  reads = new_direction p.there p.here there_new here_new;
-  here_sound = new_sound p.here here_new;
-  there_sound = new_sound p.there there_new;
-}
+runs_pair p (begins q here_new there_new) = new_pair p.here p.there here_new there_new
 runs_pair p (here q new run calls) = calls_pair q.here q.there new calls (runs_pair q run)
 runs_pair p (there q new run calls) = turned new q.here (calls_pair q.there q.here new calls (turned q.here q.there (runs_pair q run)))
 
@@ -476,5 +483,8 @@ reads_all w a b d = record {
   whole = λ ended. (end_delivers w a.read a.connection.receiving a.incoming ended.0 ended.1 d.carries.stands).1 ∙ d.carries.written;
 }
 
+pub pair_reads : (a b : End) → Pair a b → BothRead (record { here = a; there = b })
+pair_reads a b pair = record { here = reads_all pair.back a b pair.reads; there = reads_all pair.there b a pair.writes }
+
 pub two_connections_deliver : (p : Ends) → Runs p → BothRead p
-two_connections_deliver p run = let pair = runs_pair p run in record { here = reads_all pair.back p.here p.there pair.reads; there = reads_all pair.there p.there p.here pair.writes }
+two_connections_deliver p run = pair_reads p.here p.there (runs_pair p run)

@@ -6,4 +6,5 @@ pub mod Phases
 pub mod Stepping
 pub mod Moving
 pub mod Pair
+pub mod Resegments
 pub mod Delivery

@@ -3,7 +3,7 @@ use Rattle.std.proofs.Common.{◌≡◌, refl, sym, ◌∙◌, ap, subst, ℕ, s
 use Rattle.std.specs.Prelude.{Option, Some, None, slice_get, if◌then◌else◌}
 use Rattle.std.proofs.lemmas.Bool.{cond_both}
 use Rattle.tcp_model.specs.Endpoint.{Item, Receiver}
-use Rattle.tcp_model.specs.Network.{World, Event, Write, Close, Send, Segment_comes, Split, Keep, Merge, Join, Answer, Ack_comes, Segment, Ack, ack_comes, happens, keep, merge, run, segment_comes, sends, start, stream}
+use Rattle.tcp_model.specs.Network.{World, Event, Write, Close, Send, Segment_comes, Resegment, Keep, Merge, Join, Answer, Ack_comes, Segment, Ack, ack_comes, happens, keep, merge, resegments, run, segment_comes, sends, start, stream}
 use Rattle.app_tcp.proofs.Standing.{reached_more}
 use Rattle.app_tcp.specs.Stands.{Holds, IsReached, Stands}
 use Rattle.app_tcp.specs.Waits.{Waits}
@@ -114,6 +114,20 @@ closed_by w = sent_then w Close (record { same = refl; segments = grows_same w.s
 pub answer_by : (w : World) → ByReceiver w (happens w Answer)
 answer_by w = taken_then w Answer (answered_by w)
 
+resegments_by : (w : World) (place count : ℕ) → SentBy w (resegments w place count)
+resegments_by w place count = cond_both (nat_lt w.sent (place + count)) _ _ (SentBy w) (λ unsent. sent_none w) (λ within. record { same = refl; segments = grows_one _ w.segments })
+
+-- A history after events of the network: what is on the way.
+pub record ByNetwork (w v : World) : Type 0 where
+  pub same : v ≡ record w { segments = v.segments }
+  pub by : BySender w v
+
+pub resegmented_by : (w : World) (place count : ℕ) → ByNetwork w (happens w (Resegment place count))
+resegmented_by w place count = record {
+  same = cond_both (nat_lt w.sent (place + count)) _ _ (λ (v : World). v ≡ record w { segments = v.segments }) (λ unsent. refl) (λ within. refl);
+  by = sent_then w (Resegment place count) (resegments_by w place count);
+}
+
 -- the events of a sender
 pub by_sender : (es : List Event) (w : World) → OfSender es → BySender w (run es w)
 by_sender [] w own = sender_none w
@@ -122,7 +136,7 @@ by_sender (Ack_comes which ∷ es) w own = sender_then w (happens w (Ack_comes w
 by_sender (Write bytes ∷ es) w own = absurd own
 by_sender (Close ∷ es) w own = absurd own
 by_sender (Segment_comes which room ∷ es) w own = absurd own
-by_sender (Split which from count ∷ es) w own = absurd own
+by_sender (Resegment place count ∷ es) w own = absurd own
 by_sender (Keep which count ∷ es) w own = absurd own
 by_sender (Merge which count ∷ es) w own = absurd own
 by_sender (Join room ∷ es) w own = absurd own
@@ -146,7 +160,7 @@ by_receiver (Join room ∷ es) w own =
 by_receiver (Write bytes ∷ es) w own = absurd own
 by_receiver (Close ∷ es) w own = absurd own
 by_receiver (Send offset count ∷ es) w own = absurd own
-by_receiver (Split which from count ∷ es) w own = absurd own
+by_receiver (Resegment place count ∷ es) w own = absurd own
 by_receiver (Answer ∷ es) w own = absurd own
 by_receiver (Ack_comes which ∷ es) w own = absurd own
 
@@ -168,7 +182,7 @@ written_still (Ack_comes which ∷ es) w own = written_still es (happens w (Ack_
 written_still (Write bytes ∷ es) w own = absurd own
 written_still (Close ∷ es) w own = absurd own
 written_still (Segment_comes which room ∷ es) w own = absurd own
-written_still (Split which from count ∷ es) w own = absurd own
+written_still (Resegment place count ∷ es) w own = absurd own
 written_still (Keep which count ∷ es) w own = absurd own
 written_still (Merge which count ∷ es) w own = absurd own
 written_still (Join room ∷ es) w own = absurd own
@@ -184,7 +198,7 @@ receiver_idle (Join room ∷ es) initial own = receiver_idle es initial own
 receiver_idle (Write bytes ∷ es) initial own = absurd own
 receiver_idle (Close ∷ es) initial own = absurd own
 receiver_idle (Send offset count ∷ es) initial own = absurd own
-receiver_idle (Split which from count ∷ es) initial own = absurd own
+receiver_idle (Resegment place count ∷ es) initial own = absurd own
 receiver_idle (Answer ∷ es) initial own = absurd own
 receiver_idle (Ack_comes which ∷ es) initial own = absurd own
 

@@ -15,7 +15,7 @@ use Rattle.app_connection.specs.declared.state.Phase.TheVariants as phase
 use Rattle.app_connection.specs.Endpoints.{OutFits}
 use Rattle.app_connection.specs.Sequence.{after}
 use Rattle.app_connection.specs.States.{has_peer, state_from}
-use Rattle.app_connection.specs.Runs.{End, IsFrom, Sent}
+use Rattle.app_connection.specs.Runs.{End, IsOneOf, Sent}
 use Rattle.app_connection.specs.Worlds.{Brings, IsOut, Said}
 use Rattle.app_connection.proofs.Moving.{ByReceiver, BySender, Grows, stands_kept}
 
@@ -131,7 +131,7 @@ wrote_near w s outgoing fits waits =
 got_near : (w : World) → IsReached w → length w.receiver.got ≤ length w.written + 2
 got_near w reached = let good = reached_good w reached in omega (arith, good.got.within, stream_short w.written w.closed)
 
-alive_text : (w : World) (wrote : ℕ) (x : Segment) → IsReached w → length w.written < wrote + 1073741823 → wrote + 1 ≤ x.place + 1073741824 → is_alive (length w.receiver.got) x.place ≡ true
+pub alive_text : (w : World) (wrote : ℕ) (x : Segment) → IsReached w → length w.written < wrote + 1073741823 → wrote + 1 ≤ x.place + 1073741824 → is_alive (length w.receiver.got) x.place ≡ true
 alive_text w wrote x reached young near = let got = got_near w reached in let lt : length w.receiver.got < x.place + 2147483648 = omega arith in grind (arith, nat_tests)
 
 alive_ack : (w : World) (wrote : ℕ) (x : Ack) → IsReached w → length w.written < wrote + 1073741823 → wrote + 1 ≤ x.place + 1073741824 → is_alive w.acked x.place ≡ true
@@ -153,7 +153,7 @@ come_text w t s reached young is (inr (inr k)) = inr (inr (
   },
 ))
 
-come_acked : (w : World) (wrote : ℕ) (o : Option ℕ) → IsReached w → length w.written < wrote + 1073741823 → IfSome o (λ number. IsKeptAck w wrote number) → IfSome o (λ number. (which : ℕ) × AckComes w which number)
+pub come_acked : (w : World) (wrote : ℕ) (o : Option ℕ) → IsReached w → length w.written < wrote + 1073741823 → IfSome o (λ number. IsKeptAck w wrote number) → IfSome o (λ number. (which : ℕ) × AckComes w which number)
 come_acked w wrote None reached young kept = tt
 come_acked w wrote (Some number) reached young kept = (kept.which, record { ack = kept.ack; there = kept.there; same = kept.same; alive = alive_ack w wrote kept.ack reached young kept.recent })
 
@@ -168,7 +168,7 @@ join there back s (inr text) (inl rst) = inl rst
 join there back s (inr text) (inr ack) = inr (record { text = text; ack = ack })
 
 -- one of the segments that the peer sent
-pub comes_from : (there back : World) (s : Said) (ts : List Sent) → IsReached there → IsReached back → IsFrom ts (length back.written) (length there.written) s → Each (TextIn back) ts → Each (AckIn there) ts → (s.rst ≡ true) ⊎ Brings there back s
+pub comes_from : (there back : World) (s : Said) (ts : List Sent) → IsReached there → IsReached back → IsOneOf ts (length back.written) (length there.written) s → Each (TextIn back) ts → Each (AckIn there) ts → (s.rst ≡ true) ⊎ Brings there back s
 comes_from there back s [] far near from texts acks = absurd from
 comes_from there back s (t ∷ ts) far near (inl is) texts acks = join there back s (come_text back t s near is.1 is.0 texts.0) (come_ack there t s far is.2 is.0 acks.0)
 comes_from there back s (t ∷ ts) far near (inr rest) texts acks = comes_from there back s ts far near rest texts.1 acks.1

@@ -1,7 +1,8 @@
--- A run of two connections: their applications call in any order, and the network between them loses, repeats, reorders and delays
--- the segments that these calls returned. A run is what two programs see: calls, bytes and segments.
+-- A run of two connections: their applications call in any order, and the network between them loses, repeats, reorders, delays,
+-- splits and joins the segments that these calls returned. A run is what two programs see: calls, bytes and segments.
 -- Pinned by: `connection/figures`
-use Rattle.std.specs.Prelude.{ℕ, ◌≡◌, ◌⊎◌, ◌<◌, ◌+◌, ◌++◌, ◌||◌, List, [], ◌∷◌, length, Bool, true, false, Option, Some, None}
+use Rattle.std.specs.Prelude.{ℕ, ◌≡◌, ◌⊎◌, ◌<◌, ◌≤◌, ◌+◌, ◌%◌, ◌++◌, ◌||◌, List, [], ◌∷◌, length, take, drop, Bool, true, false, Option, Some, None}
+use Rattle.tcp_model.specs.Endpoint.{Item, Byte, Fin}
 use Rattle.tcp_model.specs.Network.{IsPrefixOf, start}
 use Rattle.app_tcp.specs.Stands.{Stands}
 use Rattle.app_connection.specs.declared.connection.Connection.{Connection}
@@ -31,9 +32,48 @@ pub record End : Type 0 where
   pub sent : List Sent
 
 -- The segment is one of these. Its age: since it was sent each application wrote less than 2^30 - 1 bytes.
+abbrev pub IsOneOf : List Sent → ℕ → ℕ → Said → Type 0
+IsOneOf [] wrote peer_wrote s = ⊥
+IsOneOf (t ∷ ts) wrote peer_wrote s = ((t.said ≡ s) × (wrote < t.wrote + 1073741823) × (peer_wrote < t.peer_wrote + 1073741823)) ⊎ IsOneOf ts wrote peer_wrote s
+
+-- These are so many items of a segment after its first ones, with the sequence number of the first of them.
+pub record IsPieceOf (s : Said) (number : ℕ) (items : List Item) : Type 0 where
+  pub from : ℕ
+  pub count : ℕ
+  pub within : from ≤ length s.items
+  pub numbered : number ≡ (s.number + from) % 4294967296
+  pub same : items ≡ take count (drop from s.items)
+
+-- They are a piece of one of these segments, which is no RST. Since it was sent its sender wrote less than 2^30 - 1 bytes.
+abbrev pub IsPiece : List Sent → ℕ → ℕ → List Item → Type 0
+IsPiece [] wrote number items = ⊥
+IsPiece (t ∷ ts) wrote number items = ((t.said.rst ≡ false) × (wrote < t.wrote + 1073741823) × IsPieceOf t.said number items) ⊎ IsPiece ts wrote number items
+
+-- They are one piece or several that adjoin: each begins at the sequence number at which the one before it ends.
+pub data AreJoined (ts : List Sent) (wrote : ℕ) : ℕ → List Item → Type 0 where
+  one : (number : ℕ) (items : List Item) → IsPiece ts wrote number items → AreJoined ts wrote number items
+  more : (number : ℕ) (items rest : List Item) → IsPiece ts wrote number items → AreJoined ts wrote ((number + length items) % 4294967296) rest → AreJoined ts wrote number (items ++ rest)
+
+-- The acknowledgement is that of one of these segments, which is no RST. Since it was sent its receiver wrote less than 2^30 - 1
+-- bytes.
+abbrev pub IsAckOf : List Sent → ℕ → Option ℕ → Type 0
+IsAckOf [] peer_wrote ack = ⊥
+IsAckOf (t ∷ ts) peer_wrote ack = ((t.said.rst ≡ false) × (peer_wrote < t.peer_wrote + 1073741823) × (t.said.ack ≡ ack)) ⊎ IsAckOf ts peer_wrote ack
+
+-- A middlebox made the segment: it split some of these, or joined pieces of them.
+pub record IsMade (ts : List Sent) (wrote peer_wrote : ℕ) (s : Said) : Type 0 where
+  pub items : AreJoined ts wrote s.number s.items
+  pub ack : IsAckOf ts peer_wrote s.ack
+
+-- The segment is one of these, or a middlebox made it of these. A RST may be from anyone.
 abbrev pub IsFrom : List Sent → ℕ → ℕ → Said → Type 0
-IsFrom [] wrote peer_wrote s = ⊥
-IsFrom (t ∷ ts) wrote peer_wrote s = ((t.said ≡ s) × (wrote < t.wrote + 1073741823) × (peer_wrote < t.peer_wrote + 1073741823)) ⊎ IsFrom ts wrote peer_wrote s
+IsFrom ts wrote peer_wrote s = (s.rst ≡ true) ⊎ (IsOneOf ts wrote peer_wrote s ⊎ IsMade ts wrote peer_wrote s)
+
+-- two segments with three bytes and a FIN, over the end of the sequence numbers; the second one was sent last
+abbrev pub two_sent : List Sent
+two_sent =
+    record { said = record { number = 1; items = Byte 3 ∷ Fin ∷ []; ack = Some 501; rst = false }; wrote = 3; peer_wrote = 0 }
+    ∷ record { said = record { number = 4294967295; items = Byte 1 ∷ Byte 2 ∷ []; ack = Some 500; rst = false }; wrote = 2; peer_wrote = 0 } ∷ []
 
 -- a segment that comes to one end is from the other one
 abbrev pub MayCome : Event → End → End → Type 0

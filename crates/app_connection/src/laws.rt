@@ -1,12 +1,13 @@
 //! Laws of the set-up, and of acknowledgements.
 
-ghost use Rattle.std.specs.Prelude.{◌≡◌, ◌+◌, ◌<◌, ◌≤◌, ℕ, List, [], length, Bool, true, false, IfSome, None, option_map};
+ghost use Rattle.std.specs.Prelude.{◌≡◌, ◌+◌, ◌<◌, ◌≤◌, ℕ, List, [], ◌∷◌, length, Bool, true, false, IfSome, Some, None, option_map};
+ghost use Rattle.tcp_model.specs.Endpoint.{Byte, Fin};
 ghost use Rattle.tcp_model.specs.Network.{World, Event, run};
 ghost use Rattle.app_tcp.specs.Stands.{room_of};
 ghost use Rattle.app_connection.specs.declared.state.Phase.TheVariants.{Open};
 ghost use Rattle.app_connection.specs.Endpoints.{OutFits, InFits, TakesAck, acknowledgement_of};
 ghost use Rattle.app_connection.specs.Events.{IsShort};
-ghost use Rattle.app_connection.specs.Runs.{BothRead, Calls, End, Ends, IsNew, MayCome, OpensOnce, Runs, Sent, stepped};
+ghost use Rattle.app_connection.specs.Runs.{BothRead, Calls, End, Ends, IsFrom, IsNew, MayCome, OpensOnce, Runs, Sent, stepped, two_sent};
 ghost use Rattle.app_connection.specs.SetUp.{Turn, BothAgree, run_ends, both_idle, In_established, three_ways};
 ghost use Rattle.app_connection.specs.States.{state_from};
 ghost use Rattle.app_connection.specs.Worlds.{Stand, ComesNext, said};
@@ -29,9 +30,9 @@ pub fn both_are_established()
 {}
 
 /// What one program reads from a connection is a prefix of what the other one wrote, and all of it once `is_ended` returns true.
-/// This holds for all calls of both programs in any order, over a network that loses, repeats, reorders and delays segments. Each
-/// end opens once. Each segment that comes was returned by a call of the other end, and since then each program wrote less than
-/// 2^30 - 1 bytes.
+/// This holds for all calls of both programs in any order, over a network that loses, repeats, reorders, delays, splits and joins
+/// segments. Each end opens once. Each segment that comes was returned by a call of the other end, or was made of such segments,
+/// and since then each program wrote less than 2^30 - 1 bytes. A RST may be from anyone.
 pub fn two_connections_deliver()
     ensures { (p : Ends) → Runs p → BothRead p }
 {}
@@ -75,6 +76,12 @@ pub fn an_acknowledgement_ends(
     };
     receiver.on_segment(outgoing, incoming, &segment, fresh)
 }
+
+/// What a middlebox makes of two segments comes: the second byte of one, and this byte joined with the other one.
+pub fn a_middlebox_makes_others()
+    ensures split { IsFrom two_sent 3 0 (record { number = 0; items = Byte 2 ∷ []; ack = Some 500; rst = false }) }
+    ensures joined { IsFrom two_sent 3 0 (record { number = 0; items = Byte 2 ∷ Byte 3 ∷ Fin ∷ []; ack = Some 501; rst = false }) }
+{}
 
 /// A new connection is an end before its first call.
 pub fn a_new_connection_is_new(outgoing: &[u8], incoming: &[u8]) -> Connection

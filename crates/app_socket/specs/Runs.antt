@@ -1,5 +1,5 @@
--- A run of two sockets: calls of both programs in any order and at any times, over a network that loses, repeats, reorders and
--- delays the segments that these calls returned.
+-- A run of two sockets: calls of both programs in any order and at any times, over a network that loses, repeats, reorders, delays,
+-- splits and joins the segments that these calls returned.
 -- Pinned by: `socket/scenarios`
 use Rattle.std.specs.Prelude.{ℕ, ◌≡◌, ◌++◌, ◌||◌, List, length, Bool, Option}
 use Rattle.app_connection.specs.Endpoints.{OutFits}
@@ -35,7 +35,7 @@ stepped a b new incoming result = record a {
   sent = with_returned result (length a.wrote) (length b.wrote) a.sent;
 }
 
--- A call of one end, beside the other. A segment that comes is one that the other end sent, and not too old: unless PAWS drops it.
+-- A call of one end, beside the other. A segment that comes is from the other end, and not too old: unless PAWS drops it.
 -- Other calls, as `limit_mss`, leave the connection.
 pub data Calls (a b : End) : End → Type 0 where
   steps : (now : ℕ) (e : Event) (new : Socket) (incoming : List ℕ) (result : Option Said) → MayCome (taken_of a.socket now e) (end_of a) (end_of b) → OpensOnce (end_of a) new.connection → OutFits new.connection.sending (length a.outgoing)

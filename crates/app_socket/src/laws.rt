@@ -36,9 +36,9 @@ pub fn silence_ends(
 }
 
 /// What one program reads from a socket is a prefix of what the other one wrote, and all of it once `is_ended` returns true. This
-/// holds for all calls of both programs in any order and at any times, over a network that loses, repeats, reorders and delays
-/// segments. Each end opens once. Each segment that PAWS takes was returned by a call of the other end, and since then each
-/// program wrote less than 2^30 - 1 bytes.
+/// holds for all calls of both programs in any order and at any times, over a network that loses, repeats, reorders, delays,
+/// splits and joins segments. Each end opens once. Each segment that PAWS takes was returned by a call of the other end, or was
+/// made of such segments, and since then each program wrote less than 2^30 - 1 bytes. A RST may be from anyone.
 pub fn two_sockets_deliver()
     ensures { (p : Ends) → Runs p → BothRead (ends_of p) }
 {}

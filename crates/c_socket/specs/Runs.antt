@@ -1,5 +1,5 @@
 -- A run of two programs in C, each with one connection: their calls in any order and at any times, over a network that loses,
--- repeats, reorders and delays the segments that these calls stored.
+-- repeats, reorders, delays, splits and joins the segments that these calls stored.
 -- Pinned by: `judge`
 use Rattle.std.specs.Prelude.{ℕ, ℤ, pos, negsuc, ◌≡◌, ◌==◌, ◌++◌, ◌||◌, List, length, take, Bool, false, if◌then◌else◌, Option, Some, None}
 use Rattle.app_connection.specs.Endpoints.{OutFits}

@@ -3,7 +3,7 @@ use Rattle.std.proofs.Common.{◌≡◌, inl, inr, refl, ℕ, ◌+◌, ◌≤◌
 use Rattle.std.specs.Prelude.{Option, Some, None, slice_get}
 use Rattle.std.proofs.lemmas.Bool.{cond_both, cond-true, cases_lt}
 use Rattle.tcp_model.specs.Endpoint.{Item, Receiver, accepted, fresh}
-use Rattle.tcp_model.specs.Network.{World, Segment, Ack, Event, Write, Close, Send, Segment_comes, Split, Keep, Merge, Join, Answer, Ack_comes, ack_comes, happens, is_alive, keep, merge, part_of, round, run, segment_comes, sends, splits, start, stream}
+use Rattle.tcp_model.specs.Network.{World, Segment, Ack, Event, Write, Close, Send, Segment_comes, Resegment, Keep, Merge, Join, Answer, Ack_comes, ack_comes, happens, is_alive, keep, merge, resegments, round, run, segment_comes, sends, start, stream}
 use Rattle.tcp_model.specs.Rounds.{Round, AreOthers, AreRounds, IsOther, events_of, rounds_of}
 use Rattle.tcp_model.proofs.Kept.{Good, good_start, run_good}
 use Rattle.tcp_model.proofs.Round.{goes_further}
@@ -35,9 +35,8 @@ segment_on w room (Some s) =
     })
     (λ dead. here w)
 
-splits_on : (w : World) (o : Option Segment) → Onward w (splits w o)
-splits_on w None = here w
-splits_on w (Some s) = beside w w.sent _ w.acks w.later
+resegments_on : (w : World) (place count : ℕ) → Onward w (resegments w place count)
+resegments_on w place count = cond_both (nat_lt w.sent (place + count)) _ _ (Onward w) (λ unsent. here w) (λ within. beside w w.sent _ w.acks w.later)
 
 keep_on : (w : World) (count : ℕ) (o : Option Segment) → Onward w (keep w count o)
 keep_on w count None = here w
@@ -58,7 +57,7 @@ happens_on w (Write bytes) other = absurd other
 happens_on w Close other = absurd other
 happens_on w (Send offset count) other = cond_both (nat_lt (length (stream w.written w.closed)) (w.acked + offset)) _ _ (Onward w) (λ past. here w) (λ within. sends_on w _ _)
 happens_on w (Segment_comes which room) other = segment_on w room (slice_get w.segments which)
-happens_on w (Split which from count) other = splits_on w (part_of w.initial from count (slice_get w.segments which))
+happens_on w (Resegment place count) other = resegments_on w place count
 happens_on w (Keep which count) other = keep_on w count (slice_get w.segments which)
 happens_on w (Merge which count) other = merge_on w count (slice_get w.segments which)
 happens_on w (Join room) other = segment_on w room (Some w.later)
