@@ -472,7 +472,7 @@ new_sound a new =
 pub new_pair : (a b : End) → IsNew a → IsNew b → Pair a b
 new_pair a b new peer = record { there = start 0; back = start 0; writes = new_direction a b new peer; reads = new_direction b a peer new; here_sound = new_sound a new; there_sound = new_sound b peer }
 
-runs_pair : (p : Ends) → Runs p → Pair p.here p.there
+pub runs_pair : (p : Ends) → Runs p → Pair p.here p.there
 runs_pair p (begins q here_new there_new) = new_pair p.here p.there here_new there_new
 runs_pair p (here q new run calls) = calls_pair q.here q.there new calls (runs_pair q run)
 runs_pair p (there q new run calls) = turned new q.here (calls_pair q.there q.here new calls (turned q.here q.there (runs_pair q run)))

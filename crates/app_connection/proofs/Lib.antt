@@ -8,3 +8,4 @@ pub mod Moving
 pub mod Pair
 pub mod Resegments
 pub mod Delivery
+pub mod Arrived

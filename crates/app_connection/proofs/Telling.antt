@@ -39,7 +39,7 @@ pending_open true false bytes is = bytes_open bytes
 pending_open false false bytes is = bytes_open bytes
 
 -- a FIN that is no longer kept was acknowledged, with all before it
-done : (w : World) (c : Sending) (buffer : List ℕ) → Waits w c buffer → c.is_closed ≡ true → c.has_fin ≡ false → IsDone w
+pub done : (w : World) (c : Sending) (buffer : List ℕ) → Waits w c buffer → c.is_closed ≡ true → c.has_fin ≡ false → IsDone w
 done w c buffer waits closed fin = elim (cases_lt w.acked (length (stream w.written w.closed))) [
   | inl lt ↦ absurd (false≢true (sym none ∙ sym (ap is_ended waits.held) ∙ some lt))
   | inr le ↦ omega (arith, waits.flight, waits.within)

@@ -3,9 +3,10 @@
 use Rattle.std.specs.Prelude.{ℕ, ◌≡◌, ◌⊎◌, ◌<◌, List, length, Bool, true, false, not, if◌then◌else◌}
 use Rattle.tcp_model.specs.Network.{World, Close, happens}
 use Rattle.app_tcp.specs.Waits.{from_of}
+use Rattle.app_tcp.specs.declared.receiving.Receiving.{Receiving}
 use Rattle.app_tcp.specs.declared.sending.Sending.{Sending}
 use Rattle.app_connection.specs.Endpoints.{answers_bare, control_of, has_items, is_bare}
-use Rattle.app_connection.specs.Promises.{HearsAckOf, SameNext, TakesAckOf}
+use Rattle.app_connection.specs.Promises.{GetsTextOf, HearsAckOf, SameNext, TakesAckOf}
 use Rattle.app_connection.specs.declared.connection.Connection.{Connection}
 use Rattle.app_connection.specs.SetUp.{Endpoint, In_closed, In_listen, In_syn_sent, hears}
 use Rattle.app_connection.specs.Worlds.{Arrives}
@@ -85,6 +86,15 @@ brings_items (event.Send offset count) = false
 brings_items event.Close = false
 brings_items event.Abort = false
 
+-- a segment without RST comes
+abbrev pub ComesWithoutReset : Event → Type 0
+ComesWithoutReset event.Listen = ⊥
+ComesWithoutReset (event.Open iss) = ⊥
+ComesWithoutReset (event.Arrives segment iss) = segment.now.rst ≡ false
+ComesWithoutReset (event.Send offset count) = ⊥
+ComesWithoutReset event.Close = ⊥
+ComesWithoutReset event.Abort = ⊥
+
 -- whether an event is a segment without items and RST
 abbrev pub brings_bare : Event → Bool
 brings_bare event.Listen = false
@@ -130,3 +140,12 @@ HearsBy (event.Arrives segment iss) old window new outgoing = HearsAckOf old win
 HearsBy (event.Send offset count) old window new outgoing = Unit {0}
 HearsBy event.Close old window new outgoing = Unit {0}
 HearsBy event.Abort old window new outgoing = Unit {0}
+
+-- Text and FIN of a segment in the window are taken, as far as there is room, if it acknowledges nothing that was not sent.
+abbrev pub GetsBy : Event → Connection → ℕ → Receiving → List ℕ → List ℕ → Type 0
+GetsBy event.Listen old room new before after = Unit {0}
+GetsBy (event.Open iss) old room new before after = Unit {0}
+GetsBy (event.Arrives segment iss) old room new before after = GetsTextOf old room segment.now new before after
+GetsBy (event.Send offset count) old room new before after = Unit {0}
+GetsBy event.Close old room new before after = Unit {0}
+GetsBy event.Abort old room new before after = Unit {0}

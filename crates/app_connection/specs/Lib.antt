@@ -7,4 +7,5 @@ pub mod Events
 pub mod Fields
 pub mod Steps
 pub mod Runs
+pub mod Arrived
 pub mod Promises

@@ -1,7 +1,7 @@
 -- What the calls of a connection promise, by one name for each promise that several of them make. `old` and `new` are the
 -- connection before and after the call.
 -- Pinned by: `connection/figures`
-use Rattle.std.specs.Prelude.{ℕ, ◌≡◌, ◌⊎◌, ◌+◌, List, [], length, true, false, Option, IfSome}
+use Rattle.std.specs.Prelude.{ℕ, ◌≡◌, ◌⊎◌, ◌+◌, ◌<◌, List, [], length, true, false, Option, is_some, IfSome}
 use Rattle.tcp_model.specs.Endpoint.{distance}
 use Rattle.tcp_model.specs.Network.{World, Send, happens}
 use Rattle.app_tcp.specs.Items.{items_of}
@@ -18,7 +18,7 @@ use Rattle.app_connection.specs.Endpoints.{TakesAck, edge_of, endpoint_of, is_of
 use Rattle.app_connection.specs.Sequence.{is_of_sent, is_taken_at}
 use Rattle.app_connection.specs.SetUp.{In_closed}
 use Rattle.app_connection.specs.States.{state_from}
-use Rattle.app_connection.specs.Worlds.{Arrives, Goes, HearsAck, IsAnswered, Said, Stand, WaitsLater}
+use Rattle.app_connection.specs.Worlds.{Arrives, GetsText, Goes, HearsAck, IsAnswered, Said, Stand, WaitsLater}
 
 -- a fact about a connection in a synchronized state (RFC 9293, section 3.3.2)
 abbrev pub WhenOpen : Connection → Type 0 → Type 0
@@ -110,6 +110,13 @@ HearsAckOf old window s new outgoing =
     WhenTaken old window s
     (IfSome s.ack (λ ack. is_of_sent old.sending.una (next_of old) ack ≡ true
     → HearsAck old.sending new.sending outgoing ack))
+
+-- Text and FIN are taken, as far as there is room. The segment has an acknowledgement (section 3.10.7.4).
+abbrev pub GetsTextOf : Connection → ℕ → Segment → Receiving → List ℕ → List ℕ → Type 0
+GetsTextOf old room s new before after =
+    s.rst ≡ false → s.syn ≡ false → 0 < len_of s → is_taken_at old.receiving.next room s.number (len_of s) ≡ true
+    → is_some s.ack ≡ true → is_of_unsent old s.ack ≡ false
+    → GetsText old.receiving new before after room s.number (items_of false s.payload.now s.fin)
 
 -- SND.NXT stays
 abbrev pub SameNext : Sending → Sending → Type 0

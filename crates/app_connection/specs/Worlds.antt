@@ -5,7 +5,7 @@ use Rattle.std.specs.Prelude.{ℕ, ◌≡◌, ◌+◌, ◌<◌, ◌≤◌, ◌�
 use Rattle.tcp_model.specs.Endpoint.{Item, Syn}
 use Rattle.tcp_model.specs.Network.{World, Event, Segment as Sent, Send, Segment_comes, Keep, Merge, Join, Ack_comes, run, stream, is_ended, happens}
 use Rattle.app_tcp.specs.Items.{items_of, syn_of}
-use Rattle.app_tcp.specs.Stands.{Stands, SegmentComes, IsAnswer}
+use Rattle.app_tcp.specs.Stands.{Stands, SegmentComes, IsAnswer, Uses}
 use Rattle.app_tcp.specs.Waits.{Waits, AckComes}
 use Rattle.app_tcp.specs.declared.receiving.Receiving.{Receiving}
 use Rattle.app_tcp.specs.declared.sending.Sending.{Sending}
@@ -109,6 +109,10 @@ pub record HearsAck (old new : Sending) (outgoing : List ℕ) (ack : ℕ) : Type
   pub waits :
       (there : World) (which : ℕ) → AckComes there which ack → Waits there old outgoing
       → Waits (happens there (Ack_comes which)) new outgoing
+
+-- Text and FIN are taken, as far as there is room: in each history in which they come, it is the event Segment_comes.
+pub record GetsText (old new : Receiving) (before after : List ℕ) (room number : ℕ) (items : List Item) : Type 0 where
+  pub uses : (back : World) (which : ℕ) (consumed : List ℕ) → SegmentComes back which number items → Stands back consumed old before → Uses (happens back (Segment_comes which room)) which consumed new after
 
 -- the receiving half stands for the receiver after further events
 pub record StandsLater (back : World) (consumed : List ℕ) (r : Receiving) (incoming : List ℕ) : Type 0 where

@@ -12,8 +12,8 @@ ghost use Rattle.app_connection.specs.SetUp.{is_ack_of, hears, hears_in_listen, 
 ghost use Rattle.app_connection.specs.Endpoints.{endpoint_of, control_of, len_of, OutFits, InFits, IsLegal, refused, takes_window, window_after, TakesAck, acknowledgement_of, is_bare, answers_bare, next_of};
 ghost use Rattle.app_connection.specs.States.{has_peer, state_from};
 ghost use Rattle.app_connection.specs.Steps.{Hears};
-ghost use Rattle.app_connection.specs.Worlds.{Arrives, Goes, Stand, StandsLater, IsAnswered, replied, HearsAck};
-ghost use Rattle.app_connection.specs.Promises.{GoesWith, HearsAckOf, KeepsEdge, KeepsOrEnds, RepliesIn, SameNext, TakesAckOf, WaitsOnAck, WhenOpen, WhenSynced};
+ghost use Rattle.app_connection.specs.Worlds.{Arrives, GetsText, Goes, Stand, StandsLater, IsAnswered, replied, HearsAck};
+ghost use Rattle.app_connection.specs.Promises.{GetsTextOf, GoesWith, HearsAckOf, KeepsEdge, KeepsOrEnds, RepliesIn, SameNext, TakesAckOf, WaitsOnAck, WhenOpen, WhenSynced};
 
 use crate::connection::Connection;
 use crate::segment::{Reply, Segment, refusal};
@@ -62,6 +62,9 @@ impl Connection {
         ensures flight { self.old.phase ≡ Open → SameNext self.old.sending self.new.sending }
         ensures heard { WhenSynced self.old
             (HearsAckOf self.old (room_of self.old.receiving (length incoming.old)) segment.now self.new outgoing.now) }
+        ensures gets { WhenSynced self.old
+            (GetsTextOf self.old (room_of self.old.receiving (length incoming.old)) segment.now self.new.receiving
+            incoming.old incoming.new) }
         ensures replies { WhenOpen self.old (IfSome result (λ r. r ≡ acknowledgement_of self.new)) }
         ensures bare { WhenOpen self.old (is_bare segment.now ≡ true → result ≡ (if answers_bare self.old
             (room_of self.old.receiving (length incoming.old)) segment.now.number segment.now.ack
@@ -296,6 +299,9 @@ impl Connection {
         ensures flight { SameNext self.old.sending self.new.sending }
         ensures hears { self.old.receiving.is_open ≡ true
             → HearsAckOf self.old (room_of self.old.receiving (length incoming.old)) segment.now self.new outgoing.now }
+        ensures gets { self.old.receiving.is_open ≡ true
+            → GetsTextOf self.old (room_of self.old.receiving (length incoming.old)) segment.now self.new.receiving
+            incoming.old incoming.new }
         ensures replies { IfSome result (λ r. r ≡ acknowledgement_of self.new) }
         ensures answered { self.old.receiving.is_open ≡ true → segment.now.rst ≡ false → len_of segment.now ≢ 0
             → IfSome segment.now.ack (λ ack. result ≡ Some (acknowledgement_of self.new)) }
@@ -458,6 +464,10 @@ impl Connection {
             → StandsLater back consumed self.new.receiving incoming.new }
         ensures reply { IfSome result (λ r. (r.syn ≡ false) × (r.rst ≡ false)) }
         ensures replies { IfSome result (λ r. r ≡ acknowledgement_of self.new) }
+        ensures gets { segment.now.syn ≡ false → 0 < len_of segment.now
+            → GetsText self.old.receiving self.new.receiving incoming.old incoming.new
+            (room_of self.old.receiving (length incoming.old)) segment.now.number
+            (items_of false segment.now.payload.now segment.now.fin) }
         ensures none { len_of segment.now ≡ 0 → result ≡ None }
         ensures still { len_of segment.now ≡ 0
             → (self.new.receiving ≡ self.old.receiving) × (incoming.new ≡ incoming.old) }

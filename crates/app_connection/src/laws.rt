@@ -5,6 +5,7 @@ ghost use Rattle.tcp_model.specs.Endpoint.{Byte, Fin};
 ghost use Rattle.tcp_model.specs.Network.{World, Event, run};
 ghost use Rattle.app_tcp.specs.Stands.{room_of};
 ghost use Rattle.app_connection.specs.declared.state.Phase.TheVariants.{Open};
+ghost use Rattle.app_connection.specs.Arrived.{BothComeAcross};
 ghost use Rattle.app_connection.specs.Endpoints.{OutFits, InFits, TakesAck, acknowledgement_of};
 ghost use Rattle.app_connection.specs.Events.{IsShort};
 ghost use Rattle.app_connection.specs.Runs.{BothRead, Calls, End, Ends, IsFrom, IsNew, MayCome, OpensOnce, Runs, Sent, stepped, two_sent};
@@ -35,6 +36,12 @@ pub fn both_are_established()
 /// and since then each program wrote less than 2^30 - 1 bytes. A RST may be from anyone.
 pub fn two_connections_deliver()
     ensures { (p : Ends) → Runs p → BothRead p }
+{}
+
+/// What is acknowledged has come: if nothing of a program waits, the other one has read all that it wrote, or it waits in the ring
+/// to be read. So has the end. The runs are those of `two_connections_deliver`.
+pub fn acknowledged_text_has_come()
+    ensures { (p : Ends) → Runs p → BothComeAcross p }
 {}
 
 /// The peer does not answer an acknowledgement, unless it has by then received something that was sent after it. So

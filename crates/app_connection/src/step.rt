@@ -7,7 +7,7 @@ ghost use Rattle.app_connection.specs.declared.state.State.TheVariants as state;
 ghost use Rattle.app_connection.specs.Endpoints.{endpoint_of, len_of, spoken, acknowledgement_of, IsLegal, OutFits, InFits};
 ghost use Rattle.app_connection.specs.Steps.{Steps};
 ghost use Rattle.app_connection.specs.Worlds.{said};
-ghost use Rattle.app_connection.specs.Events.{IsShort, IsMove, IsSending, begins, brings_bare, brings_items, cut_from, is_answered, HearsBy, KeepsNext, TakesBy};
+ghost use Rattle.app_connection.specs.Events.{ComesWithoutReset, IsShort, IsMove, IsSending, begins, brings_bare, brings_items, cut_from, is_answered, GetsBy, HearsBy, KeepsNext, TakesBy};
 ghost use Rattle.app_connection.specs.States.{has_peer, state_from};
 ghost use Rattle.app_connection.specs.Promises.{AnswersIn, HasNoText, IsCut, KeepsEdge, WhenOpen, WhenSynced};
 
@@ -48,10 +48,14 @@ impl Connection {
             (option_map said result) }
         ensures moves { IsMove event.entry (room_of self.old.receiving (length incoming.old)) (endpoint_of self.old)
             (endpoint_of self.new) }
+        ensures stays { self.old.phase ≡ Open → ComesWithoutReset event.entry
+            → endpoint_of self.new ≡ endpoint_of self.old }
         ensures takes { WhenSynced self.old
             (TakesBy event.entry self.old (room_of self.old.receiving (length incoming.old)) self.new) }
         ensures hears { WhenSynced self.old
             (HearsBy event.entry self.old (room_of self.old.receiving (length incoming.old)) self.new outgoing.now) }
+        ensures gets { WhenSynced self.old (GetsBy event.entry self.old
+            (room_of self.old.receiving (length incoming.old)) self.new.receiving incoming.old incoming.new) }
         ensures next { self.old.phase ≡ Open → KeepsNext event.entry self.old.sending self.new.sending }
         ensures edge { self.old.phase ≡ Open → KeepsEdge self.old self.new (length incoming.old) }
         ensures legal { (self.old.phase ≡ Open → ⊥) → IfSome (spoken result) (λ r. IsLegal (endpoint_of self.new) r) }

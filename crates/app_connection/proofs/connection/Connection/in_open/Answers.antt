@@ -1,9 +1,10 @@
-use Rattle.std.proofs.Common.{◌≡◌, false, sym, subst, ℕ}
+use Rattle.std.proofs.Common.{◌≡◌, false, length, sym, subst, ℕ}
 use Rattle.std.specs.Prelude.{Some, None}
-use Rattle.app_tcp.specs.Stands.{Stands}
+use Rattle.app_tcp.specs.Items.{items_of}
+use Rattle.app_tcp.specs.Stands.{Stands, room_of}
 use Rattle.app_tcp.specs.Waits.{AckComes}
 use Rattle.app_tcp.specs.declared.receiving.Receiving.{Receiving}
-use Rattle.app_connection.specs.Worlds.{replied}
+use Rattle.app_connection.specs.Worlds.{GetsText, replied}
 use Rattle.app_connection.proofs.Going.{ack_of, brought, goes_at, goes_reply, if_some, says_bare, says_challenge, settled_as, settled_open, stand_reset, text_later, waits_as, went, went_now}
 use Rattle.app_connection.proofs.connection.Connection.in_open.Goals as goal
 
@@ -45,3 +46,9 @@ returns-clause-goes c = λ there back consumed comes stand.
     (waits_as there d.sending new.sending c.args.outgoing.now c.take_text.ensures.sending (c.on_ack.ensures.waits there acked.0 acked.1 stand.waits))
     (text_later back consumed s d.receiving new.receiving c.args.incoming.now c.take_text.new.incoming c.if-segment-2.false brings.text c.take_text.ensures.still (λ which text. c.take_text.ensures.stands back which consumed text still) still))
     (if_some (λ r. (r.syn ≡ false) × (r.rst ≡ false)) (λ r. r.syn ≡ false) c.take_text.result (λ r h. h.0) c.take_text.ensures.reply) c.take_text.ensures.answers
+
+pub returns-clause-gets : goal.returns-clause-gets
+returns-clause-gets c = λ synced rst syn some taken ack sent.
+    let s = c.args.segment.now in
+    subst (λ (r : Receiving). GetsText r c.take_text.new.self.receiving c.args.incoming.now c.take_text.new.incoming (room_of r (length c.args.incoming.now)) s.number (items_of false s.payload.now s.fin)) c.on_ack.ensures.receiving
+    (c.take_text.ensures.gets syn some)

@@ -14,7 +14,7 @@ use Rattle.app_connection.specs.declared.segment.Segment.{Segment}
 use Rattle.app_connection.specs.declared.state.State.{State}
 use Rattle.app_connection.specs.declared.state.State.TheVariants as state
 use Rattle.app_connection.specs.Endpoints.{endpoint_in, endpoint_of, control_of, len_of, one, spoken, refused_by, acknowledgement_of, has_items, is_bare}
-use Rattle.app_connection.specs.Events.{IsMove, IsSending, begins, brings_bare, brings_items, is_answered, HearsBy, KeepsNext, TakesBy}
+use Rattle.app_connection.specs.Events.{ComesWithoutReset, IsMove, IsSending, begins, brings_bare, brings_items, is_answered, GetsBy, HearsBy, KeepsNext, TakesBy}
 use Rattle.app_connection.specs.SetUp.{Endpoint, In_closed, In_syn_sent, Control, hears}
 use Rattle.app_connection.specs.States.{has_peer, state_from}
 use Rattle.app_connection.specs.Worlds.{IsAnswered, replied, said}
@@ -330,6 +330,14 @@ hears_by : (e f : Event) (old : Connection) (window : ℕ) (new other : Connecti
 hears_by e f old window new other outgoing is same hears =
     subst (λ (x : Event). HearsBy x old window new outgoing) (sym is) (subst (λ (x : Connection). HearsBy f old window x outgoing) (sym same) hears)
 
+pub returns-clause-stays : goal.returns-clause-stays
+returns-clause-stays c = λ opened unreset.
+    elim c.match-event.branch [
+      | in-Open w ↦ let h : ⊥ = subst ComesWithoutReset w.in-Open.is unreset in absurd h
+      | in-Arrives w ↦ ap endpoint_of w.self-is ∙ w.on_segment-reply.ensures.keeps opened (subst ComesWithoutReset w.in-Arrives.is unreset)
+      | in-Abort w ↦ let h : ⊥ = subst ComesWithoutReset w.in-Abort.is unreset in absurd h
+    ]
+
 pub returns-clause-hears : goal.returns-clause-hears
 returns-clause-hears c = λ opened shut synced.
     let old = c.args.self.now in
@@ -342,6 +350,26 @@ returns-clause-hears c = λ opened shut synced.
           hears_by c.args.event (event.Arrives w.in-Arrives.segment w.in-Arrives.fresh) old window new w.on_segment-reply.new.self outgoing w.in-Arrives.is w.self-is
           (w.on_segment-reply.ensures.heard opened shut synced)
       | in-Abort w ↦ hears_by c.args.event event.Abort old window new new outgoing w.in-Abort.is refl tt
+    ]
+
+gets_by : (e f : Event) (old : Connection) (room : ℕ) (new other : Receiving) (before after last : List ℕ) → e ≡ f → new ≡ other → last ≡ after → GetsBy f old room other before after → GetsBy e old room new before last
+gets_by e f old room new other before after last is same equal gets =
+    subst (λ (x : Event). GetsBy x old room new before last) (sym is) (subst (λ (r : Receiving). GetsBy f old room r before last) (sym same) (subst (λ (l : List ℕ). GetsBy f old room other before l) (sym equal) gets))
+
+pub returns-clause-gets : goal.returns-clause-gets
+returns-clause-gets c = λ opened shut synced.
+    let old = c.args.self.now in
+    let before = c.args.incoming.now in
+    let room = room_of old.receiving (length before) in
+    let new = c.match-event.self in
+    let after = c.match-event.incoming in
+    elim c.match-event.branch [
+      | in-Open w ↦ gets_by c.args.event (event.Open w.in-Open.iss) old room new.receiving new.receiving before after after w.in-Open.is refl refl tt
+      | in-Arrives w ↦
+          let it = w.on_segment-reply in
+          gets_by c.args.event (event.Arrives w.in-Arrives.segment w.in-Arrives.fresh) old room new.receiving it.new.self.receiving before it.new.incoming after w.in-Arrives.is (ap (λ (x : Connection). x.receiving) w.self-is) w.incoming-is
+          (it.ensures.gets opened shut synced)
+      | in-Abort w ↦ gets_by c.args.event event.Abort old room new.receiving new.receiving before after after w.in-Abort.is refl refl tt
     ]
 
 next_by : (e f : Event) (old : Sending) (new other : Connection) → e ≡ f → new ≡ other → KeepsNext f old other.sending → KeepsNext e old new.sending

@@ -12,3 +12,6 @@ returns-clause-stands c = λ back which consumed comes stands.
       own = used which uses.how;
       stands = uses.stands;
     }
+
+pub returns-clause-gets : goal.returns-clause-gets
+returns-clause-gets c = λ syn some. record { uses = λ back which consumed comes stands. c.on_segment.ensures.stands back consumed which comes stands }
