@@ -13,7 +13,7 @@ calls_of a b c (writes new outgoing bytes out s) = inl (connection.writes new.co
 calls_of a b c (reads new bytes s) = inl (connection.reads new.connection bytes s)
 calls_of a b c (others new is) = inr (ap (λ (x : Connection). record (end_of a) { connection = x }) is)
 
-runs_of : (p : Ends) → Runs p → connection.Runs (ends_of p)
+pub runs_of : (p : Ends) → Runs p → connection.Runs (ends_of p)
 runs_of p (begins q here_new there_new) = connection.begins (ends_of p) here_new there_new
 runs_of p (here q new run calls) = elim (calls_of q.here q.there new calls) [
   | inl one ↦ connection.here (ends_of q) (end_of new) (runs_of q run) one

@@ -2,3 +2,5 @@ pub mod Opened
 pub mod Stepping
 pub mod Delivery
 pub mod Rounds
+pub mod StaysOpen
+pub mod ManyRounds

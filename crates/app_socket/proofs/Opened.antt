@@ -59,6 +59,11 @@ pub answers_as : (o : Option Segment) (r t : Receiving) (incoming : List ℕ) �
 answers_as None r t incoming is answers = tt
 answers_as (Some s) r t incoming is answers = λ back consumed stands. inr (answers back consumed incoming (subst (λ (x : Receiving). Stands back consumed x incoming) is stands))
 
+-- the end of the peer's patience does not change
+pub patience_on : (o : Option ℕ) (old mid new : ℕ) → new ≡ mid → IfSome o (λ at. mid ≡ old) → IfSome o (λ at. new ≡ old)
+patience_on None old mid new same still = tt
+patience_on (Some at) old mid new same still = same ∙ still
+
 -- a reply is a segment
 pub is_spoken : (o : Option Segment) → is_some o ≡ is_some (spoken o)
 is_spoken None = refl

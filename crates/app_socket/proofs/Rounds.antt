@@ -40,13 +40,13 @@ one_small true = omega arith
 one_small false = omega arith
 
 -- what went first
-record Went (old new : Sending) (outgoing : List ℕ) : Type 0 where
-  count : ℕ
-  some : 0 < count
-  most : count ≤ 2147483648
-  waits : (w : World) → Waits w old outgoing → Waits (happens w (Send 0 count)) new outgoing
+pub record Went (old new : Sending) (outgoing : List ℕ) : Type 0 where
+  pub count : ℕ
+  pub some : 0 < count
+  pub most : count ≤ 2147483648
+  pub waits : (w : World) → Waits w old outgoing → Waits (happens w (Send 0 count)) new outgoing
 
-went : (old new : Sending) (outgoing : List ℕ) (o : Option Segment) → SendsFirst old new outgoing o → length outgoing < 1073741824 → Went old new outgoing
+pub went : (old new : Sending) (outgoing : List ℕ) (o : Option Segment) → SendsFirst old new outgoing o → length outgoing < 1073741824 → Went old new outgoing
 went old new outgoing None sends small = absurd sends
 went old new outgoing (Some s) sends small = record {
   count = length (items_of s.syn s.payload.now s.fin);
@@ -66,7 +66,7 @@ across initial room events old new outgoing o sends small waits less opened spac
       more = goes_on initial out.count room events opened less out.some out.most (inl space);
     }
 
-false_test : (a b : ℕ) → b ≤ a → nat_lt a b ≡ false
+pub false_test : (a b : ℕ) → b ≤ a → nat_lt a b ≡ false
 false_test a b le = grind (arith, nat_tests)
 
 same_test : (n : ℕ) → (n == n) ≡ true
@@ -77,12 +77,12 @@ and_false true = refl
 and_false false = refl
 
 -- what was received is between SND.UNA and SND.NXT
-of_sent : (i acked got sent : ℕ) → acked ≤ got → got ≤ sent → sent ≤ acked + 2147483648 → is_of_sent (number_at i acked) (number_at i sent) (number_at i got) ≡ true
+pub of_sent : (i acked got sent : ℕ) → acked ≤ got → got ≤ sent → sent ≤ acked + 2147483648 → is_of_sent (number_at i acked) (number_at i sent) (number_at i got) ≡ true
 of_sent i acked got sent first last near =
     ap not (false_test (distance (number_at i sent) (number_at i acked)) (distance (number_at i got) (number_at i acked))
     (omega (arith, distance_after i sent acked (omega arith) (omega arith), distance_after i got acked (omega arith) (omega arith))))
 
-not_after : (i got sent : ℕ) → got ≤ sent → sent ≤ got + 2147483648 → is_earlier (number_at i sent) (number_at i got) ≡ false
+pub not_after : (i got sent : ℕ) → got ≤ sent → sent ≤ got + 2147483648 → is_earlier (number_at i sent) (number_at i got) ≡ false
 not_after i got sent last near = elim (cases_lt got sent) [
   | inl less ↦
       let far : nat_lt (distance (number_at i got) (number_at i sent)) 2147483648 ≡ false = false_test _ _ (omega (arith, distance_before i got sent less (omega arith))) in

@@ -1,10 +1,11 @@
 -- A step of a socket is one of its connection.
-use Rattle.std.proofs.Common.{◌≡◌, ◌⊎◌, inl, inr, refl, sym, ◌∙◌, ap, subst, ℕ, ◌+◌, List, [], ◌∷◌, Bool, true, false, length, arith, Bor}
-use Rattle.std.specs.Prelude.{Option, None, IfSome, ◌&&◌, if◌then◌else◌}
+use Rattle.std.proofs.Common.{◌≡◌, ◌⊎◌, inl, inr, refl, sym, ◌∙◌, ap, subst, ℕ, ◌+◌, ◌<◌, List, [], ◌∷◌, Bool, true, false, length, arith, Bor}
+use Rattle.std.specs.Prelude.{Option, None, IfSome, is_some, ◌&&◌, if◌then◌else◌}
 use Rattle.std.proofs.lemmas.Bool.{false≢true}
 use Rattle.tcp_model.specs.Network.{World, run}
 use Rattle.app_tcp.specs.Items.{items_of}
 use Rattle.app_tcp.specs.Stands.{Stands, IsAnswer}
+use Rattle.app_tcp.specs.declared.receiving.Receiving.{Receiving}
 use Rattle.app_connection.specs.declared.connection.Connection.{Connection}
 use Rattle.app_connection.specs.declared.segment.Segment.{Segment}
 use Rattle.app_connection.specs.declared.state.Phase.TheVariants as phase
@@ -12,10 +13,12 @@ use Rattle.app_connection.specs.declared.state.State.{State}
 use Rattle.app_connection.specs.declared.state.State.TheVariants as state
 use Rattle.app_connection.specs.declared.step.Event.{Event}
 use Rattle.app_connection.specs.declared.step.Event.TheVariants as move
-use Rattle.app_connection.specs.Endpoints.{len_of, one}
+use Rattle.app_connection.specs.Endpoints.{is_of_unsent, len_of, one}
+use Rattle.app_connection.specs.Events.{GetsBy}
+use Rattle.app_connection.specs.Sequence.{is_taken_at}
 use Rattle.app_connection.specs.States.{has_peer, state_from}
 use Rattle.app_connection.specs.Steps.{Hears, Opens, Steps}
-use Rattle.app_connection.specs.Worlds.{Brings, Goes, GoesOut, IsOut, Said, Stand, said}
+use Rattle.app_connection.specs.Worlds.{Brings, GetsText, Goes, GoesOut, IsOut, Said, Stand, said}
 use Rattle.app_connection.proofs.Going.{goes_at, stand_as}
 use Rattle.app_connection.proofs.Phases.{phase_open}
 use Rattle.app_socket.specs.Times.{is_open}
@@ -128,6 +131,17 @@ steps_scaled c d outgoing before after s t window iss o is st =
       active = λ n other none. absurd (cc);
       goes = λ peer there back consumed comes stand. st.goes peer there back consumed (subst (λ (x : Said). (x.rst ≡ true) ⊎ Brings there back x) (sym same) comes) stand;
     }
+
+-- what is taken of a segment
+abbrev pub GetsOf : Connection → ℕ → Receiving → List ℕ → List ℕ → Segment → Type 0
+GetsOf old room new before after x =
+    x.rst ≡ false → x.syn ≡ false → 0 < len_of x → is_taken_at old.receiving.next room x.number (len_of x) ≡ true → is_some x.ack ≡ true → is_of_unsent old x.ack ≡ false
+    → GetsText old.receiving new before after room x.number (items_of false x.payload.now x.fin)
+
+-- the same of one with another window
+pub gets_scaled : (old : Connection) (room iss : ℕ) (new : Receiving) (before after : List ℕ) (s : Bor Segment) (t : Segment) (window : ℕ) → t ≡ record s.now { window = window } → GetsOf old room new before after t
+    → GetsBy (move.Arrives s iss) old room new before after
+gets_scaled old room iss new before after s t window is gets = let g : GetsOf old room new before after (record s.now { window = window }) = subst (λ (x : Segment). GetsOf old room new before after x) is gets in g
 
 -- a segment that takes no sequence number has no items
 pub no_len : (syn : Bool) (payload : List ℕ) (fin : Bool) → length payload + one syn + one fin ≡ 0 → items_of syn payload fin ≡ []

@@ -7,3 +7,4 @@ pub mod Resends
 pub mod Segments
 pub mod Runs
 pub mod Promises
+pub mod Rounds

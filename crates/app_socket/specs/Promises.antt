@@ -1,14 +1,14 @@
 -- What one event makes of a socket: a name for each clause of `step`, and for what the functions below it promise too. `old` and
 -- `new` are the socket before and after the event, and `given` is the segment that is returned.
 -- Pinned by: `socket/scenarios`
-use Rattle.std.specs.Prelude.{ℕ, ◌≡◌, ◌<◌, ◌≤◌, List, Option, IfSome, MatchOption, None, is_some, max, option_map, true, false}
+use Rattle.std.specs.Prelude.{ℕ, ◌≡◌, ◌<◌, ◌≤◌, List, length, Option, IfSome, MatchOption, None, is_some, max, option_map, true, false}
 use Rattle.tcp_model.specs.Network.{World}
 use Rattle.app_tcp.specs.Stands.{room_of}
 use Rattle.app_tcp.specs.Waits.{Waits}
 use Rattle.app_connection.specs.declared.segment.Segment.{Segment}
 use Rattle.app_connection.specs.declared.step.Event.{Event as Move}
 use Rattle.app_connection.specs.Endpoints.{endpoint_of, len_of}
-use Rattle.app_connection.specs.Events.{brings_bare, brings_items, is_answered}
+use Rattle.app_connection.specs.Events.{ComesWithoutReset, GetsBy, brings_bare, brings_items, is_answered}
 use Rattle.app_connection.specs.Promises.{AnswersIn}
 use Rattle.app_connection.specs.SetUp.{In_closed}
 use Rattle.app_connection.specs.States.{has_peer, state_from}
@@ -50,6 +50,13 @@ abbrev pub SendsStream : Socket → List ℕ → Option Segment → Type 0
 SendsStream old outgoing given =
     IsOpen old
     → IfSome given (λ s. 0 < len_of s → (there : World) → Waits there old.connection.sending outgoing → IsSent there s)
+
+-- text and FIN in the window are taken, unless PAWS drops the segment
+abbrev pub TakesText : Socket → Socket → List ℕ → List ℕ → ℕ → Event → Type 0
+TakesText old new before after now e =
+    IsOpen old → old.connection.receiving.is_open ≡ true → is_stale old now e ≡ false
+    → GetsBy (move_of e) old.connection (room_of old.connection.receiving (length before)) new.connection.receiving
+    before after
 
 -- what is acknowledged came
 abbrev pub AcknowledgesReceived : Socket → Socket → List ℕ → Option Segment → Type 0
@@ -158,6 +165,11 @@ EndsBySilence old new now =
 -- without a connection nothing happens
 abbrev pub StaysIdle : Socket → Socket → Type 0
 StaysIdle old new = has_peer (state_from old.connection) ≡ false → new ≡ old
+
+-- a segment without RST leaves a connection open
+abbrev pub StaysOpen : Socket → Socket → Event → Type 0
+StaysOpen old new e =
+    IsOpen old → ComesWithoutReset (move_of e) → endpoint_of new.connection ≡ endpoint_of old.connection
 
 -- the end is not put off
 abbrev pub EndsNoLater : Socket → Socket → Type 0

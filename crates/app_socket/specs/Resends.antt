@@ -224,9 +224,12 @@ pub record Resends (old new : Socket) (outgoing : List ℕ) (now : ℕ) (given :
       old.connection.sending.flight ≤ count_of old.connection.sending → 0 < count_of old.connection.sending
       → IsSound old.flow old.connection.sending.flight → SendsNone given → IsHeld new.flow (queue_of new)
   pub sound : WhenSound old (IsSound new.flow new.connection.sending.flight)
-  -- A loss probe goes once, and the peer's patience does not change, until an acknowledgement comes.
+  -- A loss probe goes once, until an acknowledgement comes.
   pub stays : old.flow.is_probed ≡ true → new.flow.is_probed ≡ true
-  pub patience : WhenDue old now (new.timers.ends_at ≡ old.timers.ends_at)
+  -- While the timer runs, the end of the peer's patience does not change.
+  pub patience :
+      0 < count_of old.connection.sending
+      → IfSome old.timers.resend_at (λ at. new.timers.ends_at ≡ old.timers.ends_at)
   pub agreed : new.agreed ≡ old.agreed
   pub quiet : SendsNone given → new.connection ≡ old.connection
   -- Only SND.NXT changes.
@@ -377,6 +380,14 @@ pub record Learns (old new : Socket) (outgoing : List ℕ) (incoming now : ℕ) 
   pub keeps :
       newly_in old new ≡ 0 → (before : Option ℕ) → IsArmed before old.timers.resend_at now
       → IsArmed before new.timers.resend_at now
+  -- It runs for a minute at most (RFC 6298, section 2.5).
+  pub armed : 0 < newly_in old new → IfSome new.timers.resend_at (λ at. at ≤ later now 60000)
+  -- An acknowledgement of something new puts the end of the peer's patience off, to 5 minutes from now at the least (RFC
+  -- 9293, section 3.8.3), and no segment brings it nearer than that. In TIME-WAIT there is another end.
+  pub lives :
+      (state_from new.connection ≡ TimeWait → ⊥) → 0 < newly_in old new → later now 300000 ≤ new.timers.ends_at
+  pub lasts :
+      (state_from new.connection ≡ TimeWait → ⊥) → min old.timers.ends_at (later now 300000) ≤ new.timers.ends_at
   -- the first segment goes again after a partial acknowledgement in fast recovery (RFC 6582, section 3.2), if it did not go again
   -- before
   pub partial : ResendsOnPartial old.flow new.flow new.connection.sending.una (newly_in old new)

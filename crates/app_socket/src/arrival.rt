@@ -3,8 +3,10 @@
 ghost use Rattle.std.specs.Prelude.{false, ◌≤◌, None, max, ◌≡◌, ◌<◌, ℕ, List, is_some, length, true, IfSome, if◌then◌else◌, option_map, ◌+◌, ◌-◌, ◌%◌, ◌&&◌, not, nat_le, min, Option};
 ghost use Rattle.tcp_model.specs.Network.{World};
 ghost use Rattle.app_tcp.specs.Stands.{Stands, room_of};
-ghost use Rattle.app_connection.specs.Endpoints.{OutFits, InFits, answers_bare, has_items, is_bare, len_of};
+ghost use Rattle.app_connection.specs.Endpoints.{OutFits, InFits, answers_bare, endpoint_of, has_items, is_bare, len_of};
+ghost use Rattle.app_connection.specs.Events.{GetsBy};
 ghost use Rattle.app_connection.specs.States.{state_from};
+ghost use Rattle.app_connection.specs.declared.state.State.TheVariants as state;
 ghost use Rattle.app_connection.specs.Worlds.{GoesOut, said};
 ghost use Rattle.tcp_model.specs.Endpoint.{distance};
 ghost use Rattle.app_socket.specs.Resends.{IsArmed, IsDuplicate, IsSound, Learns, restarted_at, scaled_by, CountsDuplicate, ResendsOnPartial, ResendsOnThird, RestartsTimer, StaysSound, newly_after};
@@ -100,6 +102,12 @@ impl Socket {
             (room_of self.old.connection.receiving (length incoming.old)) segment.now.number segment.now.ack) }
         ensures recent { KeepsRecent self.old self.new now }
         ensures begins { is_open (state_from self.old.connection) ≡ false → IsOpen self.new → RemembersFlight self.new }
+        ensures gets { IsOpen self.old → self.old.connection.receiving.is_open ≡ true
+            → rejects self.old now segment.now options.now ≡ false → GetsBy (Move.Arrives segment.entry fresh)
+            self.old.connection (room_of self.old.connection.receiving (length incoming.old))
+            self.new.connection.receiving incoming.old incoming.new }
+        ensures stays { IsOpen self.old → segment.now.rst ≡ false
+            → endpoint_of self.new.connection ≡ endpoint_of self.old.connection }
         ensures learns { WhileOpen self.old self.new (rejects self.old now segment.now options.now ≡ false
             → Learns self.old self.new outgoing.now (length incoming.old) now (scaled_by self.old.agreed segment.now)) }
         ensures stale { rejects self.old now segment.now options.now ≡ true → ChangesOnlyAck self.old self.new }
@@ -153,6 +161,12 @@ impl Socket {
         ensures steps { StepsBy self.old self.new outgoing.now incoming.old incoming.new
             (Move.Arrives segment.entry fresh) result }
         ensures begins { is_open (state_from self.old.connection) ≡ false → IsOpen self.new → RemembersFlight self.new }
+        ensures gets { IsOpen self.old → self.old.connection.receiving.is_open ≡ true
+            → GetsBy (Move.Arrives segment.entry fresh) self.old.connection
+            (room_of self.old.connection.receiving (length incoming.old)) self.new.connection.receiving incoming.old
+            incoming.new }
+        ensures stays { IsOpen self.old → segment.now.rst ≡ false
+            → endpoint_of self.new.connection ≡ endpoint_of self.old.connection }
         ensures learns { WhileOpen self.old self.new
             (Learns self.old self.new outgoing.now (length incoming.old) now segment.now) }
     {
@@ -234,6 +248,12 @@ impl Socket {
         ensures third { is_open before.now.state ≡ true → newly_after self.old before.now.una ≡ 0 → IsDuplicate
             before.now.una before.now.flight before.now.window before.now.next before.now.room segment.now
             → ResendsOnThird self.old.flow self.new.flow self.old.connection.sending.una }
+        ensures armed { is_open before.now.state ≡ true → 0 < newly_after self.old before.now.una
+            → IfSome self.new.timers.resend_at (λ at. at ≤ later now 60000) }
+        ensures lives { is_open before.now.state ≡ true → (state_from self.old.connection ≡ state.TimeWait → ⊥)
+            → 0 < newly_after self.old before.now.una → later now 300000 ≤ self.new.timers.ends_at }
+        ensures lasts { is_open before.now.state ≡ true → (state_from self.old.connection ≡ state.TimeWait → ⊥)
+            → min self.old.timers.ends_at (later now 300000) ≤ self.new.timers.ends_at }
         ensures off { is_open before.now.state ≡ false → self.new.timers.resend_at ≡ None }
         ensures sound { is_open before.now.state ≡ true → StaysSound self.old self.new before.now.una }
         ensures begins { is_open before.now.state ≡ false → IsSound self.new.flow self.old.connection.sending.flight }
@@ -258,6 +278,7 @@ impl Socket {
     fn hear(&mut self, now: u64)
         ensures same { self.new ≡ record self.old { timers = self.new.timers } }
         ensures resend_at { self.new.timers.resend_at ≡ self.old.timers.resend_at }
+        ensures lives { later now 300000 ≤ self.new.timers.ends_at }
         ensures patience { self.new.timers.ends_at ≤ later now (patience_of self.old.options) }
     {
         let waits = self.waits();
@@ -268,6 +289,10 @@ impl Socket {
     fn learn_life(&mut self, before: &Before, now: u64, segment: &Segment)
         ensures same { self.new ≡ record self.old { timers = self.new.timers } }
         ensures resend_at { self.new.timers.resend_at ≡ self.old.timers.resend_at }
+        ensures lives { (state_from self.old.connection ≡ state.TimeWait → ⊥)
+            → 0 < newly_after self.old before.now.una → later now 300000 ≤ self.new.timers.ends_at }
+        ensures lasts { (state_from self.old.connection ≡ state.TimeWait → ⊥)
+            → min self.old.timers.ends_at (later now 300000) ≤ self.new.timers.ends_at }
         ensures patience { IsPatient self.old self.new now }
     {
         if self.connection.state() == State::TimeWait {
@@ -280,7 +305,9 @@ impl Socket {
     }
 
     // Whether text or an acknowledgement was taken.
-    fn has_moved(&self, before: &Before) -> bool {
+    fn has_moved(&self, before: &Before) -> bool
+        ensures { 0 < distance self.now.connection.sending.una before.now.una → result ≡ true }
+    {
         self.next() != before.next || self.connection.una() != before.una
     }
 
@@ -297,6 +324,9 @@ impl Socket {
         ensures restarts { RestartsTimer self.old self.new before.now.una now }
         ensures sound { StaysSound self.old self.new before.now.una }
         ensures still { newly_after self.old before.now.una ≡ 0 → self.new.timers ≡ self.old.timers }
+        ensures ends_at { self.new.timers.ends_at ≡ self.old.timers.ends_at }
+        ensures armed { 0 < newly_after self.old before.now.una
+            → IfSome self.new.timers.resend_at (λ at. at ≤ later now 60000) }
         ensures partial { ResendsOnPartial self.old.flow self.new.flow self.old.connection.sending.una
             (newly_after self.old before.now.una) }
         ensures counted { newly_after self.old before.now.una ≡ 0 → IsDuplicate before.now.una before.now.flight
@@ -324,6 +354,7 @@ impl Socket {
             → IsSound self.new.flow (flight - newly) }
         ensures restarts { (size : ℕ) → OutFits self.old.connection.sending size
             → self.new.timers.resend_at ≡ restarted_at self.new now }
+        ensures armed { IfSome self.new.timers.resend_at (λ at. at ≤ later now 60000) }
         ensures partial { ResendsOnPartial self.old.flow self.new.flow ((una + newly) % 4294967296) newly }
     {
         let flight = self.connection.flight();

@@ -1,16 +1,18 @@
 //! Laws of several calls.
 
-ghost use Rattle.std.specs.Prelude.{◌≡◌, ◌≤◌, length, false, ◌<◌, ◌+◌, ℕ, List, true, MatchOption};
+ghost use Rattle.std.specs.Prelude.{◌≡◌, ◌≤◌, [], length, false, ◌<◌, ◌+◌, ◌%◌, ℕ, List, true, max, min, is_some, MatchOption, None, Some};
+ghost use Rattle.app_connection.specs.Arrived.{BothComeAcross};
 ghost use Rattle.app_connection.specs.Endpoints.{OutFits, InFits, len_of};
 ghost use Rattle.app_connection.specs.Runs.{BothRead};
 ghost use Rattle.app_connection.specs.States.{has_peer, state_from};
+ghost use Rattle.app_socket.specs.Rounds.{AcknowledgesItems, AreBefore, AreRounds, GoesFurther, IsAllAcknowledged, IsRound, IsWaiting, StandsFor, StillWaits, expires_by};
 ghost use Rattle.app_socket.specs.Runs.{Ends, Runs, ends_of};
 ghost use Rattle.tcp_model.specs.Network.{World, Event as WorldEvent, run, start, stream};
 ghost use Rattle.app_tcp.specs.Waits.{Waits, count_of};
 ghost use Rattle.app_options.specs.Timestamps.{takes};
 ghost use Rattle.app_socket.specs.Resends.{ComesAcross, GoesRound, IsSound, is_due};
 ghost use Rattle.app_socket.specs.Segments.{text_of};
-ghost use Rattle.app_socket.specs.Times.{is_open};
+ghost use Rattle.app_socket.specs.Times.{is_open, resend_or_probe};
 
 use crate::{Event, Socket};
 use app_connection::Segment;
@@ -41,6 +43,12 @@ pub fn silence_ends(
 /// made of such segments, and since then each program wrote less than 2^30 - 1 bytes. A RST may be from anyone.
 pub fn two_sockets_deliver()
     ensures { (p : Ends) → Runs p → BothRead (ends_of p) }
+{}
+
+/// What is acknowledged has come: if nothing of a program waits, the other one has read all that it wrote, or it waits in the ring
+/// to be read. So has the end. The runs are those of `two_sockets_deliver`.
+pub fn acknowledged_text_has_come()
+    ensures { (p : Ends) → Runs p → BothComeAcross (ends_of p) }
 {}
 
 /// What is not acknowledged goes again from the first item on, at most two expirations of the timer after it was sent, a minute
@@ -138,4 +146,134 @@ pub fn small_text_goes_at_once<'a>(
         → MatchOption result ⊥ (λ s. 0 < len_of s) }
 {
     socket.step(outgoing, incoming, now, Event::Tick)
+}
+
+/// A round of a network that loses: the retransmission timer expires, the segment at SND.UNA goes, and the peer acknowledges it.
+#[derive(Debug, Clone, Copy)]
+pub struct Round<'r> {
+    /// When the program calls before, and what it sends is lost, or its acknowledgement.
+    pub lost: &'r [u64],
+    /// When it calls after the timer expired. It may be a loss probe that goes then.
+    pub first: u64,
+    /// When it calls after the timer expired again.
+    pub second: u64,
+    /// When the acknowledgement of what went at `second` comes.
+    pub answered: u64,
+    /// How many items from SND.UNA on the peer has then: at least one, and at most those in flight.
+    pub taken: u32,
+    /// The window of the acknowledgement.
+    pub window: u32,
+}
+
+/// Many rounds bring everything across: after one round for each item that waits, all that was written is acknowledged. In each
+/// round what goes before is lost. The time of silence after which the connection ends is named by `AreRounds`: as long as an
+/// acknowledgement comes in time, it does not end. Returns false if PAWS drops an acknowledgement; it drops none if no timestamps
+/// were agreed on.
+pub fn rounds_acknowledge_all(
+    socket: &mut Socket,
+    outgoing: &[u8],
+    incoming: &mut [u8],
+    rounds: &[Round],
+    options: &TcpOptionSummary,
+) -> bool
+    requires out { OutFits socket.old.connection.sending (length outgoing.now) }
+    requires rings { InFits socket.old.connection.receiving (length incoming.old) }
+    requires opened { is_open (state_from socket.old.connection) ≡ true }
+    requires synced { socket.old.connection.receiving.is_open ≡ true }
+    requires runs { is_some socket.old.timers.resend_at ≡ true }
+    requires rounds { AreRounds (resend_or_probe socket.old.timers.resend_at socket.old.timers.probe_at) socket.old.timers.ends_at rounds.now }
+    ensures all { StandsFor socket.old.connection outgoing.now incoming.old → count_of socket.old.connection.sending ≤ length rounds.now → result ≡ true → IsAllAcknowledged socket.new.connection.sending outgoing.now }
+    ensures taken { StandsFor socket.old.connection outgoing.now incoming.old → socket.old.agreed.recent ≡ None → result ≡ true }
+{
+    for round in rounds {
+        if socket.waiting() == 0 {
+            return true;
+        }
+        if !goes_round(socket, outgoing, incoming, round, options) {
+            return false;
+        }
+    }
+    true
+}
+
+// One round. Returns false if PAWS drops the acknowledgement.
+fn goes_round(
+    socket: &mut Socket,
+    outgoing: &[u8],
+    incoming: &mut [u8],
+    round: &Round,
+    options: &TcpOptionSummary,
+) -> bool
+    requires out { OutFits socket.old.connection.sending (length outgoing.now) }
+    requires rings { InFits socket.old.connection.receiving (length incoming.old) }
+    ensures out { OutFits socket.new.connection.sending (length outgoing.now) }
+    ensures rings { InFits socket.new.connection.receiving (length incoming.old) }
+    ensures goes { (by end : ℕ) → 0 < count_of socket.old.connection.sending → IsWaiting socket.old by end → IsRound by end round.now → StandsFor socket.old.connection outgoing.now incoming.old → result ≡ true → GoesFurther socket.old socket.new outgoing.now incoming.new round.now.answered }
+    ensures taken { (by end : ℕ) → 0 < count_of socket.old.connection.sending → IsWaiting socket.old by end → IsRound by end round.now → StandsFor socket.old.connection outgoing.now incoming.old → socket.old.agreed.recent ≡ None → (result ≡ true) × (socket.new.agreed.recent ≡ None) }
+{
+    lose(socket, outgoing, incoming, round.lost);
+    let _ = socket.step(outgoing, incoming, round.first, Event::Tick);
+    let Some(sent) = socket.step(outgoing, incoming, round.second, Event::Tick) else {
+        return false;
+    };
+    if !socket.agreed.takes(options.timestamp, round.answered) {
+        return false;
+    }
+    let answer = answer(socket, outgoing, &sent, round);
+    hear(socket, outgoing, incoming, round.answered, &answer, options);
+    true
+}
+
+// The acknowledgement comes.
+fn hear(
+    socket: &mut Socket,
+    outgoing: &[u8],
+    incoming: &mut [u8],
+    now: u64,
+    answer: &Segment,
+    options: &TcpOptionSummary,
+)
+    requires text { answer.now.payload.now ≡ [] }
+    requires out { OutFits socket.old.connection.sending (length outgoing.now) }
+    requires rings { InFits socket.old.connection.receiving (length incoming.old) }
+    requires taken { takes socket.old.agreed.recent options.now.timestamp now ≡ true }
+    ensures out { OutFits socket.new.connection.sending (length outgoing.now) }
+    ensures rings { InFits socket.new.connection.receiving (length incoming.old) }
+    ensures further { (by end taken : ℕ) → IsWaiting socket.old by end → AcknowledgesItems socket.old.connection answer.now taken → StandsFor socket.old.connection outgoing.now incoming.old → GoesFurther socket.old socket.new outgoing.now incoming.new now }
+    ensures recent { is_open (state_from socket.old.connection) ≡ true → socket.old.agreed.recent ≡ None → socket.new.agreed.recent ≡ None }
+{
+    let _ = socket.step(outgoing, incoming, now, Event::Arrives(answer, options, 0));
+}
+
+// Time passes, and what goes is lost.
+fn lose(socket: &mut Socket, outgoing: &[u8], incoming: &mut [u8], times: &[u64])
+    requires out { OutFits socket.old.connection.sending (length outgoing.now) }
+    requires rings { InFits socket.old.connection.receiving (length incoming.old) }
+    ensures out { OutFits socket.new.connection.sending (length outgoing.now) }
+    ensures rings { InFits socket.new.connection.receiving (length incoming.old) }
+    ensures waits { (by end : ℕ) → 0 < count_of socket.old.connection.sending → IsWaiting socket.old by end → AreBefore times.now end → StandsFor socket.old.connection outgoing.now incoming.old → StillWaits socket.old socket.new outgoing.now incoming.new (expires_by by times.now) end }
+{
+    for time in times {
+        let _ = socket.step(outgoing, incoming, *time, Event::Tick);
+    }
+}
+
+// The peer's acknowledgement of a segment, at RCV.NXT.
+fn answer<'a>(socket: &Socket, outgoing: &'a [u8], sent: &Segment, round: &Round) -> Segment<'a>
+    ensures number { socket.now.connection.receiving.is_open ≡ true → result.number ≡ socket.now.connection.receiving.next }
+    ensures ack { result.ack ≡ Some ((sent.now.number + min socket.now.connection.sending.flight (max 1 round.now.taken)) % 4294967296) }
+    ensures rst { result.rst ≡ false }
+    ensures text { result.payload.now ≡ [] }
+    ensures bare { len_of result ≡ 0 }
+{
+    let taken = round.taken.max(1).min(socket.connection.flight());
+    Segment {
+        number: socket.next(),
+        ack: Some(sent.number.wrapping_add(taken)),
+        window: round.window,
+        syn: false,
+        rst: false,
+        fin: false,
+        payload: &outgoing[..0],
+    }
 }

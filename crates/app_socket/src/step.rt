@@ -7,7 +7,7 @@ ghost use Rattle.app_socket.specs.Events.{IsShort, IsTick, IsQuiet};
 ghost use Rattle.app_socket.specs.Resends.{Connects, ConnectsBy};
 ghost use Rattle.app_socket.specs.Times.{later, patience_of};
 ghost use Rattle.app_connection.specs.Promises.{HasNoText};
-ghost use Rattle.app_socket.specs.Promises.{AcknowledgesInTime, AcknowledgesReceived, AdvertisesWindow, AnswersBare, AnswersStale, BeginsSound, Continues, DropsStale, EndsBySilence, EndsNoLater, IsOpen, IsPatient, KeepsRecent, KeepsRoom, LearnsFrom, OwesAck, OwesNoAck, ResendsInTime, ResendsSyn, RestsUntilDue, SendsStream, SendsWithin, StaysIdle, StepsBy};
+ghost use Rattle.app_socket.specs.Promises.{AcknowledgesInTime, AcknowledgesReceived, AdvertisesWindow, AnswersBare, AnswersStale, BeginsSound, Continues, DropsStale, EndsBySilence, EndsNoLater, IsOpen, IsPatient, KeepsRecent, KeepsRoom, LearnsFrom, OwesAck, OwesNoAck, ResendsInTime, ResendsSyn, RestsUntilDue, SendsStream, SendsWithin, StaysIdle, StaysOpen, TakesText, StepsBy};
 
 use crate::socket::Socket;
 use crate::tick::has_peer;
@@ -64,6 +64,8 @@ impl Socket {
         ensures recent { KeepsRecent self.old self.new now }
         ensures patience { IsPatient self.old self.new now }
         ensures begins { BeginsSound self.old self.new event.entry }
+        ensures stays { StaysOpen self.old self.new event.entry }
+        ensures gets { TakesText self.old self.new incoming.old incoming.new now event.entry }
         ensures learns { LearnsFrom self.old self.new outgoing.now (length incoming.old) now event.entry }
         ensures connects { ConnectsBy event.entry self.old self.new now }
         ensures resends { IsTick event.entry → ResendsInTime self.old self.new outgoing.now now result }

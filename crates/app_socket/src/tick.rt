@@ -207,8 +207,8 @@ impl Socket {
         ensures again { self.old.flow.resend ≡ true → MatchOption result ⊥ (λ p. p.offset ≡ 0) }
         ensures ack_at { self.new.timers.ack_at ≡ self.old.timers.ack_at }
         ensures stays { self.old.flow.is_probed ≡ true → self.new.flow.is_probed ≡ true }
-        ensures patience { (size : ℕ) → OutFits self.old.connection.sending size
-            → WhenDue self.old now (self.new.timers.ends_at ≡ self.old.timers.ends_at) }
+        ensures patience { (size : ℕ) → OutFits self.old.connection.sending size → 0 < count_of self.old.connection.sending
+            → IfSome self.old.timers.resend_at (λ at. self.new.timers.ends_at ≡ self.old.timers.ends_at) }
         ensures place { (size : ℕ) → OutFits self.old.connection.sending size → 0 < count_of self.old.connection.sending
             → self.old.connection.sending.flight ≤ count_of self.old.connection.sending
             → IsSound self.old.flow self.old.connection.sending.flight → IfSome result
@@ -248,6 +248,8 @@ impl Socket {
         ensures ack_at { self.new.timers.ack_at ≡ self.old.timers.ack_at }
         ensures due { (size : ℕ) → OutFits self.old.connection.sending size
             → WhenDue self.old now (self.new ≡ self.old) }
+        ensures runs { (size : ℕ) → OutFits self.old.connection.sending size → 0 < count_of self.old.connection.sending
+            → IfSome self.old.timers.resend_at (λ at. self.new.timers ≡ self.old.timers) }
         ensures phase { self.new.flow.congestion.phase ≡ self.old.flow.congestion.phase }
         ensures duplicates { self.new.flow.congestion.duplicates ≡ self.old.flow.congestion.duplicates }
         ensures rests { WhenNotDue self.old now (is_due self.new.timers.resend_at now ≡ false) }

@@ -1,5 +1,5 @@
 use Rattle.std.proofs.Common.{◌≡◌, inl, inr, ◌∙◌, sym, ap, subst, ℕ, ◌+◌, ◌≤◌, ◌<◌, List, true, arith}
-use Rattle.std.specs.Prelude.{Option, Some, None, MatchOption, nat_le}
+use Rattle.std.specs.Prelude.{Option, Some, None, IfSome, MatchOption, nat_le}
 use Rattle.std.proofs.lemmas.Bool.Decides.{nat_tests}
 use Rattle.app_tcp.specs.Waits.{count_of}
 use Rattle.app_tcp.specs.declared.sending.Sending.{Sending}
@@ -25,6 +25,11 @@ due_later old (Some at) first second armed due minute = elim armed [
   | inr soon ↦ le_true at second (omega arith)
 ]
 
+-- the peer's patience does not change when the timer expires
+due_still : (o : Option ℕ) (now old new : ℕ) → is_due o now ≡ true → IfSome o (λ at. new ≡ old) → new ≡ old
+due_still None now old new due still = absurd (cc)
+due_still (Some at) now old new due still = still
+
 -- what goes is at SND.UNA
 goes_at : (old new : Sending) (outgoing : List ℕ) (una : ℕ) (o : Option Segment) → old.una ≡ una → SendsFirst old new outgoing o → MatchOption o ⊥ (λ s. (s.number ≡ una) × (0 < len_of s))
 goes_at old new outgoing una None same sends = sends
@@ -37,7 +42,7 @@ returns c =
     let waits = c.requires.waits in
     let first = c.step.ensures.resends tt c.requires.opened (omega (arith, c.requires.minute, c.requires.patient)) in
     let opened : is_open (state_from mid.connection) ≡ true = ap (λ (x : Connection). is_open (state_from x)) first.only ∙ c.requires.opened in
-    let patient : c.args.second < mid.timers.ends_at = omega (arith, c.requires.patient, first.patience waits c.requires.due) in
+    let patient : c.args.second < mid.timers.ends_at = omega (arith, c.requires.patient, due_still old.timers.resend_at c.args.first _ _ c.requires.due (first.patience waits)) in
     let still : 0 < count_of mid.connection.sending = subst (λ (x : Connection). 0 < count_of x.sending) (sym first.only) waits in
     let due = due_later old.timers.resend_at mid.timers.resend_at c.args.first c.args.second (first.armed waits) c.requires.due c.requires.minute in
     let second = c.step-2.ensures.resends tt opened patient in

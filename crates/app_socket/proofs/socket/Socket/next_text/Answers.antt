@@ -2,6 +2,7 @@ use Rattle.std.proofs.Common.{ap, ◌≡◌, inl, inr, ◌∙◌, refl, sym, sub
 use Rattle.std.specs.Prelude.{None, Option, Some, IfSome, MatchOption}
 use Rattle.app_connection.proofs.Going.{goes_at, stand_as}
 use Rattle.app_socket.specs.declared.socket.Socket.{Socket}
+use Rattle.app_socket.proofs.Opened.{patience_on}
 use Rattle.app_socket.proofs.socket.Socket.next_text.Goals as goal
 use Rattle.std.proofs.lemmas.Bool.{cases_lt}
 use Rattle.app_tcp.specs.Waits.{count_of}
@@ -112,7 +113,7 @@ returns-clause-resends c = λ opened has.
             (subst (λ (x : Connection). IsSound mid.flow x.sending.flight) (sym same) (c.piece.ensures.sound old.connection.sending.flight sound))
       ];
       stays = λ probed. ap (λ (f : Flow). f.is_probed) c.cut.ensures.flow ∙ c.piece.ensures.stays probed;
-      patience = λ some due. ap (λ (x : Socket). x.timers.ends_at) c.cut.ensures.same ∙ c.piece.ensures.patience _ fits some due;
+      patience = λ some. patience_on old.timers.resend_at _ _ _ (ap (λ (x : Socket). x.timers.ends_at) c.cut.ensures.same) (c.piece.ensures.patience _ fits some);
       agreed = ap (λ (x : Socket). x.agreed) c.cut.ensures.same ∙ ap (λ (x : Socket). x.agreed) c.piece.ensures.same;
       quiet = λ none. quiet_as c.cut.result mid.connection new.connection (subst (λ (x : Connection). x.phase ≡ Open → IfSome c.cut.result (λ s. 0 < len_of s)) same c.cut.ensures.items opened) (λ is. ap (λ (x : Socket). x.connection) (c.cut.ensures.none is)) none ∙ same;
       only = subst (λ (x : Connection). new.connection ≡ record x { sending = record x.sending { flight = new.connection.sending.flight } }) same c.cut.ensures.only;

@@ -1,12 +1,15 @@
 use Rattle.std.proofs.Common.{◌≡◌, true, false, sym, ◌∙◌, ap, subst, length}
 use Rattle.std.specs.Prelude.{not, ◌&&◌, option_map}
+use Rattle.app_connection.specs.Events.{GetsBy}
 use Rattle.app_connection.specs.States.{state_from}
+use Rattle.app_connection.specs.declared.connection.Connection.{Connection}
+use Rattle.app_tcp.specs.Stands.{room_of}
 use Rattle.app_connection.specs.Worlds.{said}
 use Rattle.app_connection.specs.declared.step.Event.TheVariants as move
 use Rattle.app_options.specs.Timestamps.{takes}
 use Rattle.app_socket.specs.Segments.{rejects}
 use Rattle.app_socket.specs.declared.socket.Socket.{Socket}
-use Rattle.app_socket.proofs.Stepping.{choice_false, choice_true, stale_peer, steps_by, steps_from, steps_scaled, steps_still}
+use Rattle.app_socket.proofs.Stepping.{choice_false, choice_true, gets_scaled, stale_peer, steps_by, steps_from, steps_scaled, steps_still}
 use Rattle.app_connection.specs.declared.segment.Segment.{Segment}
 use Rattle.app_socket.specs.Resends.{Learns, scaled_by}
 use Rattle.app_socket.specs.Times.{is_open}
@@ -55,7 +58,7 @@ returns-then-counts-clause-learns c = λ opened after taken.
     let is : Learns c.args.self.now new c.args.outgoing.now size c.args.now (scaled_by c.args.self.now.agreed c.args.segment.now) =
     subst (λ (x : Socket). Learns x new c.args.outgoing.now size c.args.now (scaled_by x.agreed c.args.segment.now)) same learns
     in
-    record { una = is.una; sound = is.sound; hears = is.hears; restarts = is.restarts; keeps = is.keeps; partial = is.partial; counted = is.counted; third = is.third }
+    record { una = is.una; sound = is.sound; hears = is.hears; restarts = is.restarts; keeps = is.keeps; armed = is.armed; lives = is.lives; lasts = is.lasts; partial = is.partial; counted = is.counted; third = is.third }
 
 pub returns-else-counts-clause-learns : goal.returns-else-counts-clause-learns
 returns-else-counts-clause-learns c = λ opened after taken.
@@ -69,4 +72,28 @@ returns-else-counts-clause-learns c = λ opened after taken.
     let is : Learns c.args.self.now new c.args.outgoing.now size c.args.now (scaled_by c.args.self.now.agreed c.args.segment.now) =
     subst (λ (x : Socket). Learns x new c.args.outgoing.now size c.args.now (scaled_by x.agreed c.args.segment.now)) same learns
     in
-    record { una = is.una; sound = is.sound; hears = is.hears; restarts = is.restarts; keeps = is.keeps; partial = is.partial; counted = is.counted; third = is.third }
+    record { una = is.una; sound = is.sound; hears = is.hears; restarts = is.restarts; keeps = is.keeps; armed = is.armed; lives = is.lives; lasts = is.lasts; partial = is.partial; counted = is.counted; third = is.third }
+
+pub returns-then-counts-clause-gets : goal.returns-then-counts-clause-gets
+returns-then-counts-clause-gets c = λ opened synced taken.
+    let self = c.args.self.now in
+    let it = c.on_segment-reply in
+    let same : c.agree.new.self.connection ≡ self.connection = ap (λ (x : Socket). x.connection) c.agree.ensures.same in
+    let Gets : Connection → Type 0 = λ (x : Connection). is_open (state_from x) ≡ true → x.receiving.is_open ≡ true
+    → GetsBy (move.Arrives c.args.segment c.args.fresh) x (room_of x.receiving (length c.args.incoming.now)) it.new.self.connection.receiving c.args.incoming.now it.new.incoming in
+    let scaled : Gets c.agree.new.self.connection = λ before opens.
+    gets_scaled c.agree.new.self.connection (room_of c.agree.new.self.connection.receiving (length c.args.incoming.now)) c.args.fresh it.new.self.connection.receiving c.args.incoming.now it.new.incoming c.args.segment c.scaled-scaled.result c.scaled-scaled.result.window c.scaled-scaled.ensures.same (it.ensures.gets before opens)
+    in
+    subst Gets same scaled opened synced
+
+pub returns-else-counts-clause-gets : goal.returns-else-counts-clause-gets
+returns-else-counts-clause-gets c = λ opened synced taken.
+    let self = c.args.self.now in
+    let it = c.on_segment-reply in
+    let same : c.agree.new.self.connection ≡ self.connection = ap (λ (x : Socket). x.connection) c.agree.ensures.same in
+    let Gets : Connection → Type 0 = λ (x : Connection). is_open (state_from x) ≡ true → x.receiving.is_open ≡ true
+    → GetsBy (move.Arrives c.args.segment c.args.fresh) x (room_of x.receiving (length c.args.incoming.now)) it.new.self.connection.receiving c.args.incoming.now it.new.incoming in
+    let scaled : Gets c.agree.new.self.connection = λ before opens.
+    gets_scaled c.agree.new.self.connection (room_of c.agree.new.self.connection.receiving (length c.args.incoming.now)) c.args.fresh it.new.self.connection.receiving c.args.incoming.now it.new.incoming c.args.segment c.scaled-scaled.result c.scaled-scaled.result.window c.scaled-scaled.ensures.same (it.ensures.gets before opens)
+    in
+    subst Gets same scaled opened synced

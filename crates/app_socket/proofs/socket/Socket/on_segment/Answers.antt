@@ -1,16 +1,21 @@
 use Rattle.std.proofs.Common.{◌≡◌, ◌∙◌, sym, subst, ap, length, ◌⊎◌, ℕ, List, ◌+◌, ◌≤◌, ◌<◌, true}
-use Rattle.std.specs.Prelude.{is_some, option_map, Option, Some, None, IfSome, if◌then◌else◌}
+use Rattle.std.specs.Prelude.{is_some, min, option_map, Option, Some, None, IfSome, if◌then◌else◌}
 use Rattle.app_tcp.specs.Stands.{Stands, room_of}
 use Rattle.app_tcp.specs.declared.receiving.Receiving.{Receiving}
 use Rattle.app_connection.specs.declared.connection.Connection.{Connection}
-use Rattle.app_connection.specs.Endpoints.{acknowledgement_of, answers_bare, TakesAck, next_of}
+use Rattle.app_connection.specs.States.{state_from}
+use Rattle.app_connection.specs.Endpoints.{acknowledgement_of, answers_bare, edge_of, endpoint_of, TakesAck, next_of}
+use Rattle.app_connection.specs.Events.{GetsBy}
+use Rattle.app_connection.specs.declared.step.Event.{Event as Move}
+use Rattle.app_connection.specs.declared.step.Event.TheVariants as move
 use Rattle.tcp_model.specs.Endpoint.{distance}
 use Rattle.app_congestion.specs.Congestion.{is_partial, is_past}
 use Rattle.app_connection.specs.Worlds.{HearsAck}
 use Rattle.app_connection.specs.Sequence.{is_of_sent}
 use Rattle.app_socket.specs.declared.socket.Socket.{Socket}
 use Rattle.app_socket.specs.Resends.{IsArmed, IsDuplicate, IsSound, newly_in, restarted_at}
-use Rattle.app_socket.specs.Times.{is_open}
+use Rattle.app_socket.specs.Times.{is_open, later}
+use Rattle.app_socket.specs.Window.{is_ahead}
 use Rattle.app_socket.proofs.Opened.{answers_as, answers_exactly, is_said, is_spoken, open_not_shut, open_phase}
 use Rattle.app_connection.specs.Worlds.{said}
 use Rattle.app_socket.proofs.Stepping.{steps_result, steps_to}
@@ -93,6 +98,12 @@ returns-in_default-clause-learns c = λ opened after.
           ∙ c.learn.ensures.restarts is _ c.step-reply.ensures.out (subst (λ (n : ℕ). 0 < n) (sym newly) some)
           ∙ sym (ap (λ (x : Socket). restarted_at x now) c.answer.ensures.same);
       keeps = λ none before armed. subst (λ (a : Option ℕ). IsArmed before a now) (sym c.answer.ensures.resend_at) (c.learn.ensures.keeps is (newly ∙ none) before armed);
+      armed = λ some. subst (λ (a : Option ℕ). IfSome a (λ at. at ≤ later now 60000)) (sym c.answer.ensures.resend_at) (c.learn.ensures.armed is (subst (λ (n : ℕ). 0 < n) (sym newly) some));
+      lives = λ lasts some.
+          subst (λ (n : ℕ). later now 300000 ≤ n) (sym c.answer.ensures.ends_at)
+          (c.learn.ensures.lives is (λ e. lasts (ap state_from same ∙ e)) (subst (λ (n : ℕ). 0 < n) (sym newly) some));
+      lasts = λ lasts.
+          subst (λ (n : ℕ). min old.timers.ends_at (later now 300000) ≤ n) (sym c.answer.ensures.ends_at) (c.learn.ensures.lasts is (λ e. lasts (ap state_from same ∙ e)));
       partial = λ some part rescued.
           ap (λ (x : Socket). x.flow.resend) c.answer.ensures.same
           ∙ c.learn.ensures.partial is (subst (λ (n : ℕ). 0 < n) (sym newly) some)
@@ -131,3 +142,44 @@ returns-in_default-clause-learns c = λ opened after.
           ap (λ (x : Socket). x.flow.resend) c.answer.ensures.same
           ∙ c.learn.ensures.third is (newly ∙ none) twin calm (subst (λ (x : Connection). is_past old.flow.congestion.phase x.sending.una ≡ true) same past) two;
     }
+
+-- text that was taken by the connection
+gets_as : (old new d : Connection) (e : Move) (room : ℕ) (before after : List ℕ) → d ≡ new → GetsBy e old room new.receiving before after → GetsBy e old room d.receiving before after
+gets_as old new d e room before after is gets = subst (λ (x : Connection). GetsBy e old room x.receiving before after) (sym is) gets
+
+pub returns-in-Closed-clause-gets : goal.returns-in-Closed-clause-gets
+returns-in-Closed-clause-gets c = λ opened synced.
+    let old = c.args.self.now.connection in
+    c.step-reply.ensures.gets (open_phase old opened) (open_not_shut old opened) synced
+
+pub returns-in-SynReceived-clause-gets : goal.returns-in-SynReceived-clause-gets
+returns-in-SynReceived-clause-gets c = λ opened synced.
+    let old = c.args.self.now.connection in
+    gets_as old c.step-reply.new.self c.on_syn.new.self.connection (move.Arrives c.args.segment c.args.fresh) _ c.args.incoming.now c.step-reply.new.incoming (ap (λ (x : Socket). x.connection) c.on_syn.ensures.same)
+    (c.step-reply.ensures.gets (open_phase old opened) (open_not_shut old opened) synced)
+
+pub returns-in_default-clause-gets : goal.returns-in_default-clause-gets
+returns-in_default-clause-gets c = λ opened synced.
+    let old = c.args.self.now.connection in
+    let same : c.answer.new.self.connection ≡ c.step-reply.new.self = ap (λ (x : Socket). x.connection) c.answer.ensures.same ∙ ap (λ (x : Socket). x.connection) c.learn.ensures.same in
+    gets_as old c.step-reply.new.self c.answer.new.self.connection (move.Arrives c.args.segment c.args.fresh) _ c.args.incoming.now c.step-reply.new.incoming same (c.step-reply.ensures.gets (open_phase old opened) (open_not_shut old opened) synced)
+
+pub returns-in_default-clause-stays : goal.returns-in_default-clause-stays
+returns-in_default-clause-stays c = λ opened unreset.
+    let same : c.answer.new.self.connection ≡ c.step-reply.new.self = ap (λ (x : Socket). x.connection) c.answer.ensures.same ∙ ap (λ (x : Socket). x.connection) c.learn.ensures.same in
+    ap endpoint_of same ∙ c.step-reply.ensures.stays (open_phase c.args.self.now.connection opened) unreset
+
+pub returns-in_default-clause-keeps : goal.returns-in_default-clause-keeps
+returns-in_default-clause-keeps c = λ opened after none still room.
+    let old = c.args.self.now in
+    let taken = c.step-reply.new.self in
+    let mid = c.learn.new.self in
+    let new = c.answer.new.self in
+    let size = length c.args.incoming.now in
+    let same : new.connection ≡ taken = ap (λ (x : Socket). x.connection) c.answer.ensures.same ∙ ap (λ (x : Socket). x.connection) c.learn.ensures.same in
+    let edge = c.step-reply.ensures.edge (open_phase old.connection opened) none (ap (λ (x : Connection). x.receiving.has_fin) (sym same) ∙ still) in
+    let first : is_ahead old.edge (edge_of taken.receiving size) ≡ true = ap (λ (n : ℕ). is_ahead old.edge n) edge ∙ room in
+    let second : is_ahead mid.edge (edge_of mid.connection.receiving size) ≡ true = ap (λ (x : Socket). is_ahead x.edge (edge_of x.connection.receiving size)) c.learn.ensures.same ∙ first in
+    let long : length c.step-reply.new.incoming ≡ size = c.step-reply.auto.incoming in
+    let told = c.answer.ensures.keeps (ap is_open c.before-before.ensures.state ∙ opened) (subst (λ (n : ℕ). is_ahead mid.edge (edge_of mid.connection.receiving n) ≡ true) (sym long) second) in
+    ap (λ (x : Socket). is_ahead new.edge (edge_of x.connection.receiving size)) c.answer.ensures.same ∙ subst (λ (n : ℕ). is_ahead new.edge (edge_of mid.connection.receiving n) ≡ true) long told

@@ -4,6 +4,7 @@ use Rattle.app_socket.specs.declared.flow.Flow.{Flow}
 use Rattle.app_socket.specs.declared.flow.Piece.{Piece}
 use Rattle.app_socket.specs.declared.flow.Queue.{Queue}
 use Rattle.app_socket.specs.declared.socket.Socket.{Socket}
+use Rattle.app_socket.specs.declared.timers.Timers.{Timers}
 use Rattle.app_socket.specs.Resends.{IsHeld, IsSound, TimesOut, is_due, queue_of}
 use Rattle.app_socket.proofs.socket.Socket.piece.Goals as goal
 
@@ -77,8 +78,19 @@ returns-clause-place c = λ size fits some few sound.
       | inr other ↦ place_next c.next.result s.flight _ q.flight q.unsent same (omega (arith, unsent)) (c.next.ensures.place (subst (λ (n : ℕ). IsSound c.expire.new.self.flow n) (sym same) later) other)
     ]
 
+-- the peer's patience while the timer runs
+runs_on : (o : Option ℕ) (old new last : Socket) → new.timers.ends_at ≡ last.timers.ends_at → IfSome o (λ at. last.timers ≡ old.timers) → IfSome o (λ at. new.timers.ends_at ≡ old.timers.ends_at)
+runs_on None old new last same runs = tt
+runs_on (Some at) old new last same runs = same ∙ ap (λ (t : Timers). t.ends_at) runs
+
 pub returns-in-Some-clause-patience : goal.returns-in-Some-clause-patience
-returns-in-Some-clause-patience c = λ size fits some due. ap (λ (x : Socket). x.timers.ends_at) c.expire.ensures.same ∙ ap (λ (x : Socket). x.timers.ends_at) (c.run_timer.ensures.due size fits some due)
+returns-in-Some-clause-patience c = λ size fits some.
+    let old = c.args.self.now in
+    let new = c.expire.new.self in
+    runs_on old.timers.resend_at old new c.run_timer.new.self (ap (λ (x : Socket). x.timers.ends_at) c.expire.ensures.same) (c.run_timer.ensures.runs size fits some)
 
 pub returns-clause-patience : goal.returns-clause-patience
-returns-clause-patience c = λ size fits some due. ap (λ (x : Socket). x.timers.ends_at) c.expire.ensures.same ∙ ap (λ (x : Socket). x.timers.ends_at) (c.run_timer.ensures.due size fits some due)
+returns-clause-patience c = λ size fits some.
+    let old = c.args.self.now in
+    let new = c.expire.new.self in
+    runs_on old.timers.resend_at old new c.run_timer.new.self (ap (λ (x : Socket). x.timers.ends_at) c.expire.ensures.same) (c.run_timer.ensures.runs size fits some)

@@ -3,6 +3,7 @@ use Rattle.std.specs.Prelude.{Some, Option, option_map, None, if◌then◌else�
 use Rattle.app_connection.specs.Worlds.{Goes, said}
 use Rattle.app_connection.specs.declared.segment.Segment.{Segment}
 use Rattle.app_socket.specs.declared.socket.Socket.{Socket}
+use Rattle.app_socket.proofs.Opened.{patience_on}
 use Rattle.app_socket.proofs.Stepping.{goes_result, goes_to}
 use Rattle.app_socket.proofs.socket.Socket.tick_open.Goals as goal
 use Rattle.app_tcp.specs.declared.receiving.Receiving.{Receiving}
@@ -50,7 +51,7 @@ resends_on old mid new t outgoing now given is same ends r =
       held = r.held;
       sound = r.sound;
       stays = r.stays;
-      patience = λ some due. ends ∙ r.patience some due;
+      patience = λ some. patience_on old.timers.resend_at _ _ _ ends (r.patience some);
       agreed = r.agreed;
       quiet = r.quiet;
       only = r.only;
