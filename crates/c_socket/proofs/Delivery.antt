@@ -68,7 +68,7 @@ calls_of a b c (aborts new out out' code fits l) =
     (steps_reset (socket_of a.fields).connection (socket_of new).connection a.outgoing a.incoming l.given (stored code out') (reset_stored out out' code l.stores) s)
 calls_of a b c (others new is) = socket.others (socket_of new) is
 
-runs_of : (p : Ends) → Runs p → socket.Runs (ends_of p)
+pub runs_of : (p : Ends) → Runs p → socket.Runs (ends_of p)
 runs_of p (begins q here_new there_new) = socket.begins (ends_of p) here_new there_new
 runs_of p (here q new run calls) = socket.here (ends_of q) (end_of new) (runs_of q run) (calls_of q.here q.there new calls)
 runs_of p (there q new run calls) = socket.there (ends_of q) (end_of new) (runs_of q run) (calls_of q.there q.here new calls)

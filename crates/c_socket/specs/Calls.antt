@@ -13,7 +13,7 @@ use Rattle.app_socket.specs.Events.{IsQuiet, IsTick}
 use Rattle.app_socket.specs.Fields.{socket_of}
 use Rattle.app_socket.specs.Promises.{AcknowledgesInTime, AcknowledgesReceived, AdvertisesWindow, AnswersBare, AnswersStale, BeginsSound}
 use Rattle.app_socket.specs.Promises.{Continues, DropsStale, EndsBySilence, EndsNoLater, IsPatient, KeepsRecent, KeepsRoom, LearnsFrom}
-use Rattle.app_socket.specs.Promises.{OwesAck, OwesNoAck, ResendsInTime, ResendsSyn, RestsUntilDue, SendsStream, SendsWithin, StaysIdle}
+use Rattle.app_socket.specs.Promises.{OwesAck, OwesNoAck, ResendsInTime, ResendsSyn, RestsUntilDue, SendsStream, SendsWithin, StaysIdle, StaysOpen, TakesText}
 use Rattle.app_socket.specs.Resends.{ConnectsBy}
 use Rattle.app_socket.specs.Segments.{header_of}
 use Rattle.app_socket.specs.declared.fields.SocketFields.{SocketFields}
@@ -55,6 +55,8 @@ pub record Steps (old new : Socket) (outgoing before after : List ℕ) (now : �
   pub patience : IsPatient old new now
   pub connects : ConnectsBy e old new now
   pub begins : BeginsSound old new e
+  pub stays : StaysOpen old new e
+  pub gets : TakesText old new before after now e
   pub learns : LearnsFrom old new outgoing (length before) now e
   pub resends : IsTick e → ResendsInTime old new outgoing now given
   pub acknowledges : IsTick e → AcknowledgesInTime old (length before) now given

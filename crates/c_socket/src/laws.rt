@@ -1,6 +1,7 @@
 //! Laws of several calls.
 
 ghost use Rattle.std.specs.Prelude.{◌≡◌};
+ghost use Rattle.app_connection.specs.Arrived.{BothComeAcross};
 ghost use Rattle.app_connection.specs.Runs.{BothRead};
 ghost use Rattle.app_connection.specs.Worlds.{said};
 ghost use Rattle.app_socket.specs.Runs as socket;
@@ -16,6 +17,12 @@ use app_socket::Header;
 /// of such segments, and since then each program wrote less than 2^30 - 1 bytes. A RST may be from anyone.
 pub fn two_programs_deliver()
     ensures { (p : Ends) → Runs p → BothRead (socket.ends_of (ends_of p)) }
+{}
+
+/// What is acknowledged has come: if nothing of a program waits, the other one has read all that it wrote, or it waits in the ring
+/// to be read. So has the end. The runs are those of `two_programs_deliver`.
+pub fn acknowledged_text_has_come()
+    ensures { (p : Ends) → Runs p → BothComeAcross (socket.ends_of (ends_of p)) }
 {}
 
 /// The struct of a segment has its sequence number, text, flags and acknowledgement.
