@@ -4,7 +4,7 @@
 The program is crates/tcp_steps, or `model` for the model. Each of the COUNT connections has its own losses, repetitions,
 delays, windows and readers, by a virtual clock. In some the network removes options of SYNs, splits and joins segments, or takes
 only small ones from some time on, and sends errors. All bytes must come in both directions, and both ends must be CLOSED at the end. In some
-connections an end vanishes: then the other must be CLOSED by its bound.
+connections an end vanishes: then the other must be CLOSED by its bound. Others are followed by one of the same sockets.
 """
 import collections
 import functools
@@ -44,13 +44,13 @@ class Host:
         sizes = [max(1, count * self.mss + rng.choice((0, -1, 5))) for count in rings]
         self.end = End(machine, Watch(), self.mss, self.keep_alive, rng.randrange(2), *sizes)
         self.least = min(self.mss, *sizes)
-        self.written, self.got = 0, bytearray()
-        self.is_closed = self.is_gone = self.is_awake = False
+        self.is_gone = self.is_awake = False
         # How long the application waits between calls, in milliseconds.
         self.pause = rng.choice((0, 0, 0, 50, 700, 20_000))
 
     def has_text(self, least):
-        """A text of a few segments, or of many, and how much is written and read at once."""
+        """A text of a few segments, or of many, and how much is written and read at once. Nothing was written and read."""
+        self.written, self.got, self.is_closed = 0, bytearray(), False
         self.amount = max(1, least // self.rng.choice((1, 1, 3))) if self.pause < 100 else 10 * least
         self.text = bytes(self.rng.choices(LETTERS.encode(), k=self.rng.choice((0, 1, 5, 3 * least, 25 * least))))
 
@@ -80,13 +80,11 @@ class Network:
         self.loss, self.repeats = rng.choice(LOSSES), rng.choice((0, 0.02, 0.1))
         self.delay, self.jitter = rng.choice((0, 1, 10, 200)), rng.choice((0, 1, 30, 300))
         self.hosts = [Host(rng, machine) for machine in machines]
-        for host in self.hosts:
-            host.has_text(min(host.least for host in self.hosts))
         self.queue, self.count, self.now, self.errors = [], 0, 0, 0
         self.without = {name: value for name, value in NONE._asdict().items() if rng.random() < 0.2}
         share, self.narrow_at = rng.choice(PATHS), rng.randrange(3000)
         self.path = share and max(LEAST, int(share * max(host.mss for host in self.hosts)))
-        self.remade, self.last, self.made = rng.choice(REMADE), [None, None], 0
+        self.remade, self.made = rng.choice(REMADE), 0
         self.vanishes = rng.choice((None,) * 6 + (rng.randrange(3000), rng.randrange(100_000)))
 
     def later(self, delay, kind, *operands):
@@ -169,6 +167,9 @@ class Network:
     def run(self):
         """The end of a connection: how many events it took."""
         rng = self.rng
+        for host in self.hosts:
+            host.has_text(min(host.least for host in self.hosts))
+        self.last = [None, None]
         iss = [(rng.choice((0, 1 << 31)) - rng.randrange(3000)) & 0xFFFFFFFF for _ in self.hosts]
         if rng.random() < 0.8:
             iss[rng.randrange(2)] = None
@@ -205,14 +206,17 @@ def part(program, seed):
     rng, counts = Random(seed), collections.Counter()
     machines = machine_of(program), machine_of(program)
     for number in range(PART):
-        network = Network(rng, machines)
-        try:
-            counts["events"] += network.run()
-            network.check()
-        except AssertionError as error:
-            return f"seed {seed}, connection {number}, at {network.now} ms: {error}"
+        network, more = Network(rng, machines), True
+        while more:
+            try:
+                counts["events"] += network.run()
+                network.check()
+            except AssertionError as error:
+                return f"seed {seed}, connection {number}, at {network.now} ms: {error}"
+            more = network.vanishes is None and rng.random() < 0.3
+            counts["again"] += more
+            counts["bytes"] += sum(len(host.got) for host in network.hosts)
         counts["connections"] += 1
-        counts["bytes"] += sum(len(host.got) for host in network.hosts)
         counts["silent"] += network.vanishes is not None
         counts["errors"] += network.errors
         counts["made"] += network.made
@@ -233,7 +237,8 @@ def main():
             if isinstance(found, str):
                 sys.exit(found)
             total += found
-    print(f"{total['connections']} connections, {total['silent']} with a peer that vanishes: {total['events']} events, "
+    print(f"{total['connections']} connections, {total['silent']} with a peer that vanishes, and {total['again']} of the same "
+          f"sockets: {total['events']} events, "
           f"{total['made']} segments split or joined, {total['errors']} errors, {total['bytes']} bytes, nothing wrong")
 
 

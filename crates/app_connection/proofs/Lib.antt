@@ -9,3 +9,4 @@ pub mod Pair
 pub mod Resegments
 pub mod Delivery
 pub mod Arrived
+pub mod Openings

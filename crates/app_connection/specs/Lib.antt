@@ -9,3 +9,4 @@ pub mod Steps
 pub mod Runs
 pub mod Arrived
 pub mod Promises
+pub mod Openings

@@ -8,9 +8,11 @@ ghost use Rattle.app_connection.specs.declared.state.Phase.TheVariants.{Open};
 ghost use Rattle.app_connection.specs.Arrived.{BothComeAcross};
 ghost use Rattle.app_connection.specs.Endpoints.{OutFits, InFits, TakesAck, acknowledgement_of};
 ghost use Rattle.app_connection.specs.Events.{IsShort};
+ghost use Rattle.app_connection.specs.Openings as openings;
+ghost use Rattle.app_connection.specs.Openings.{OthersStay, Program, Programs, Turns, ends_of, opening, present};
 ghost use Rattle.app_connection.specs.Runs.{BothRead, Calls, End, Ends, IsFrom, IsNew, MayCome, OpensOnce, Runs, Sent, stepped, two_sent};
 ghost use Rattle.app_connection.specs.SetUp.{Turn, BothAgree, run_ends, both_idle, In_established, three_ways};
-ghost use Rattle.app_connection.specs.States.{state_from};
+ghost use Rattle.app_connection.specs.States.{has_peer, state_from};
 ghost use Rattle.app_connection.specs.Worlds.{Stand, ComesNext, said};
 
 use crate::connection::Connection;
@@ -36,6 +38,11 @@ pub fn both_are_established()
 /// and since then each program wrote less than 2^30 - 1 bytes. A RST may be from anyone.
 pub fn two_connections_deliver()
     ensures { (p : Ends) → Runs p → BothRead p }
+{}
+
+/// The same in each connection of two programs that open again any number of times.
+pub fn each_opening_delivers()
+    ensures { (p : Programs) → openings.Runs p → (n : ℕ) → BothRead (ends_of p n) }
 {}
 
 /// What is acknowledged has come: if nothing of a program waits, the other one has read all that it wrote, or it waits in the ring
@@ -130,4 +137,20 @@ pub fn a_step_is_a_call<'a>(
         → OpensOnce a here.new → Calls a b (stepped a b here.new incoming.new (option_map said result)) }
 {
     here.step(outgoing, incoming, event)
+}
+
+/// The call that opens actively is one of a run, in a connection that the program has not opened before. The peer's end of this
+/// connection may be any, and so may the present connection, which has no peer.
+pub fn an_opening_is_a_call<'a>(
+    here: &mut Connection,
+    outgoing: &'a [u8],
+    incoming: &mut [u8],
+    iss: u32,
+) -> Option<Segment<'a>>
+    requires none { has_peer (state_from here.old) ≡ false }
+    requires out { OutFits here.old.sending (length outgoing.now) }
+    requires rings { InFits here.old.receiving (length incoming.old) }
+    ensures { (a b new : Program) (k : ℕ) → (present a).connection ≡ here.old → (present a).outgoing ≡ outgoing.now → (present a).incoming ≡ incoming.old → (a.ends k).was_opened ≡ false → new.number ≡ k → OthersStay k a new → new.ends k ≡ stepped (opening a k) (b.ends k) here.new incoming.new (option_map said result) → Turns a b new }
+{
+    here.step(outgoing, incoming, step::Event::Open(iss))
 }

@@ -7,7 +7,7 @@ use Rattle.app_socket.specs.Runs.{Calls, End, Ends, Runs, begins, end_of, ends_o
 use Rattle.app_socket.specs.Segments.{taken_of}
 
 -- a call of a socket is one of its connection, or none
-calls_of : (a b c : End) → Calls a b c → connection.Calls (end_of a) (end_of b) (end_of c) ⊎ (end_of c ≡ end_of a)
+pub calls_of : (a b c : End) → Calls a b c → connection.Calls (end_of a) (end_of b) (end_of c) ⊎ (end_of c ≡ end_of a)
 calls_of a b c (steps now e new incoming result may once out s) = inl (connection.steps (taken_of a.socket now e) new.connection incoming result may once out s)
 calls_of a b c (writes new outgoing bytes out s) = inl (connection.writes new.connection outgoing bytes out s)
 calls_of a b c (reads new bytes s) = inl (connection.reads new.connection bytes s)

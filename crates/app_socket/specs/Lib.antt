@@ -8,3 +8,4 @@ pub mod Segments
 pub mod Runs
 pub mod Promises
 pub mod Rounds
+pub mod Openings

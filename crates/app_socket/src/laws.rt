@@ -5,6 +5,7 @@ ghost use Rattle.app_connection.specs.Arrived.{BothComeAcross};
 ghost use Rattle.app_connection.specs.Endpoints.{OutFits, InFits, len_of};
 ghost use Rattle.app_connection.specs.Runs.{BothRead};
 ghost use Rattle.app_connection.specs.States.{has_peer, state_from};
+ghost use Rattle.app_socket.specs.Openings as openings;
 ghost use Rattle.app_socket.specs.Rounds.{AcknowledgesItems, AreBefore, AreRounds, GoesFurther, IsAllAcknowledged, IsRound, IsWaiting, StandsFor, StillWaits, expires_by};
 ghost use Rattle.app_socket.specs.Runs.{Ends, Runs, ends_of};
 ghost use Rattle.tcp_model.specs.Network.{World, Event as WorldEvent, run, start, stream};
@@ -43,6 +44,11 @@ pub fn silence_ends(
 /// made of such segments, and since then each program wrote less than 2^30 - 1 bytes. A RST may be from anyone.
 pub fn two_sockets_deliver()
     ensures { (p : Ends) → Runs p → BothRead (ends_of p) }
+{}
+
+/// The same in each connection of two programs that open again any number of times.
+pub fn each_opening_delivers()
+    ensures { (p : openings.Programs) → openings.Runs p → (n : ℕ) → BothRead (openings.ends_of p n) }
 {}
 
 /// What is acknowledged has come: if nothing of a program waits, the other one has read all that it wrote, or it waits in the ring
