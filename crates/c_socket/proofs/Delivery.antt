@@ -13,11 +13,12 @@ use Rattle.app_socket.proofs.Delivery as sockets
 use Rattle.app_socket.specs.Fields.{socket_of}
 use Rattle.app_socket.specs.Runs as socket
 use Rattle.app_socket.specs.Segments.{header_of, taken_of}
+use Rattle.app_socket.specs.declared.fields.SocketFields.{SocketFields}
 use Rattle.app_socket.specs.declared.socket.Socket.{Socket}
 use Rattle.app_socket.specs.declared.step.Event.{Event}
 use Rattle.app_socket.specs.declared.step.Event.TheVariants as event
 use Rattle.c_socket.specs.Application.{StoresReset}
-use Rattle.c_socket.specs.Calls.{Stores}
+use Rattle.c_socket.specs.Calls.{Met, Stores}
 use Rattle.c_socket.specs.Runs.{Calls, End, Ends, Runs, aborts, begins, closes, end_of, ends_of, here, listens, meets, others, reads, stored, there, writes}
 use Rattle.c_socket.specs.Segments.{segment_of}
 use Rattle.c_socket.specs.declared.segment.SegmentFields.{SegmentFields}
@@ -48,14 +49,18 @@ steps_reset c d outgoing incoming o q reset s = record {
       record { went = g.went; out = if_some (λ x. x.rst ≡ true) (GoesOut _ _) q (λ x rst. inl rst) reset };
 }
 
+-- a call for an event is a step of the connection
+pub met_steps : (old new : SocketFields) (outgoing before after : List ℕ) (e : Event) (now : ℕ) (out out' : SegmentFields) (code : ℤ) → Met (λ f. f ≡ e) old new outgoing before after now out out' code
+    → Steps (socket_of old).connection (socket_of new).connection outgoing before after (taken_of (socket_of old) now e) (stored code out')
+met_steps old new outgoing before after e now out out' code m =
+    let result : stored code out' ≡ option_map said m.given = stored_given (socket_of new) (length before) now m.given out out' code m.stores in
+    subst (λ (x : Option Said). Steps (socket_of old).connection (socket_of new).connection outgoing before after (taken_of (socket_of old) now e) x) (sym result)
+    (subst (λ (f : Event). Steps (socket_of old).connection (socket_of new).connection outgoing before after (taken_of (socket_of old) now f) (option_map said m.given)) m.is m.steps.steps)
+
 -- a call of C is one of its socket
-calls_of : (a b c : End) → Calls a b c → socket.Calls (end_of a) (end_of b) (end_of c)
+pub calls_of : (a b c : End) → Calls a b c → socket.Calls (end_of a) (end_of b) (end_of c)
 calls_of a b c (meets e now new incoming out out' code may once m) =
-    let s = m.steps in
-    let result : stored code out' ≡ option_map said m.given = stored_given (socket_of new) (length a.incoming) now m.given out out' code m.stores in
-    let steps = subst (λ (x : Option Said). Steps (socket_of a.fields).connection (socket_of new).connection a.outgoing a.incoming incoming (taken_of (socket_of a.fields) now e) x) (sym result)
-    (subst (λ (f : Event). Steps (socket_of a.fields).connection (socket_of new).connection a.outgoing a.incoming incoming (taken_of (socket_of a.fields) now f) (option_map said m.given)) m.is s.steps) in
-    socket.steps now e (socket_of new) incoming (stored code out') may once s.out steps
+    socket.steps now e (socket_of new) incoming (stored code out') may once m.steps.out (met_steps a.fields new a.outgoing a.incoming incoming e now out out' code m)
 calls_of a b c (writes new outgoing bytes count out w) = socket.writes (socket_of new) outgoing (take count bytes) out w.writes
 calls_of a b c (reads new before after count d) =
     let bytes : take count after ≡ d.bytes = ap (λ (l : List ℕ). take count l) d.written ∙ take_at d.bytes (drop count before) count (sym d.are) in

@@ -3,3 +3,4 @@ pub mod Kept
 pub mod Meeting
 pub mod Saying
 pub mod Delivery
+pub mod Openings

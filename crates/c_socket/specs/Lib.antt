@@ -3,3 +3,4 @@ pub mod Segments
 pub mod Calls
 pub mod Application
 pub mod Runs
+pub mod Openings

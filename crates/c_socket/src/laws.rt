@@ -1,10 +1,11 @@
 //! Laws of several calls.
 
-ghost use Rattle.std.specs.Prelude.{◌≡◌};
+ghost use Rattle.std.specs.Prelude.{◌≡◌, ℕ};
 ghost use Rattle.app_connection.specs.Arrived.{BothComeAcross};
 ghost use Rattle.app_connection.specs.Runs.{BothRead};
 ghost use Rattle.app_connection.specs.Worlds.{said};
 ghost use Rattle.app_socket.specs.Runs as socket;
+ghost use Rattle.c_socket.specs.Openings as openings;
 ghost use Rattle.c_socket.specs.Runs.{Ends, Runs, ends_of};
 ghost use Rattle.c_socket.specs.Segments.{fields_of, segment_of};
 
@@ -17,6 +18,11 @@ use app_socket::Header;
 /// of such segments, and since then each program wrote less than 2^30 - 1 bytes. A RST may be from anyone.
 pub fn two_programs_deliver()
     ensures { (p : Ends) → Runs p → BothRead (socket.ends_of (ends_of p)) }
+{}
+
+/// The same in each connection of two programs that open again any number of times.
+pub fn each_opening_delivers()
+    ensures { (p : openings.Programs) → openings.Runs p → (n : ℕ) → BothRead (openings.ends_of p n) }
 {}
 
 /// What is acknowledged has come: if nothing of a program waits, the other one has read all that it wrote, or it waits in the ring
