@@ -131,7 +131,7 @@ static unsigned make_extended(size_t at, size_t most)
 {
     static const uint8_t numbers[] = {0, 44, 43, 51, 60};
     uint8_t first = one_in(3) ? 44 : numbers[below(5)], number = first;
-    size_t count = 1 + below(4), blocks = 1 + below(8), end = at + 8 * blocks;
+    size_t count = 1 + below(4), begin = at, end = at + 8 + 8 * below(6);
     for (;;) {
         uint8_t *header = made.octets + at;
         at += make_extension(header, number);
@@ -144,8 +144,8 @@ static unsigned make_extended(size_t at, size_t most)
         header[0] = (uint8_t)(one_in(24) ? (unsigned)any() : made.upper);
         if (one_in(24))
             made.end = at - below(24); /* the last header ends after the packet */
-        else if (one_in(8) && end < made.end)
-            made.end = end; /* a fragment of whole blocks, in which headers may be missing */
+        else if (first == 44 && (made.octets[begin + 3] & 1) && one_in(2) && end < made.end)
+            made.end = end; /* whole blocks of a fragment that others follow: headers may be missing */
         return first;
     }
 }
