@@ -206,7 +206,7 @@ bench: $(PROGRAM) $(LIBRARY)
 	@bench/bench.py $${REFERENCE_BENCH:+--calls "$$REFERENCE_BENCH"} $(if $(REFERENCE),--program $(REFERENCE))
 
 ifeq ($(UNPROVED),yes)
-$(PROGRAM) $(ARCHIVE): $(SOURCES) $(shell find tools/native -type f)
+$(PROGRAM) $(ARCHIVE): $(SOURCES) $(shell find tools/native -name __pycache__ -prune -o -type f -print)
 	@$(HAS_CARGO)
 	@$(CAN_WRITE)
 	@echo 'compiling $(@F) with cargo, without proofs'
