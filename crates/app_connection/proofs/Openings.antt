@@ -41,5 +41,5 @@ runs_pairs p (begins q here_new there_new) = λ n. new_pair (p.here.ends n) (p.t
 runs_pairs p (here q new run turns) = turns_pairs q.here q.there new turns (runs_pairs q run)
 runs_pairs p (there q new run turns) = λ n. turned (new.ends n) (q.here.ends n) (turns_pairs q.there q.here new turns (λ m. turned (q.here.ends m) (q.there.ends m) (runs_pairs q run m)) n)
 
-pub each_opening_delivers : (p : Programs) → Runs p → (n : ℕ) → BothRead (ends_of p n)
-each_opening_delivers p run n = pair_reads (p.here.ends n) (p.there.ends n) (runs_pairs p run n)
+pub connections_that_open_again_deliver : (p : Programs) → Runs p → (n : ℕ) → BothRead (ends_of p n)
+connections_that_open_again_deliver p run n = pair_reads (p.here.ends n) (p.there.ends n) (runs_pairs p run n)

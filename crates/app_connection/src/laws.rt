@@ -41,13 +41,13 @@ pub fn two_connections_deliver()
 {}
 
 /// The same in each connection of two programs that open again any number of times.
-pub fn each_opening_delivers()
+pub fn connections_that_open_again_deliver()
     ensures { (p : Programs) → openings.Runs p → (n : ℕ) → BothRead (ends_of p n) }
 {}
 
 /// What is acknowledged has come: if nothing of a program waits, the other one has read all that it wrote, or it waits in the ring
 /// to be read. So has the end. The runs are those of `two_connections_deliver`.
-pub fn acknowledged_text_has_come()
+pub fn what_connections_acknowledge_has_come()
     ensures { (p : Ends) → Runs p → BothComeAcross p }
 {}
 

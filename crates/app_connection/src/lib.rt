@@ -8,6 +8,7 @@ mod fields;
 pub mod laws;
 mod segment;
 mod sequence;
+mod set_up;
 mod state;
 mod step;
 

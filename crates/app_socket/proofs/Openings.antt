@@ -36,5 +36,5 @@ runs_of p (begins q here_new there_new) = connection.begins (programs_of p) here
 runs_of p (here q new run turns) = connection.here (programs_of q) (program_of new) (runs_of q run) (turns_of q.here q.there new turns)
 runs_of p (there q new run turns) = connection.there (programs_of q) (program_of new) (runs_of q run) (turns_of q.there q.here new turns)
 
-pub each_opening_delivers : (p : Programs) → Runs p → (n : ℕ) → calls.BothRead (ends_of p n)
-each_opening_delivers p run = connections.each_opening_delivers (programs_of p) (runs_of p run)
+pub sockets_that_open_again_deliver : (p : Programs) → Runs p → (n : ℕ) → calls.BothRead (ends_of p n)
+sockets_that_open_again_deliver p run = connections.connections_that_open_again_deliver (programs_of p) (runs_of p run)

@@ -26,5 +26,5 @@ runs_of p (begins q here_new there_new) = socket.begins (programs_of p) here_new
 runs_of p (here q new run turns) = socket.here (programs_of q) (program_of new) (runs_of q run) (turns_of q.here q.there new turns)
 runs_of p (there q new run turns) = socket.there (programs_of q) (program_of new) (runs_of q run) (turns_of q.there q.here new turns)
 
-pub each_opening_delivers : (p : Programs) → Runs p → (n : ℕ) → BothRead (ends_of p n)
-each_opening_delivers p run = sockets.each_opening_delivers (programs_of p) (runs_of p run)
+pub programs_that_open_again_deliver : (p : Programs) → Runs p → (n : ℕ) → BothRead (ends_of p n)
+programs_that_open_again_deliver p run = sockets.sockets_that_open_again_deliver (programs_of p) (runs_of p run)

@@ -21,13 +21,13 @@ pub fn two_programs_deliver()
 {}
 
 /// The same in each connection of two programs that open again any number of times.
-pub fn each_opening_delivers()
+pub fn programs_that_open_again_deliver()
     ensures { (p : openings.Programs) → openings.Runs p → (n : ℕ) → BothRead (openings.ends_of p n) }
 {}
 
 /// What is acknowledged has come: if nothing of a program waits, the other one has read all that it wrote, or it waits in the ring
 /// to be read. So has the end. The runs are those of `two_programs_deliver`.
-pub fn acknowledged_text_has_come()
+pub fn what_programs_acknowledge_has_come()
     ensures { (p : Ends) → Runs p → BothComeAcross (socket.ends_of (ends_of p)) }
 {}
 
