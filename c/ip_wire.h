@@ -1227,9 +1227,9 @@ size_t lk_expire(struct lk_partial *partials, size_t count, const uint8_t *memor
  *   changed. Not supported: a Home Address option (RFC 6275), whose address the checksum covers instead of the source.
  * - Of the Ethernet header only the EtherType is used. For a frame with VLAN tags give `frame + link.offset - 14`, where
  *   `link` is that of lk_read_link. lk_clamp_mss takes these too.
- * - No packet is copied for this: of any other link type give `packet - 14`, after the EtherType, 0x0800 or 0x86DD, was
- *   written to the two bytes before the packet. So read a TUN device to `buffer + 14`. In a Linux cooked capture
- *   (LINKTYPE_LINUX_SLL) these two bytes have the EtherType.
+ * - A packet without an Ethernet header needs no copy if at least 14 bytes of the same buffer are before it: write the
+ *   EtherType, 0x0800 or 0x86DD, to the two bytes before the packet, and give `packet - 14` and 14 bytes more as `len`. So
+ *   read a TUN device to `buffer + 14`. In a Linux cooked capture (LINKTYPE_LINUX_SLL) these two bytes have the EtherType.
  * - The checksum of TCP or UDP is updated as one that covers the destination in the header. If an IPv4 source route has
  *   hops left, it covers the last address of the route: a new destination then makes a valid one wrong.
  * - Any `side` but LK_SOURCE is the destination.

@@ -43,8 +43,8 @@ static ptrdiff_t write_around(size_t payload_len, uint8_t *out, size_t cap)
 static unsigned udp_checksum(uint8_t *frame, size_t len)
 {
     struct lk_frame f;
-    lk_fill_checksum(frame, len);
-    lk_read_frame(frame, len, &f);
+    if (!lk_fill_checksum(frame, len) || lk_read_frame(frame, len, &f) != LK_READ || f.transport != LK_UDP)
+        return 0;
     return (unsigned)(frame[f.transport_offset + 6] << 8 | frame[f.transport_offset + 7]);
 }
 
@@ -108,6 +108,8 @@ static int replace(uint8_t *frame, size_t len, const char *text)
 /* Adds a VLAN tag (IEEE 802.1Q). `frame` has room for 4 bytes more. Returns the new length. */
 static size_t add_tag(uint8_t *frame, size_t len, unsigned vlan)
 {
+    if (len < 14)
+        return len;
     memmove(frame + 16, frame + 12, len - 12);
     memcpy(frame + 12, (uint8_t[]){0x81, 0, (uint8_t)(vlan >> 8 & 15), (uint8_t)vlan}, 4);
     return len + 4;
@@ -123,12 +125,14 @@ static size_t remove_tags(uint8_t *frame, size_t len)
     return len - (link.offset - 14);
 }
 
-/* Replies to an echo request, if the checksums are right. */
-static ptrdiff_t pong(const uint8_t *frame, size_t len, uint8_t *out, size_t cap)
+/* Replies to an echo request for `own`, if the checksums are right. */
+static ptrdiff_t pong(const struct lk_addr *own, const uint8_t *frame, size_t len, uint8_t *out, size_t cap)
 {
     struct lk_frame f;
     if (lk_read_frame(frame, len, &f) != LK_READ || f.transport != LK_ICMP || f.icmp.type != 8 ||
         f.ipv4_checksum != LK_RIGHT || f.transport_checksum != LK_RIGHT)
+        return 0;
+    if (memcmp(&f.dst.addr, own, sizeof *own) != 0 || !lk_is_unicast(&f.src.addr))
         return 0;
     lk_reply(&f);
     f.icmp.type = 0;
@@ -146,7 +150,17 @@ static ptrdiff_t write_syn(size_t payload_len, uint8_t *out, size_t cap)
     return lk_wrap_tcp_frame(&headers, &options, payload_len, out, cap);
 }
 
-/* Prints the names of the TCP flags. */
+/* Prints the kind of each TCP option, up to the first malformed one. */
+static void print_options(const uint8_t *frame, const struct lk_frame *f)
+{
+    struct lk_tcp_option option = {0, 0, 0};
+    printf("options:");
+    while (lk_next_tcp_option(frame + f->transport_offset, f->tcp.header_len, &option) == 1)
+        printf(" %u", option.kind);
+    printf("\n");
+}
+
+/* Prints the names of the TCP flags, and the options. */
 static void print_flags(const uint8_t *frame, size_t len)
 {
     struct lk_frame f;
@@ -156,6 +170,8 @@ static void print_flags(const uint8_t *frame, size_t len)
         if (f.tcp.flags & flag)
             printf(" %s", lk_tcp_flag_name(flag));
     printf("\n");
+    if (f.transport == LK_TCP)
+        print_options(frame, &f);
 }
 
 /* Writes an echo request for a raw socket (IPPROTO_ICMP), without an IP header. Over IPv4 no address is summed. */
@@ -226,8 +242,8 @@ int main(void)
     judge(frame, 30);
     len = lk_emit_icmp_frame(&echo, (const uint8_t *)"ping", 4, frame, sizeof frame);
     print("echo", frame, len);
-    print("reply", out, pong(frame, (size_t)len, out, sizeof out));
-    print("no room", out, pong(frame, (size_t)len, out, 40));
+    print("reply", out, pong(&before.addr, frame, (size_t)len, out, sizeof out));
+    print("no room", out, pong(&before.addr, frame, (size_t)len, out, 40));
     len = write_syn(0, frame, sizeof frame);
     print("SYN", frame, len);
     print_flags(frame, (size_t)len);
