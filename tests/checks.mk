@@ -12,7 +12,7 @@ check = $(if $(filter $@,$(CHOSEN)),@tests/check $@ '$^' '$(filter $(CHOSEN),$^)
 # Long work that needs no clock takes the processors that the gate leaves idle.
 beside = $(call check,$(if $(ONLY),,nice -n 19 )$(1))
 
-LINT := reference manual statements markdown requirements c_calls definitions layout diagrams speed cases bench one_version abi native_text
+LINT := reference manual statements markdown requirements c_calls definitions layout diagrams speed cases bench one_version licences abi native_text
 UNPROVED := $(shell sed -n 's/^\(test_\w*\):.*/\1/p' crates.txt)
 MODELS := rebuilt model_counts model_faults model_answers
 PROGRAMS := ip_frames ip_calls tcp_steps
@@ -41,8 +41,8 @@ layout:
 	$(call check,tests/gate/layout)
 one_version:
 	$(call check,tests/install/one_version)
-abi:
-	$(call check,tests/install/abi.py)
+abi licences:
+	$(call check,tests/install/$@.py)
 native_text:
 	$(call check,tests/native/text)
 

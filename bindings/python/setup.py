@@ -1,4 +1,5 @@
-"""Puts the C library into the package, and names the platform that it is for. pyproject.toml has the rest."""
+"""Puts the C library and the licences of its parts into the package, and names the platform that it is for. pyproject.toml has
+the rest."""
 import atexit
 import os
 import re
@@ -15,6 +16,7 @@ except ImportError:  # before setuptools 70.1
     from wheel.bdist_wheel import bdist_wheel
 
 FOLDER = os.path.dirname(os.path.abspath(__file__))
+LICENSES = os.path.join(FOLDER, "../../LICENSES")  # of both
 PLACES = ("../../out/lib/libip_wire.so", "../../lib/libip_wire.so")  # of the source tree, of the release archive
 
 
@@ -42,7 +44,9 @@ PATH, SONAME, PLATFORM = library()
 class Build(build_py):
     def run(self):
         super().run()
-        shutil.copyfile(PATH, os.path.join(self.build_lib, "ip_wire", SONAME))
+        package = os.path.join(self.build_lib, "ip_wire")
+        shutil.copyfile(PATH, os.path.join(package, SONAME))
+        shutil.copytree(LICENSES, os.path.join(package, "LICENSES"), dirs_exist_ok=True)
 
 
 class Wheel(bdist_wheel):
@@ -61,7 +65,7 @@ class Binary(Distribution):
 room = tempfile.mkdtemp()
 atexit.register(shutil.rmtree, room, ignore_errors=True)
 setup(
-    license="0BSD",
+    license="0BSD AND MIT",
     distclass=Binary,
     cmdclass={"build_py": Build, "bdist_wheel": Wheel},
     options={"build": {"build_base": room}, "egg_info": {"egg_base": room}},

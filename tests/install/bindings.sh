@@ -67,7 +67,9 @@ packs_a_wheel() {
     PYTHON=$(packer)
     wheel=$(bindings/python/make-wheel "$room/wheel") && (umask 077 && bindings/python/make-wheel "$room/again") &&
         diff -r "$room/wheel" "$room/again" && "$PYTHON" -m zipfile -e "$wheel" "$room/unpacked" &&
-        [ "$(find "$room/unpacked" -name LICENSE -exec cat {} +)" = "$(< LICENSE)" ] && mkdir "$room/described" &&
+        [ "$(find "$room/unpacked" -name LICENSE -exec cat {} +)" = "$(< LICENSE)" ] &&
+        diff -r LICENSES "$room/unpacked/ip_wire/LICENSES" &&
+        grep -qE '^License(-Expression)?: 0BSD AND MIT$' "$room/unpacked"/*.dist-info/METADATA && mkdir "$room/described" &&
         sed '1,/^$/d' "$room/unpacked"/*.dist-info/METADATA > "$room/described/README.md" && [ -s "$room/described/README.md" ] &&
         tests/docs/markdown.py --links "$room/described" || return 1
     glibc=$(objdump -T out/lib/libip_wire.so | grep -o 'GLIBC_[0-9.]*' | sort -Vu | tail -n 1)
