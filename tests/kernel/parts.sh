@@ -69,11 +69,14 @@ hostile() {
 }
 
 part_flood() { hostile flood; }
-part_acks() { hostile acks; }
 part_queue() { hostile queue; }
 part_open() { hostile open; }
 part_retransmitting() { hostile retransmitting; }
 part_full() { hostile full; }
+
+part_acks() {
+    host_on_tap0 "${slowly[@]}" "$checked/host" && tests/kernel/hostile.py acks tap0 "$!" "$slow" && ends_well 'after acknowledgements'
+}
 
 part_timers() {
     local fast=(env LD_PRELOAD="$clock" FAST_CLOCK=100 "$any_order")

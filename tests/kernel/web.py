@@ -147,16 +147,25 @@ def is_answered():
         return False
 
 
+def begun(number):
+    """A connection with the begin of a request, or None if it was reset before that: the server's clock is fast."""
+    try:
+        sock = socket.create_connection((ADDRESSES[number % 2], 80), LATEST)
+    except ConnectionResetError:
+        return None
+    with contextlib.suppress(ConnectionError):
+        sock.sendall(b"GET / HTTP/1.1\r\n"[:number % 3])
+    return sock
+
+
 def slow(factor):
     """The places of requests that are never complete get free."""
     slow_ones = []
     for number in range(PLACES + 8):
-        slow_ones.append(socket.create_connection((ADDRESSES[number % 2], 80), LATEST))
-        with contextlib.suppress(ConnectionError):
-            slow_ones[-1].sendall(b"GET / HTTP/1.1\r\n"[:number % 3])
+        slow_ones.append(begun(number))
         time.sleep(11 / int(factor) / PLACES)
     for sock in slow_ones:
-        check("a slow request", received(sock) is None)
+        check("a slow request", sock is None or received(sock) is None)
     check("a request after slow ones", until(is_answered))
 
 
