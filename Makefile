@@ -222,7 +222,7 @@ $(PROGRAM) $(CALLS) $(ARCHIVE): $(SOURCES)
 	@tools/alone $@ tests/gate/build $(notdir $(@D:/out=)) $(COMMAND)
 endif
 
-$(PAGES): c/pages c/ip_wire.h man/ip_wire.3 $(wildcard examples/*.[ch] examples/*/*.c)
+$(PAGES): c/pages c/ip_wire.h c/proved.txt man/ip_wire.3 $(wildcard examples/*.[ch] examples/*/*.c)
 	@$(CAN_WRITE)
 	@tools/alone $@ $(PYTHON) c/pages $(@D)
 

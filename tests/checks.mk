@@ -12,12 +12,12 @@ check = $(if $(filter $@,$(CHOSEN)),@tests/check $@ '$^' '$(filter $(CHOSEN),$^)
 # Long work that needs no clock takes the processors that the gate leaves idle.
 beside = $(call check,$(if $(ONLY),,nice -n 19 )$(1))
 
-LINT := reference manual statements markdown requirements c_calls definitions layout diagrams speed cases bench one_version licences abi native_text
+LINT := reference manual statements markdown requirements rfc c_calls definitions layout diagrams speed cases bench one_version licences abi native_text
 UNPROVED := $(shell sed -n 's/^\(test_\w*\):.*/\1/p' crates.txt)
 MODELS := rebuilt model_counts model_faults model_answers
 PROGRAMS := ip_frames ip_calls tcp_steps
 OF_PROGRAMS := recorded written failures bad_input compare network linux
-OF_LIBRARY := judge kernel other_stack lwip c_example examples two_borrows peers baseline
+OF_LIBRARY := judge kernel other_stack lwip stack c_example examples two_borrows peers baseline
 OF_BOTH := counts tools dump install deb
 CHECKS := $(LINT) gate library $(PROGRAMS) wrong_bodies $(UNPROVED) $(MODELS) goals native \
 	$(OF_PROGRAMS) $(OF_LIBRARY) $(OF_BOTH) commands dist
@@ -33,7 +33,7 @@ $(filter-out $(LINT),$(CHECKS)): | $(LINT)
 quick: $(QUICK)
 
 # What reads only the sources
-markdown statements requirements c_calls manual definitions diagrams speed reference:
+markdown statements requirements rfc c_calls manual definitions diagrams speed reference:
 	$(call check,tests/docs/$@.py)
 cases bench:
 	$(call check,tests/docs/$@)
@@ -99,6 +99,8 @@ lwip: library
 	$(call check,tests/tcp/lwip)
 c_example examples peers: library
 	$(call check,tests/docs/$@)
+stack: library
+	$(call check,tests/counts/stack.py)
 two_borrows: library
 	$(call check,tests/gate/two_borrows)
 baseline: library

@@ -20,7 +20,7 @@ import tempfile
 from datetime import date, datetime
 
 TOP = os.path.dirname(os.path.dirname(os.path.dirname(os.path.abspath(__file__))))
-SOURCES = ("c/pages", "c/ip_wire.h", "man/ip_wire.3")
+SOURCES = ("c/pages", "c/ip_wire.h", "c/proved.txt", "man/ip_wire.3")
 # The pages that are written by hand, with the files whose changes they show.
 DATED = {"man/ip_wire.3": ["man/ip_wire.3", "c/ip_wire.h"], "man/ip_frames.1": ["man/ip_frames.1"], "man/ip_dump.1": ["man/ip_dump.1"]}
 # Sections of names, declarations and references.

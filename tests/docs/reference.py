@@ -1,10 +1,13 @@
 #!/usr/bin/env python3
-"""Checks the reference: tests/docs/reference.py [TOP]
+"""Checks the reference: tests/docs/reference.py [TOP | --write]
 
 It is made twice, with the same bytes. Its HTML must be well-formed, no name may be twice in a page, and each link must
 lead to a page or name of the reference. Each public call of the libraries and each law must be on a page. LEAST of the
 clauses must be shown in words, and at most UNSAID have none; others have too many. What is wrong is printed, and the status
 is 1 then. TOP is the top of the repository.
+
+c/proved.txt has the promises of the calls of the C library in the words of the reference, for their manual pages. With --write
+it is only made anew.
 """
 import os
 import re
@@ -20,6 +23,7 @@ sys.path.append(MAKER)
 from model import LIBRARIES, VIEW, Sources  # noqa: E402
 
 LEAST, UNSAID = 0.82, 0.01
+PROVED = "c/proved.txt"
 EMPTY = "meta", "link", "input", "br", "hr", "img"
 
 
@@ -105,9 +109,20 @@ def main(top):
     said, unsaid, _ = counts
     faults += [f"only {said} of {sum(counts)} clauses are in words"] if said < LEAST * sum(counts) else []
     faults += [f"{unsaid} of {sum(counts)} clauses have no words"] if unsaid > UNSAID * sum(counts) else []
+    with open(os.path.join(top, PROVED), encoding="utf-8") as file:
+        faults += [f"{PROVED} is not what tests/docs/reference.py --write makes"] if file.read() != texts["proved.txt"] else []
     print("".join(fault + "\n" for fault in faults), end="")
     return 1 if faults else 0
 
 
+def write():
+    """Makes c/proved.txt anew."""
+    with tempfile.TemporaryDirectory() as room:
+        texts, _ = made(TOP, room)
+    with open(os.path.join(TOP, PROVED), "w", encoding="utf-8") as file:
+        file.write(texts["proved.txt"])
+    return 0
+
+
 if __name__ == "__main__":
-    sys.exit(main(os.path.abspath(sys.argv[1]) if len(sys.argv) > 1 else TOP))
+    sys.exit(write() if sys.argv[1:] == ["--write"] else main(os.path.abspath(sys.argv[1]) if len(sys.argv) > 1 else TOP))

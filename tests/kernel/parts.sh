@@ -6,7 +6,7 @@ host=(tap0 "$hardware" 10.77.0.2 fd77::2)
 
 # The parts, those that take longest first. Those of the second list need pairs of virtual Ethernet devices.
 parts=(own_addresses claims edges operation noticed flood router_taps page faulty_bridges icmp_router clock nat_taps timers silent
-    router_sockets bridge host proved_host faults_taps faults_sockets ports lost survive fragments_router icmp_nat icmp_link nat_sockets
+    router_sockets bridge firewall host proved_host faults_taps faults_sockets ports lost survive fragments_router icmp_nat icmp_link nat_sockets
     routes queue segments faults_flood with_one_version acks web fragments_nat fragments_sockets open retransmitting full path deleted limit)
 pair_parts=(claims edges own_addresses page router_sockets nat_sockets fragments_sockets icmp_link icmp_nat faults_sockets clock path)
 
@@ -132,6 +132,22 @@ part_bridge() {
     ip link set left txqueuelen 8 && nsenter --target "$other" --net ip link set right txqueuelen 8 &&
         tests/kernel/bridge.py loss "$other" || return 1
     kill "$bridge" && wait "$bridge" && tail -n 2 "$programs/bridge.out"
+}
+
+# The firewall: TCP passes, packets to blocked addresses are rejected, and wrong frames are dropped
+part_firewall() {
+    local other firewall
+    start_and_wait "$programs/other.out" unshare --net sh -c 'echo ready && exec sleep infinity' || return 1
+    other=$!
+    start_and_wait "$programs/firewall.out" "$checked/firewall" left right 10.78.1.0/24 fd78:1::/64 || return 1
+    firewall=$!
+    ip link set right netns "$other" && ip link set left up && ip address add 10.78.0.1/24 dev left &&
+        ip address add fd78::1/64 dev left nodad && ip route add 10.78.1.0/24 via 10.78.0.2 &&
+        ip route add fd78:1::/64 via fd78::2 || return 1
+    nsenter --target "$other" --net sh -c 'ip link set lo up && ip link set right up &&
+        ip address add 10.78.0.2/24 dev right && ip address add fd78::2/64 dev right nodad' || return 1
+    tests/kernel/bridge.py tcp "$other" left right && tests/kernel/firewall.py left "$programs/firewall.out" || return 1
+    kill "$firewall" && ends "$firewall" 143 'SIGTERM to the firewall'
 }
 
 # The bridge and the proved host, with hostile frames, and with devices that go down or are deleted

@@ -24,7 +24,7 @@ GROUPS = {
     "app_fragment": "Fragments", "app_mld": "Multicast listener discovery", "app_tcp": "TCP streams",
     "app_connection": "TCP connections", "app_congestion": "TCP timers and congestion control",
     "app_options": "TCP options of a connection", "app_socket": "TCP connections with timers",
-    "tcp_model": "TCP over a network",
+    "tcp_model": "TCP over a network", "c_exports": "Calls of the C library",
 }
 # What types come first below a heading, by the end of their names.
 ORDER = "Frame", "Packet", "Header", "Repr", "Address", "Cidr"

@@ -13,6 +13,7 @@ import lists
 from c_pages import c_pages
 from model import Reference
 from pages import Pages
+from proved import proved
 from contracts import ReadError
 
 HERE = os.path.dirname(os.path.abspath(__file__))
@@ -22,6 +23,7 @@ def made(top, sources=None):
     """The text of each page by its name, and the counts by what they count."""
     pages = Pages(Reference(top), sources)
     files = {subject.page: pages.subject(subject) for subject in pages.reference.subjects.values()}
+    files["proved.txt"] = proved(pages)
     files["laws.html"] = lists.laws(pages)
     definitions = list(lists.definition_pages(pages))
     files.update((url, text) for url, text, _ in definitions)

@@ -1,0 +1,147 @@
+#!/usr/bin/env python3
+"""Checks how much stack the calls of the C library take: tests/counts/stack.py [LIBRARY.so] [--print]
+
+The bound of a function is read from its machine code: its return address, all registers that it pushes, all that it takes off
+the stack pointer, and the largest bound of a function to which it calls or jumps. So it holds for every input. The library
+calls nothing by a pointer, has no recursion but in the calls that sort, and no array of a variable length: else this fails. What
+the functions of libc take is not counted. Each call must stay within the bound that `docs/C.md` promises.
+"""
+import os
+import re
+import subprocess
+import sys
+
+TOP = os.path.dirname(os.path.dirname(os.path.dirname(os.path.abspath(__file__))))
+SORTS = {"lk_index_routes", "lk_make_route_table"}
+PROMISE = re.compile(r"at most ([\d,]+) bytes of stack")
+LIBC = {"memcpy", "memmove", "memset", "memcmp", "bcmp", "abort"}  # what rustc makes may abort
+CODE = re.compile(r"^ *([0-9a-f]+):\t(?:(?:cs|data16|notrack|bnd) )*(\w+) *(.*)$")
+START = re.compile(r"^([0-9a-f]+) <(.+)>:$")
+TARGET = re.compile(r"^([0-9a-f]+) <([^>+]+)")
+OUTSIDE = re.compile(r"(?:^| # )[0-9a-f]+ <(\w+)@")
+
+
+RELATIVE = re.compile(r"^([0-9a-f]+) .* R_X86_64_RELATIVE +([0-9a-f]+)$", re.M)
+BY_SLOT = re.compile(r"# ([0-9a-f]+) <_GLOBAL_OFFSET_TABLE_")
+
+
+class Fault(Exception):
+    pass
+
+
+class Recursion(Fault):
+    pass
+
+
+def output_of(*command):
+    return subprocess.run(command, check=True, stdout=subprocess.PIPE, universal_newlines=True).stdout
+
+
+def functions(library):
+    """The instructions of each function: pairs of an operation and its operands, by the name and the address of the function."""
+    slots = {int(slot, 16): int(place, 16) for slot, place in RELATIVE.findall(output_of("readelf", "-rW", library))}
+    found, names, name = {}, {}, None
+    for line in output_of("objdump", "-d", "--no-show-raw-insn", library).splitlines():
+        start, code = START.match(line), CODE.match(line)
+        if start:
+            name = f"{start[2]} at {start[1]}"
+            found[name], names[int(start[1], 16)] = [], start[2]
+        elif code:
+            found[name].append((code[2], code[3]))
+    for name, code in found.items():
+        for i, (operation, operands) in enumerate(code):
+            slot = BY_SLOT.search(operands)
+            place = slot and slots.get(int(slot[1], 16))
+            if place in names:
+                code[i] = operation, f"{place:x} <{names[place]}>"
+    return found
+
+
+def number(text):
+    return int(text, 16)
+
+
+def own_bytes(name, code):
+    """The most bytes that a function takes by itself, with its return address."""
+    total = 8
+    for operation, operands in code:
+        if operation.startswith("push"):
+            total += 8
+        elif operation == "sub" and operands.endswith(",%rsp"):
+            taken = re.match(r"\$0x([0-9a-f]+),", operands)
+            if not taken:
+                raise Fault(f"{name}: takes a variable number of bytes: sub {operands}")
+            total += number(taken[1]) if len(taken[1]) < 9 else 0  # 2^64 less a number adds it
+        elif operation == "add" and re.match(r"\$0xf{8,}[0-9a-f]+,%rsp", operands):
+            total += 2**64 - number(operands[3:].split(",")[0])
+        elif operation == "and" and operands.endswith(",%rsp"):
+            total += 2**64 - number(operands[3:].split(",")[0])
+        elif operation == "lea" and operands.endswith(",%rsp") and re.match(r"-0x([0-9a-f]+)\(%rsp\)", operands):
+            total += number(re.match(r"-0x([0-9a-f]+)", operands)[1])
+    return total
+
+
+def callees(name, code, names):
+    """The functions to which a function calls or jumps."""
+    for operation, operands in code:
+        if operation not in ("call", "callq") and not operation.startswith("j"):
+            continue
+        target, outside = TARGET.match(operands), OUTSIDE.search(operands)
+        if outside and outside[1] in LIBC:
+            continue
+        if outside or target is None and operation.startswith("call"):
+            raise Fault(f"{name}: calls {operands}")
+        if target is None:
+            continue  # a table of jumps within the function
+        called = f"{target[2]} at {target[1].zfill(16)}"
+        if called in names and (called != name or operation.startswith("call")):
+            yield called
+        elif operation.startswith("call"):
+            raise Fault(f"{name}: calls {operands}, which is no function")
+
+
+def bounds(code):
+    """The most bytes of stack that each function takes, with those that it calls."""
+    known, open_, found = {}, [], {}
+
+    def bound(name):
+        if name in open_:
+            raise Recursion(f"{name}: calls itself by {open_[-1]}")
+        if name not in known:
+            open_.append(name)
+            below = [bound(other) for other in callees(name, code[name], code)]
+            known[name] = own_bytes(name, code[name]) + max(below, default=0)
+            open_.pop()
+        return known[name]
+
+    for name in filter(re.compile("lk_").match, code):
+        call = name.split(" at ")[0]
+        try:
+            found[call] = bound(name)
+        except Recursion:
+            if call not in SORTS:
+                raise
+            open_.clear()
+    return found
+
+
+def main(words):
+    library = next((word for word in words if word != "--print"), os.path.join(TOP, "out/lib/libip_wire.so"))
+    with open(os.path.join(TOP, "docs/C.md"), encoding="utf-8") as page:
+        promise = int(PROMISE.search(page.read())[1].replace(",", ""))
+    try:
+        found = bounds(functions(library))
+    except Fault as fault:
+        print(f"tests/counts/stack.py: {fault}")
+        return 1
+    order = sorted(found.items(), key=lambda pair: (-pair[1], pair[0]))
+    if "--print" in words:
+        print("".join(f"{taken:6} {name}\n" for name, taken in order), end="")
+    over = [f"{name} takes {taken} bytes of stack, and docs/C.md promises {promise}\n" for name, taken in order if taken > promise]
+    print("".join(over), end="")
+    print(f"{len(found)} calls, at most {order[0][1]} bytes of stack ({order[0][0]})")
+    return 1 if over or not found else 0
+
+
+if __name__ == "__main__":
+    sys.exit(main(sys.argv[1:]))
