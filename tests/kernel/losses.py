@@ -44,21 +44,27 @@ def segments_to(wire, seconds, is_enough):
     return found, took
 
 
-def many_syns(wire):
+def many_syns(wire, slow):
     """More SYNs than the host keeps connections. Each gets SYN and ACK, and the last 63 get it again after 1, 3 and 7 seconds.
     A connection that was open stays so, and a later one works."""
+    every = range(SYN_CLIENT, SYN_CLIENT + 200)
+    kept = every[-63:]
+
     def answered(found):
-        return [port for port, _, flags, _ in found if flags == SYN | ACK]
+        return [port for port, _, flags, _ in found if flags == SYN | ACK and port in every]
 
     with socket.create_connection(HOSTS[0][2:] + (ECHO,), timeout=LATEST) as sock:
         begin = time.monotonic()
-        for n in range(200):
-            wire.sock.send(wire.frame(TCP, segment(SYN_CLIENT + n, random.randrange(2**32), 0, SYN)))
-        found, _ = segments_to(wire, 1.8, lambda found: len(answered(found)) >= 200 + 63)
-        ports, most = answered(found), int(time.monotonic() - begin + 1).bit_length()
-        for n in range(200):
-            count = ports.count(SYN_CLIENT + n)
-            check("SYN of many", 2 <= count <= most if n >= 200 - 63 else count == 1, (n, count, most))
+        with slowly(slow):  # so that it sends nothing again before the last SYN comes
+            for port in every:
+                wire.sock.send(wire.frame(TCP, segment(port, random.randrange(2**32), 0, SYN)))
+            first, _ = segments_to(wire, 0, lambda found: len(answered(found)) >= len(every))
+        check("many SYNs", answered(first) == [*every], answered(first))
+        again, _ = segments_to(wire, 1.8, lambda found: {*kept} <= {*answered(found)})
+        ports, most = answered(again), int(time.monotonic() - begin + 1).bit_length() - 1
+        for port in every:
+            count = ports.count(port)
+            check("SYN of many", 1 <= count <= most if port in kept else count == 0, (port, count, most))
         sock.sendall(b"still open")
         check("TCP open during many SYNs", received(sock) == b"still open")
     for _ in range(3):
@@ -68,7 +74,7 @@ def many_syns(wire):
 def silent_peer(device, slow):
     """What the host sends again to a peer of an address that the kernel does not have."""
     wire = Wire(device, HOSTS[0][0], "10.77.0.99", HOSTS[0][2], False)
-    many_syns(wire)
+    many_syns(wire, slow)
     _, seq, _, _ = segment_in(wire.answer(wire.frame(TCP, segment(TCP_CLIENT, 0, 0, SYN))) or bytes(54))
     time.sleep(0.2)
 
