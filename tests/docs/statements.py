@@ -180,6 +180,9 @@ def differences(old, new):
         if fact.kind == "export" and fact.owner not in new.crates:
             # Its crate was joined with another one.
             places = [("export", crate, *fact[2:4]) for crate in new.crates]
+        if fact.kind == "fn":
+            # A call that is `const` now can be made wherever it could be made before.
+            places.append((*fact[:3], re.sub(rf"\bfn (?={fact.name}\b)", "const fn ", fact.text, count=1)))
         found = next((it for key in places for it in left[key] if is_same(old, new, fact.meanings, it.meanings)), None)
         if found:
             left[found[:4]].remove(found)

@@ -35,11 +35,6 @@ RULES = [
     ("assert", r"(?<== )prove(?= ! \()", "assert"),
     ("hash", r"\buse std : : hash : : \{ DefaultHasher , Hasher \} ;", "use crate : : native : : DefaultHasher ;"),
     ("text", r"\bunsafe \{ str : : from_utf8_unchecked \( (\w+) \) \}", r"crate : : native : : ascii ( \1 )"),
-    (
-        "const",
-        r"\bIpv6Address : : from \( \[ a , b , c , d , e , f , g , h \] \)",
-        "Ipv6Address : : from_octets ( [ %s] )" % "".join(f"( {x} > > 8 ) as u8 , ( {x} & 0 xff ) as u8 , " for x in "abcdefgh"),
-    ),
     ("vectors", r"\buse std : : simd : : prelude : : \* ; ", ""),
     ("vectors", r"\bby_vectors \( bytes \)", "by_words ( bytes , tail ( bytes ) )"),
     ("slice", r"\buse std : : slice : : from_raw_parts_mut ; ", ""),

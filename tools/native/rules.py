@@ -63,7 +63,7 @@ PROGRAM_RULES = [
 ]
 # Functions over `std::simd`, which are left out with their comments.
 VECTORS = {"wire_checksum/src/totals.rt": ["by_vectors", "lanes", "by_lanes"]}
-# Whole lines of one file, and what is written instead. A constant cannot call `From::from`.
+# Whole lines of one file, and what is written instead.
 BLOCKS = {
     "ip_frames/src/main.rt": [(["#[cfg(test)]", "mod tests;"], [])],
     # Here the buffer does so itself.
@@ -81,14 +81,6 @@ BLOCKS = {
 }
 """.split("\n"),
             [],
-        )
-    ],
-    "wire_addr/src/ipv6_address.rt": [
-        (
-            ["        Ipv6Address::from([a, b, c, d, e, f, g, h])"],
-            ["        Ipv6Address::from_octets(["]
-            + [f"            ({group} {half}) as u8," for group in "abcdefgh" for half in (">> 8", "& 0xff")]
-            + ["        ])"],
         )
     ],
     "wire_checksum/src/totals.rt": [(["use std::simd::prelude::*;", ""], [])],

@@ -63,7 +63,7 @@ impl HardwareAddress {
     }
 
     /// The medium of the address.
-    pub fn medium(&self) -> Medium
+    pub const fn medium(&self) -> Medium
         ensures { result ≡ medium_of self.now }
     {
         match self {

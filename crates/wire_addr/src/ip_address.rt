@@ -50,7 +50,7 @@ impl IpAddress {
     }
 
     /// The version of the address.
-    pub fn version(&self) -> IpVersion
+    pub const fn version(&self) -> IpVersion
         ensures { result ≡ version_of self.now }
     {
         match *self {

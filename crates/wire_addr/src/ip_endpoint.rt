@@ -24,7 +24,7 @@ pub struct IpEndpoint {
 
 impl IpEndpoint {
     /// The endpoint at this address and port.
-    pub fn new(addr: IpAddress, port: u16) -> IpEndpoint
+    pub const fn new(addr: IpAddress, port: u16) -> IpEndpoint
         ensures { result ≡ endpoint_at addr port }
     {
         IpEndpoint { addr, port }

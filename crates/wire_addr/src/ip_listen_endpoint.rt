@@ -20,10 +20,10 @@ pub struct IpListenEndpoint {
 
 impl IpListenEndpoint {
     /// Returns `true` if an address is given and the port is not 0.
-    pub fn is_specified(&self) -> bool
+    pub const fn is_specified(&self) -> bool
         ensures { IsTrue result ↔ IsSpecified self.now }
     {
-        self.addr.is_some() && self.port != 0
+        matches!(self.addr, Some(_)) && self.port != 0
     }
 }
 

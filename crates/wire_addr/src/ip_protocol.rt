@@ -29,7 +29,7 @@ pub enum IpProtocol {
 impl IpProtocol {
     /// The number in the header field "protocol" or "next header".
     #[inline(always)]
-    pub fn number(self) -> u8
+    pub const fn number(self) -> u8
         ensures { result ≡ number_of self }
     {
         match self {

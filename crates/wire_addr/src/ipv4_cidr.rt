@@ -40,7 +40,7 @@ impl Model for Ipv4Cidr {
 impl Ipv4Cidr {
     /// The block of all addresses with the same first `prefix_len` bits as this one.
     #[inline]
-    pub fn new(address: Ipv4Address, prefix_len: u8) -> Ipv4Cidr
+    pub const fn new(address: Ipv4Address, prefix_len: u8) -> Ipv4Cidr
         requires { prefix_len ≤ 32 }
         ensures { result ≡ record { address = address; prefix_len = prefix_len } }
     {
@@ -73,7 +73,7 @@ impl Ipv4Cidr {
 
     /// The address from which the block was made.
     #[inline]
-    pub fn address(&self) -> Ipv4Address
+    pub const fn address(&self) -> Ipv4Address
         ensures value { result ≡ self.now.address }
         ensures octets { IsByteArray 4 result }
     {
@@ -82,7 +82,7 @@ impl Ipv4Cidr {
 
     /// The prefix length: the number of bits that all addresses of the block share.
     #[inline]
-    pub fn prefix_len(&self) -> u8
+    pub const fn prefix_len(&self) -> u8
         ensures value { result ≡ self.now.prefix_len }
         ensures within { result ≤ 32 }
     {

@@ -75,21 +75,38 @@ impl Ipv6Address {
     ]);
 
     /// The address `a:b:c:d:e:f:g:h`.
-    pub fn new(a: u16, b: u16, c: u16, d: u16, e: u16, f: u16, g: u16, h: u16) -> Ipv6Address
+    pub const fn new(a: u16, b: u16, c: u16, d: u16, e: u16, f: u16, g: u16, h: u16) -> Ipv6Address
         ensures { result ≡ address_bytes (a ∷ b ∷ c ∷ d ∷ e ∷ f ∷ g ∷ h ∷ []) }
     {
-        Ipv6Address::from([a, b, c, d, e, f, g, h])
+        Ipv6Address::from_octets([
+            (a >> 8) as u8,
+            (a & 0xff) as u8,
+            (b >> 8) as u8,
+            (b & 0xff) as u8,
+            (c >> 8) as u8,
+            (c & 0xff) as u8,
+            (d >> 8) as u8,
+            (d & 0xff) as u8,
+            (e >> 8) as u8,
+            (e & 0xff) as u8,
+            (f >> 8) as u8,
+            (f & 0xff) as u8,
+            (g >> 8) as u8,
+            (g & 0xff) as u8,
+            (h >> 8) as u8,
+            (h & 0xff) as u8,
+        ])
     }
 
     /// The address with these bytes.
-    pub fn from_octets(octets: [u8; 16]) -> Ipv6Address
+    pub const fn from_octets(octets: [u8; 16]) -> Ipv6Address
         ensures { result ≡ octets }
     {
         Ipv6Address(octets)
     }
 
     /// The sixteen bytes.
-    pub fn octets(&self) -> [u8; 16]
+    pub const fn octets(&self) -> [u8; 16]
         ensures { result ≡ self.now }
     {
         self.0

@@ -52,7 +52,7 @@ impl Ipv6Cidr {
 
     /// The block of all addresses with the same first `prefix_len` bits as this one.
     #[inline]
-    pub fn new(address: Ipv6Address, prefix_len: u8) -> Ipv6Cidr
+    pub const fn new(address: Ipv6Address, prefix_len: u8) -> Ipv6Cidr
         requires { prefix_len ≤ 128 }
         ensures { result ≡ record { address = address; prefix_len = prefix_len } }
     {
@@ -86,7 +86,7 @@ impl Ipv6Cidr {
 
     /// The address from which the block was made.
     #[inline]
-    pub fn address(&self) -> Ipv6Address
+    pub const fn address(&self) -> Ipv6Address
         ensures value { result ≡ self.now.address }
         ensures octets { IsByteArray 16 result }
     {
@@ -95,7 +95,7 @@ impl Ipv6Cidr {
 
     /// The prefix length: the number of bits that all addresses of the block share.
     #[inline]
-    pub fn prefix_len(&self) -> u8
+    pub const fn prefix_len(&self) -> u8
         ensures value { result ≡ self.now.prefix_len }
         ensures within { result ≤ 128 }
     {

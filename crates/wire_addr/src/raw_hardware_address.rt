@@ -64,7 +64,7 @@ impl RawHardwareAddress {
     }
 
     /// Returns `true` if there are no bytes.
-    pub fn is_empty(&self) -> bool
+    pub const fn is_empty(&self) -> bool
         ensures { IsTrue result ↔ (self.now ≡ []) }
     {
         self.len == 0
