@@ -164,7 +164,8 @@ def own_files():
     yield pathlib.Path("LICENSE"), (TOP / "LICENSE").read_text()
     for path in sorted((TOP / "examples" / "native").iterdir()):
         yield pathlib.Path("examples") / path.name, path.read_text()
-    yield pathlib.Path("tests/names.rs"), (TOP / "tests" / "native" / "names.rs").read_text()
+    for path in (TOP / "tests" / "native").glob("*.rs"):
+        yield pathlib.Path("tests") / path.name, path.read_text()
     if all(list(REGISTRY.glob(f"{name}-[0-9]*")) for name in DEPENDENCIES):
         yield pathlib.Path(".cargo/config.toml"), DEBIAN
 
