@@ -1,4 +1,5 @@
-"""The conditions of each public call as doc lines: what `requires` says, in the words of the reference (`tools/reference`)."""
+"""The conditions of each public call and operator as doc lines: what `requires` says, in the words of the reference
+(`tools/reference`), and `can_add` and the like as they are written."""
 import html
 import pathlib
 import re
@@ -28,6 +29,15 @@ def lines_of(pages, call):
         yield from textwrap.wrap(text, 100, initial_indent="/// - ", subsequent_indent="///   ", break_on_hyphens=False)
 
 
+def operator_lines(block):
+    """Of the `impl` of an operator: `n < 2 ^ 31` in `a + n`."""
+    for item in block.items:
+        if item.kind == "ghost" and item.name in lists.OPERATORS:
+            names, _, clause = item.text.partition(" = ")[2][1:-1].strip().removeprefix("λ ").partition(". ")
+            left, right = names.split()
+            yield from ("///", "/// # Requires", "///", f"/// - `{clause}` in `{left} {lists.OPERATORS[item.name]} {right}`.")
+
+
 def calls(crate):
     """The public functions, but for laws."""
     for module in crate.modules.values():
@@ -38,7 +48,14 @@ def calls(crate):
 
 
 def doc_lines():
-    """The doc lines of each call with a condition, by its file and line."""
+    """The doc lines of each call and operator with a condition, by its file and line."""
     pages = Pages(Reference(str(TOP)))
-    found = ((call, list(lines_of(pages, call))) for crate in pages.reference.sources.crates.values() for call in calls(crate))
-    return {(call.module.file, call.item.line): lines for call, lines in found if lines}
+    found = {}
+    for crate in pages.reference.sources.crates.values():
+        for call in calls(crate):
+            found[call.module.file, call.item.line] = list(lines_of(pages, call))
+        for module in crate.modules.values():
+            for block in module.items:
+                if block.kind == "impl":
+                    found[module.file, block.line] = list(operator_lines(block))
+    return {place: lines for place, lines in found.items() if lines}
