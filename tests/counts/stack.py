@@ -17,10 +17,8 @@ PROMISE = re.compile(r"at most ([\d,]+) bytes of stack")
 LIBC = {"memcpy", "memmove", "memset", "memcmp", "bcmp", "abort"}  # what rustc makes may abort
 CODE = re.compile(r"^ *([0-9a-f]+):\t(?:(?:cs|data16|notrack|bnd) )*(\w+) *(.*)$")
 START = re.compile(r"^([0-9a-f]+) <(.+)>:$")
-TARGET = re.compile(r"^([0-9a-f]+) <([^>+]+)")
+TARGET = re.compile(r"^([0-9a-f]+) <")
 OUTSIDE = re.compile(r"(?:^| # )[0-9a-f]+ <(\w+)@")
-
-
 RELATIVE = re.compile(r"^([0-9a-f]+) .* R_X86_64_RELATIVE +([0-9a-f]+)$", re.M)
 BY_SLOT = re.compile(r"# ([0-9a-f]+) <_GLOBAL_OFFSET_TABLE_")
 
@@ -37,23 +35,26 @@ def output_of(*command):
     return subprocess.run(command, check=True, stdout=subprocess.PIPE, universal_newlines=True).stdout
 
 
+class Function:
+    """A function: its name, the addresses of its instructions, and of each the operation and the operands."""
+
+    def __init__(self, name):
+        self.name, self.places, self.code = name, set(), []
+
+
 def functions(library):
-    """The instructions of each function: pairs of an operation and its operands, by the name and the address of the function."""
-    slots = {int(slot, 16): int(place, 16) for slot, place in RELATIVE.findall(output_of("readelf", "-rW", library))}
-    found, names, name = {}, {}, None
+    """The functions of a library by their addresses. A call by a slot of the table of addresses has its target as operand."""
+    slots = {int(slot, 16): place for slot, place in RELATIVE.findall(output_of("readelf", "-rW", library))}
+    found, function = {}, None
     for line in output_of("objdump", "-d", "--no-show-raw-insn", library).splitlines():
         start, code = START.match(line), CODE.match(line)
         if start:
-            name = f"{start[2]} at {start[1]}"
-            found[name], names[int(start[1], 16)] = [], start[2]
+            function = found[int(start[1], 16)] = Function(start[2])
         elif code:
-            found[name].append((code[2], code[3]))
-    for name, code in found.items():
-        for i, (operation, operands) in enumerate(code):
-            slot = BY_SLOT.search(operands)
+            slot = BY_SLOT.search(code[3])
             place = slot and slots.get(int(slot[1], 16))
-            if place in names:
-                code[i] = operation, f"{place:x} <{names[place]}>"
+            function.places.add(int(code[1], 16))
+            function.code.append((code[2], f"{place} <by a slot>" if place else code[3]))
     return found
 
 
@@ -61,16 +62,16 @@ def number(text):
     return int(text, 16)
 
 
-def own_bytes(name, code):
+def own_bytes(function):
     """The most bytes that a function takes by itself, with its return address."""
     total = 8
-    for operation, operands in code:
+    for operation, operands in function.code:
         if operation.startswith("push"):
             total += 8
         elif operation == "sub" and operands.endswith(",%rsp"):
             taken = re.match(r"\$0x([0-9a-f]+),", operands)
             if not taken:
-                raise Fault(f"{name}: takes a variable number of bytes: sub {operands}")
+                raise Fault(f"{function.name}: takes a variable number of bytes: sub {operands}")
             total += number(taken[1]) if len(taken[1]) < 9 else 0  # 2^64 less a number adds it
         elif operation == "add" and re.match(r"\$0xf{8,}[0-9a-f]+,%rsp", operands):
             total += 2**64 - number(operands[3:].split(",")[0])
@@ -81,47 +82,44 @@ def own_bytes(name, code):
     return total
 
 
-def callees(name, code, names):
-    """The functions to which a function calls or jumps."""
-    for operation, operands in code:
-        if operation not in ("call", "callq") and not operation.startswith("j"):
+def callees(function, known):
+    """The addresses of the functions to which a function calls or jumps."""
+    for operation, operands in function.code:
+        is_call = operation.startswith("call")
+        if not is_call and not operation.startswith("j"):
             continue
         target, outside = TARGET.match(operands), OUTSIDE.search(operands)
+        place = target and int(target[1], 16)
         if outside and outside[1] in LIBC:
             continue
-        if outside or target is None and operation.startswith("call"):
-            raise Fault(f"{name}: calls {operands}")
-        if target is None:
-            continue  # a table of jumps within the function
-        called = f"{target[2]} at {target[1].zfill(16)}"
-        if called in names and (called != name or operation.startswith("call")):
-            yield called
-        elif operation.startswith("call"):
-            raise Fault(f"{name}: calls {operands}, which is no function")
+        if place in known and (is_call or place not in function.places):
+            yield place
+        elif is_call or outside or target and place not in function.places:
+            raise Fault(f"{function.name}: {operation} {operands}")
 
 
 def bounds(code):
-    """The most bytes of stack that each function takes, with those that it calls."""
+    """The most bytes of stack that each call of the library takes, with the functions that it calls."""
     known, open_, found = {}, [], {}
 
-    def bound(name):
-        if name in open_:
-            raise Recursion(f"{name}: calls itself by {open_[-1]}")
-        if name not in known:
-            open_.append(name)
-            below = [bound(other) for other in callees(name, code[name], code)]
-            known[name] = own_bytes(name, code[name]) + max(below, default=0)
+    def bound(place):
+        if place in open_:
+            raise Recursion(f"{code[place].name}: calls itself by {code[open_[-1]].name}")
+        if place not in known:
+            open_.append(place)
+            below = [bound(other) for other in callees(code[place], code)]
+            known[place] = own_bytes(code[place]) + max(below, default=0)
             open_.pop()
-        return known[name]
+        return known[place]
 
-    for name in filter(re.compile("lk_").match, code):
-        call = name.split(" at ")[0]
-        try:
-            found[call] = bound(name)
-        except Recursion:
-            if call not in SORTS:
-                raise
-            open_.clear()
+    for place, function in code.items():
+        if function.name.startswith("lk_"):
+            try:
+                found[function.name] = bound(place)
+            except Recursion:
+                if function.name not in SORTS:
+                    raise
+                open_.clear()
     return found
 
 
