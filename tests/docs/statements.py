@@ -9,9 +9,8 @@ comments, bodies or proofs, and no private item that nothing of this names. A la
 with its body, because it promises something of what the body does. So is each function of promises and promises_c, private
 ones too. An imported name is the same as long as what it means is the same.
 
-With a commit it prints all that differs. Without one it compares with the commit that a paragraph in the first part of
-CHANGELOG.md names by `make statements SINCE=COMMIT`. What is gone since, or asks for more, must be named in this paragraph as
-`NAME` or `TYPE::NAME`. The rest is printed, and the status is 1 then. So it is if the commit lacks a crate: what this crate
+With a commit it prints all that differs. Without one it compares with the commit that tests/data/statements.txt names by
+`make statements SINCE=COMMIT`. What is gone since, or asks for more, must be named in this file as `NAME` or `TYPE::NAME`. The rest is printed, and the status is 1 then. So it is if the commit lacks a crate: what this crate
 states would be compared with nothing. What only moved into a new crate is compared with what it was. The commit must be one
 before this one. Without a history, as in an archive or a shallow copy, the status is 77.
 """
@@ -29,9 +28,9 @@ sys.path.append(os.path.join(TOP, "tools"))
 from contracts import ReadError  # noqa: E402
 from sources import Sources, words_of  # noqa: E402
 
-UNRELEASED = re.compile(r"^## [\d.]+ \(not released\)\n(.*?)(?=^## |\Z)", re.M | re.S)
-# The paragraph of the comparison, and the commit that it names.
-SINCE = re.compile(r"^(?:.+\n)*?.*`make statements SINCE=(\S+)`.*\n(?:.+\n)*", re.M)
+# The names that are exempt, and the commit of the comparison.
+TOLD = "tests/data/statements.txt"
+SINCE = re.compile(r"`make statements SINCE=(\S+)`")
 # The crates whose functions promise something of what their bodies do, beside the laws.
 PROMISES = {"promises", "promises_c"}
 # Attributes that change no statement.
@@ -237,13 +236,13 @@ def sources_of(commit):
 
 
 def told_since():
-    """The commit with which CHANGELOG.md compares, and the names that it tells of since."""
-    with open(os.path.join(TOP, "CHANGELOG.md"), encoding="utf-8") as file:
-        part = UNRELEASED.search(file.read())
-    since = part and SINCE.search(part[1])
+    """The commit with which TOLD compares, and the names that it tells of since."""
+    with open(os.path.join(TOP, TOLD), encoding="utf-8") as file:
+        text = file.read()
+    since = SINCE.search(text)
     if not since:
-        sys.exit('CHANGELOG.md: its part on what is not released does not say with which commit the statements are compared')
-    return since[1], set(re.findall(r"`([\w:]+)`", since[0]))
+        sys.exit(f"{TOLD} does not say with which commit the statements are compared")
+    return since[1], set(re.findall(r"`([\w:]+)`", text))
 
 
 def check(since, told):
@@ -253,16 +252,16 @@ def check(since, told):
         print(f"tests/docs/statements.py: skipped: there is no history here, so no commit {since}")
         return 77
     if not old or git("merge-base", "--is-ancestor", since, "HEAD").returncode:
-        print(f"CHANGELOG.md: SINCE={since} is no commit before this one")
+        print(f"{TOLD}: SINCE={since} is no commit before this one")
         return 1
     gone, added = differences(old, new)
     found = [f"{how}: {shown(fact)}" for how, fact in narrowed(old, new, gone, added) if not is_told(fact, told)]
     print("".join(line + "\n" for line in found), end="")
     if found:
-        print(f"CHANGELOG.md does not name these beside SINCE={since}: they were stated otherwise then")
+        print(f"{TOLD} does not name these beside SINCE={since}: they were stated otherwise then")
     fresh = list(uncompared(old, new, added))
     if fresh:
-        print(f"CHANGELOG.md: SINCE={since} lacks these crates. Name a commit that has them, so that their statements")
+        print(f"{TOLD}: SINCE={since} lacks these crates. Name a commit that has them, so that their statements")
         print(f"are compared too: {', '.join(fresh)}")
     return 1 if found or fresh else 0
 
