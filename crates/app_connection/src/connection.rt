@@ -328,6 +328,7 @@ impl Connection {
         ensures nothing { self.old.phase ≡ Open → count_of self.old.sending ≡ 0 → result ≡ None }
         ensures items { self.old.phase ≡ Open → IfSome result (λ s. 0 < len_of s) }
         ensures inner { self.old.phase ≡ Open → IfSome result (λ s. length s.payload.now ≤ length outgoing.now) }
+        ensures rst { IfSome result (λ s. s.rst ≡ false) }
         ensures flight { self.old.phase ≡ Open → IfSome result (λ s. self.new.sending.flight
             ≡ max self.old.sending.flight (from_of self.old.sending offset + length
             (items_of s.syn s.payload.now s.fin))) }
@@ -396,6 +397,7 @@ impl Connection {
         ensures none { result ≡ None → self.new ≡ self.old }
         ensures items { IfSome result (λ s. 0 < len_of s) }
         ensures inner { IfSome result (λ s. length s.payload.now ≤ length outgoing.now) }
+        ensures rst { IfSome result (λ s. s.rst ≡ false) }
         ensures flight { IfSome result (λ s. self.new.sending.flight ≡ max self.old.sending.flight
             (from_of self.old.sending offset + length (items_of s.syn s.payload.now s.fin))) }
         ensures reach { IfSome result

@@ -5,3 +5,8 @@ pub mod Openings
 pub mod Rounds
 pub mod StaysOpen
 pub mod ManyRounds
+pub mod Growing
+pub mod Arriving
+pub mod Calling
+pub mod Answering
+pub mod Sending

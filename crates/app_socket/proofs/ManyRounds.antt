@@ -51,7 +51,7 @@ count_is c b start len =
     omega (arith, long, length-append (syn_of c.has_syn) (rest_of c b), length-append (map Byte bytes) (end_of c.has_fin), length-map bytes Byte)
 
 -- those that are not acknowledged
-counted : (w : World) (c : Sending) (b : List ℕ) → OutFits c (length b) → Waits w c b → w.acked + count_of c ≡ length (stream w.written w.closed)
+pub counted : (w : World) (c : Sending) (b : List ℕ) → OutFits c (length b) → Waits w c b → w.acked + count_of c ≡ length (stream w.written w.closed)
 counted w c b fits waits =
     let left : length (stream w.written w.closed) - w.acked ≡ length (pending c b) = sym (length-drop w.acked (stream w.written w.closed)) ∙ ap length waits.held in
     omega (arith, left, count_is c b fits.start fits.len, waits.within, waits.flight)
@@ -64,7 +64,7 @@ syn_few true = omega arith
 syn_few false = omega arith
 
 -- what is in flight waits, and is at most a ring
-flight_few : (w : World) (c : Sending) (b : List ℕ) → OutFits c (length b) → Waits w c b → (c.flight ≤ count_of c) × (c.flight ≤ 2147483648)
+pub flight_few : (w : World) (c : Sending) (b : List ℕ) → OutFits c (length b) → Waits w c b → (c.flight ≤ count_of c) × (c.flight ≤ 2147483648)
 flight_few w c b fits waits =
     let all = counted w c b fits waits in
     (omega (arith, all, waits.flight, waits.within), omega (arith, all, waits.flight, waits.within, fits.len, fits.small, syn_few c.has_syn, short_end c.has_fin))

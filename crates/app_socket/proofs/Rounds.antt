@@ -29,7 +29,7 @@ count_some w c b waits less =
     omega (arith, pending_some w c b waits less, length-append (syn_of c.has_syn) (rest_of c b), length-append (map Byte bytes) (end_of c.has_fin), length-map bytes Byte, length-take c.len (ring c.start b))
 
 -- SEG.LEN counts the items
-items_len : (syn fin : Bool) (payload : List ℕ) → length (items_of syn payload fin) ≡ length payload + one syn + one fin
+pub items_len : (syn fin : Bool) (payload : List ℕ) → length (items_of syn payload fin) ≡ length payload + one syn + one fin
 items_len true true payload = omega (arith, length-append (map Byte payload) (Fin ∷ []), length-map payload Byte)
 items_len true false payload = let none : List Item = [] in omega (arith, length-append (map Byte payload) none, length-map payload Byte)
 items_len false true payload = omega (arith, length-append (map Byte payload) (Fin ∷ []), length-map payload Byte)

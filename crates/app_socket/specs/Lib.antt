@@ -7,5 +7,8 @@ pub mod Resends
 pub mod Segments
 pub mod Runs
 pub mod Promises
+pub mod Replies
+pub mod Pair
+pub mod Answered
 pub mod Rounds
 pub mod Openings

@@ -230,6 +230,8 @@ pub record Resends (old new : Socket) (outgoing : List ℕ) (now : ℕ) (given :
   pub patience :
       0 < count_of old.connection.sending
       → IfSome old.timers.resend_at (λ at. new.timers.ends_at ≡ old.timers.ends_at)
+  -- No tick brings it nearer than 5 minutes.
+  pub lasts : min old.timers.ends_at (later now 300000) ≤ new.timers.ends_at
   pub agreed : new.agreed ≡ old.agreed
   pub quiet : SendsNone given → new.connection ≡ old.connection
   -- Only SND.NXT changes.
@@ -267,6 +269,10 @@ pub record Acknowledges (old : Socket) (incoming now : ℕ) (given : Option Segm
   pub number :
       IfSome given (λ s. len_of s ≡ 0
       → (s.number ≡ next_of old.connection) ⊎ (s.number ≡ (next_of old.connection + 4294967295) % 4294967296))
+  -- that of a delayed acknowledgement at SND.NXT
+  pub at : is_due old.timers.ack_at now ≡ true → IfSome given (λ s. len_of s ≡ 0 → s.number ≡ next_of old.connection)
+  -- None is a RST.
+  pub rst : IfSome given (λ s. s.rst ≡ false)
 
 -- The SYN goes again (RFC 6298, section 5.7), and the timeout doubles.
 pub record SendsSyn (old new : Socket) (now : ℕ) (given : Option Segment) : Type 0 where

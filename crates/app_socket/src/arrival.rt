@@ -1,9 +1,9 @@
 //! A segment arrives.
 
-ghost use Rattle.std.specs.Prelude.{false, ◌≤◌, None, max, ◌≡◌, ◌<◌, ℕ, List, is_some, length, true, IfSome, if◌then◌else◌, option_map, ◌+◌, ◌-◌, ◌%◌, ◌&&◌, not, nat_le, min, Option};
+ghost use Rattle.std.specs.Prelude.{false, ◌≤◌, None, max, ◌≡◌, ◌<◌, ℕ, List, is_some, length, true, IfSome, if◌then◌else◌, option_map, ◌+◌, ◌-◌, ◌%◌, ◌&&◌, not, nat_le, min, Option, Some};
 ghost use Rattle.tcp_model.specs.Network.{World};
 ghost use Rattle.app_tcp.specs.Stands.{Stands, room_of};
-ghost use Rattle.app_connection.specs.Endpoints.{OutFits, InFits, answers_bare, endpoint_of, has_items, is_bare, len_of};
+ghost use Rattle.app_connection.specs.Endpoints.{OutFits, InFits, acknowledgement_of, answers_bare, endpoint_of, has_items, is_bare, len_of, spoken};
 ghost use Rattle.app_connection.specs.Events.{GetsBy};
 ghost use Rattle.app_connection.specs.States.{state_from};
 ghost use Rattle.app_connection.specs.declared.state.State.TheVariants as state;
@@ -15,6 +15,7 @@ ghost use Rattle.app_socket.specs.Times.{is_open, later, patience_of};
 ghost use Rattle.app_socket.specs.Window.{HasRoom, Tells};
 ghost use Rattle.app_connection.specs.Promises.{HasNoText, IsAnswerOf};
 ghost use Rattle.app_socket.specs.Promises.{AcknowledgesReceived, AcksSoon, AdvertisesWindow, ChangesOnlyAck, IsOpen, IsPatient, KeepsRecent, KeepsRoom, OwesNoAck, RemembersFlight, StepsBy, WhileOpen};
+ghost use Rattle.app_socket.specs.Replies.{IsAcknowledgement};
 
 use crate::socket::Socket;
 use crate::tick::is_open;
@@ -97,6 +98,9 @@ impl Socket {
         ensures owes { WhileOpen self.old self.new (self.old.connection.receiving.is_open ≡ true
             → rejects self.old now segment.now options.now ≡ false → has_items segment.now ≡ true
             → AcksSoon self.new now result) }
+        ensures replies { WhileOpen self.old self.new (self.old.connection.receiving.is_open ≡ true
+            → rejects self.old now segment.now options.now ≡ false → has_items segment.now ≡ true
+            → IsAcknowledgement self.new result) }
         ensures to_bare { WhileOpen self.old self.new (rejects self.old now segment.now options.now ≡ false
             → is_bare segment.now ≡ true → is_some result ≡ answers_bare self.old.connection
             (room_of self.old.connection.receiving (length incoming.old)) segment.now.number segment.now.ack) }
@@ -154,6 +158,8 @@ impl Socket {
         ensures answers { AcknowledgesReceived self.old self.new incoming.new result }
         ensures owes { WhileOpen self.old self.new (self.old.connection.receiving.is_open ≡ true
             → has_items segment.now ≡ true → AcksSoon self.new now result) }
+        ensures replies { WhileOpen self.old self.new (self.old.connection.receiving.is_open ≡ true
+            → has_items segment.now ≡ true → IsAcknowledgement self.new result) }
         ensures to_bare { WhileOpen self.old self.new (is_bare segment.now ≡ true → is_some result
             ≡ answers_bare self.old.connection
             (room_of self.old.connection.receiving (length incoming.old)) segment.now.number segment.now.ack) }
@@ -448,6 +454,8 @@ impl Socket {
         ensures ends_at { self.new.timers.ends_at ≡ self.old.timers.ends_at }
         ensures resend_at { self.new.timers.resend_at ≡ self.old.timers.resend_at }
         ensures owes { is_open before.now.state ≡ true → is_some reply.entry ≡ true → AcksSoon self.new now result }
+        ensures replies { is_open before.now.state ≡ true
+            → spoken reply.entry ≡ Some (acknowledgement_of self.old.connection) → IsAcknowledgement self.old result }
         ensures none { is_open before.now.state ≡ true → is_some reply.entry ≡ false → result ≡ None }
         ensures some { is_open before.now.state ≡ true → self.old.connection.receiving.is_open ≡ true
             → before.now.next ≡ self.old.connection.receiving.next → is_some result ≡ is_some reply.entry }

@@ -10,6 +10,7 @@ ghost use Rattle.app_connection.specs.Steps.{Steps};
 ghost use Rattle.app_connection.specs.Worlds.{replied};
 ghost use Rattle.app_connection.specs.declared.state.State.TheVariants as State;
 ghost use Rattle.app_connection.specs.declared.step.Event.TheVariants as Move;
+ghost use Rattle.app_socket.specs.Promises.{RemembersFlight};
 
 use crate::socket::Socket;
 use app_connection::Reply;
@@ -54,6 +55,7 @@ impl Socket {
             → self.new.connection.sending ≡ self.old.connection.sending }
         ensures steps { (outgoing incoming : List ℕ)
             → Steps self.old.connection self.new.connection outgoing incoming incoming Move.Close None }
+        ensures sound { RemembersFlight self.old → RemembersFlight self.new }
     {
         self.connection.close();
     }

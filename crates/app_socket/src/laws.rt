@@ -15,6 +15,9 @@ ghost use Rattle.app_socket.specs.Resends.{ComesAcross, GoesRound, IsSound, is_d
 ghost use Rattle.app_socket.specs.Segments.{text_of};
 ghost use Rattle.app_socket.specs.Times.{is_open, resend_or_probe};
 
+pub mod pair;
+pub mod schedules;
+
 use crate::{Event, Socket};
 use app_connection::Segment;
 use wire_tcp_options::TcpOptionSummary;

@@ -11,6 +11,7 @@ ghost use Rattle.app_tcp.specs.Waits.{count_of, unsent_of};
 ghost use Rattle.app_socket.specs.Resends.{queue_of};
 ghost use Rattle.app_socket.specs.Segments.{GoesAgain, Lowers, header_of, is_in_flight, is_narrower, text_of};
 ghost use Rattle.app_socket.specs.Times.{due_in};
+ghost use Rattle.app_socket.specs.Promises.{RemembersFlight};
 
 use crate::flow::{Flow, Queue};
 use crate::options::Options;
@@ -100,6 +101,7 @@ impl Socket {
         ensures lowers { is_narrower self.old number mss ≡ true → Lowers self.old self.new (max 48 mss) }
         ensures again { is_narrower self.old number mss ≡ true → GoesAgain self.old.flow self.new.flow }
         ensures other { is_narrower self.old number mss ≡ false → self.new ≡ self.old }
+        ensures sound { RemembersFlight self.old → RemembersFlight self.new }
     {
         let is_in_flight = number.wrapping_sub(self.connection.una()) < self.connection.flight();
         if is_in_flight && mss < self.limit {
@@ -117,6 +119,7 @@ impl Socket {
         } }
         ensures lowers { 0 < mss → Lowers self.old self.new mss }
         ensures none { mss ≡ 0 → self.new ≡ self.old }
+        ensures sound { RemembersFlight self.old → RemembersFlight self.new }
     {
         if mss != 0 {
             self.lower(mss);
@@ -186,6 +189,8 @@ impl Socket {
             (take result bytes.now) }
         ensures none { has_peer (state_from self.old.connection) ≡ false → result ≡ 0 }
         ensures timers { self.new.timers ≡ self.old.timers }
+        ensures same { self.new ≡ record self.old { connection = self.new.connection } }
+        ensures sound { RemembersFlight self.old → RemembersFlight self.new }
     {
         self.connection.write(outgoing, bytes)
     }
@@ -202,6 +207,8 @@ impl Socket {
             Stands back consumed self.old.connection.receiving incoming.now
             → IsPrefixOf (consumed ++ result.now) back.written }
         ensures timers { self.new.timers ≡ self.old.timers }
+        ensures same { self.new ≡ record self.old { connection = self.new.connection } }
+        ensures sound { RemembersFlight self.old → RemembersFlight self.new }
     {
         self.connection.read(incoming, count)
     }

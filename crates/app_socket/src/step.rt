@@ -8,6 +8,7 @@ ghost use Rattle.app_socket.specs.Resends.{Connects, ConnectsBy};
 ghost use Rattle.app_socket.specs.Times.{later, patience_of};
 ghost use Rattle.app_connection.specs.Promises.{HasNoText};
 ghost use Rattle.app_socket.specs.Promises.{AcknowledgesInTime, AcknowledgesReceived, AdvertisesWindow, AnswersBare, AnswersStale, BeginsSound, Continues, DropsStale, EndsBySilence, EndsNoLater, IsOpen, IsPatient, KeepsRecent, KeepsRoom, LearnsFrom, OwesAck, OwesNoAck, ResendsInTime, ResendsSyn, RestsUntilDue, SendsStream, SendsWithin, StaysIdle, StaysOpen, TakesText, StepsBy};
+ghost use Rattle.app_socket.specs.Replies.{RepliesToItems};
 
 use crate::socket::Socket;
 use crate::tick::has_peer;
@@ -60,6 +61,7 @@ impl Socket {
         ensures within { SendsWithin self.old self.new result }
         ensures acks { OwesNoAck self.old self.new result }
         ensures owes { OwesAck self.old self.new now event.entry result }
+        ensures replies { RepliesToItems self.old self.new now event.entry result }
         ensures to_bare { AnswersBare self.old self.new (length incoming.old) now event.entry result }
         ensures recent { KeepsRecent self.old self.new now }
         ensures patience { IsPatient self.old self.new now }

@@ -173,6 +173,7 @@ impl Socket {
             → Resends self.old self.new outgoing.now now result }
         ensures none { result ≡ None → self.new.connection ≡ self.old.connection }
         ensures items { self.old.connection.phase ≡ Open → IfSome result (λ s. 0 < len_of s) }
+        ensures rst { IfSome result (λ s. s.rst ≡ false) }
         ensures same { self.new
             ≡ record self.old { connection = self.new.connection; timers = self.new.timers; flow = self.new.flow } }
         ensures ack_at { self.new.timers.ack_at ≡ self.old.timers.ack_at }
@@ -209,6 +210,7 @@ impl Socket {
         ensures stays { self.old.flow.is_probed ≡ true → self.new.flow.is_probed ≡ true }
         ensures patience { (size : ℕ) → OutFits self.old.connection.sending size → 0 < count_of self.old.connection.sending
             → IfSome self.old.timers.resend_at (λ at. self.new.timers.ends_at ≡ self.old.timers.ends_at) }
+        ensures lasts { min self.old.timers.ends_at (later now 300000) ≤ self.new.timers.ends_at }
         ensures place { (size : ℕ) → OutFits self.old.connection.sending size → 0 < count_of self.old.connection.sending
             → self.old.connection.sending.flight ≤ count_of self.old.connection.sending
             → IsSound self.old.flow self.old.connection.sending.flight → IfSome result
@@ -250,6 +252,7 @@ impl Socket {
             → WhenDue self.old now (self.new ≡ self.old) }
         ensures runs { (size : ℕ) → OutFits self.old.connection.sending size → 0 < count_of self.old.connection.sending
             → IfSome self.old.timers.resend_at (λ at. self.new.timers ≡ self.old.timers) }
+        ensures lasts { min self.old.timers.ends_at (later now 300000) ≤ self.new.timers.ends_at }
         ensures phase { self.new.flow.congestion.phase ≡ self.old.flow.congestion.phase }
         ensures duplicates { self.new.flow.congestion.duplicates ≡ self.old.flow.congestion.duplicates }
         ensures rests { WhenNotDue self.old now (is_due self.new.timers.resend_at now ≡ false) }
@@ -328,6 +331,7 @@ impl Socket {
             → piece.now.offset < count_of self.old.connection.sending → MatchOption result ⊥ (λ s. 0 < len_of s) }
         ensures none { result ≡ None → self.new ≡ self.old }
         ensures items { self.old.connection.phase ≡ Open → IfSome result (λ s. 0 < len_of s) }
+        ensures rst { IfSome result (λ s. s.rst ≡ false) }
         ensures number { self.old.connection.phase ≡ Open → piece.now.offset ≤ self.old.connection.sending.flight
             → piece.now.offset < count_of self.old.connection.sending
             → IfSome result (λ s. s.number ≡ (self.old.connection.sending.una + piece.now.offset) % 4294967296) }
@@ -391,6 +395,7 @@ impl Socket {
         ensures same { self.new
             ≡ record self.old { timers = record self.old.timers { ack_at = None }; edge = self.new.edge } }
         ensures text { (result.payload.now ≡ []) × (result.fin ≡ false) }
+        ensures rst { result.rst ≡ false }
         ensures len { len_of result ≡ 0 }
         ensures goes_out { (there back : World) (consumed buffer : List ℕ)
             → Stands back consumed self.old.connection.receiving buffer → GoesOut there back (said result) }

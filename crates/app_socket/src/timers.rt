@@ -94,6 +94,7 @@ impl Timers {
         ensures starts { waits ≡ true → self.old.resend_at ≡ None → self.new
             ≡ record self.old { resend_at = Some (later now rto); ends_at = min self.old.ends_at (later now 300000) } }
         ensures runs { waits ≡ true → IfSome self.old.resend_at (λ t. self.new ≡ self.old) }
+        ensures lasts { min self.old.ends_at (later now 300000) ≤ self.new.ends_at }
     {
         if !waits {
             self.resend_at = None;

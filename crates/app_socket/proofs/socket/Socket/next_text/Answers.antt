@@ -15,6 +15,7 @@ use Rattle.app_connection.specs.Endpoints.{len_of}
 use Rattle.app_connection.specs.States.{has_peer, state_from}
 use Rattle.app_socket.specs.declared.flow.Flow.{Flow}
 use Rattle.app_socket.specs.Resends.{BacksOff, IsArmed, IsSound, SendsFirst, SendsNone}
+use Rattle.app_socket.specs.Times.{later}
 
 pub returns-in_default-clause-goes : goal.returns-in_default-clause-goes
 returns-in_default-clause-goes c = λ there back consumed buffer stand.
@@ -46,6 +47,7 @@ returns-in_default-clause-resends c = λ opened has.
       sound = λ few sound. subst (λ (n : ℕ). IsSound new.flow n) (sym (ap (λ (x : Connection). x.sending.flight) same)) (c.piece.ensures.sound old.connection.sending.flight sound);
       stays = c.piece.ensures.stays;
       patience = c.piece.ensures.patience _ fits;
+      lasts = c.piece.ensures.lasts;
       agreed = ap (λ (x : Socket). x.agreed) c.piece.ensures.same;
       quiet = λ none. same;
       only = only_same old.connection new.connection same;
@@ -114,6 +116,7 @@ returns-clause-resends c = λ opened has.
       ];
       stays = λ probed. ap (λ (f : Flow). f.is_probed) c.cut.ensures.flow ∙ c.piece.ensures.stays probed;
       patience = λ some. patience_on old.timers.resend_at _ _ _ (ap (λ (x : Socket). x.timers.ends_at) c.cut.ensures.same) (c.piece.ensures.patience _ fits some);
+      lasts = subst (λ (n : ℕ). min old.timers.ends_at (later c.args.now 300000) ≤ n) (sym (ap (λ (x : Socket). x.timers.ends_at) c.cut.ensures.same)) c.piece.ensures.lasts;
       agreed = ap (λ (x : Socket). x.agreed) c.cut.ensures.same ∙ ap (λ (x : Socket). x.agreed) c.piece.ensures.same;
       quiet = λ none. quiet_as c.cut.result mid.connection new.connection (subst (λ (x : Connection). x.phase ≡ Open → IfSome c.cut.result (λ s. 0 < len_of s)) same c.cut.ensures.items opened) (λ is. ap (λ (x : Socket). x.connection) (c.cut.ensures.none is)) none ∙ same;
       only = subst (λ (x : Connection). new.connection ≡ record x { sending = record x.sending { flight = new.connection.sending.flight } }) same c.cut.ensures.only;

@@ -14,6 +14,7 @@ use Rattle.app_connection.specs.Worlds.{HearsAck}
 use Rattle.app_connection.specs.Sequence.{is_of_sent}
 use Rattle.app_socket.specs.declared.socket.Socket.{Socket}
 use Rattle.app_socket.specs.Resends.{IsArmed, IsDuplicate, IsSound, newly_in, restarted_at}
+use Rattle.app_socket.specs.Replies.{IsAcknowledgement}
 use Rattle.app_socket.specs.Times.{is_open, later}
 use Rattle.app_socket.specs.Window.{is_ahead}
 use Rattle.app_socket.proofs.Opened.{answers_as, answers_exactly, is_said, is_spoken, open_not_shut, open_phase}
@@ -31,6 +32,14 @@ returns-in_default-clause-owes c = λ before after synced items none.
     let old = c.args.self.now.connection in
     let said = c.step-reply.ensures.to_items (open_phase old before) (open_not_shut old before) synced items in
     c.answer.ensures.owes (ap is_open c.before-before.ensures.state ∙ before) (is_spoken c.step-reply.result ∙ ap is_some said) none
+
+pub returns-in_default-clause-replies : goal.returns-in_default-clause-replies
+returns-in_default-clause-replies c = λ before after synced items.
+    let old = c.args.self.now.connection in
+    let kept : c.learn.new.self.connection ≡ c.step-reply.new.self = ap (λ (x : Socket). x.connection) c.learn.ensures.same in
+    let told = c.step-reply.ensures.to_items (open_phase old before) (open_not_shut old before) synced items in
+    subst (λ (x : Socket). IsAcknowledgement x c.answer.result) (sym c.answer.ensures.same)
+    (c.answer.ensures.replies (ap is_open c.before-before.ensures.state ∙ before) (told ∙ ap (λ (x : Connection). Some (acknowledgement_of x)) (sym kept)))
 
 pub returns-in_default-clause-to_bare : goal.returns-in_default-clause-to_bare
 returns-in_default-clause-to_bare c = λ before after bare.

@@ -1,5 +1,7 @@
-use Rattle.std.proofs.Common.{◌≡◌, ◌⊎◌, inl, inr, ◌∙◌, refl, sym, ap, subst, ℕ, ◌+◌, ◌≤◌, ◌<◌, Bool, true, false, arith}
+use Rattle.std.proofs.Common.{◌≡◌, ◌⊎◌, inl, inr, ◌∙◌, refl, sym, ap, subst, ℕ, ◌+◌, ◌≤◌, ◌<◌, Bool, true, false, min, arith}
 use Rattle.std.specs.Prelude.{Option, Some, None, IfSome, MatchOption}
+use Rattle.app_congestion.specs.Congestion.{is_in_recovery}
+use Rattle.app_congestion.specs.Scoreboard.{IsHole}
 use Rattle.app_socket.specs.declared.flow.Flow.{Flow}
 use Rattle.app_socket.specs.declared.flow.Piece.{Piece}
 use Rattle.app_socket.specs.declared.flow.Queue.{Queue}
@@ -94,3 +96,16 @@ returns-clause-patience c = λ size fits some.
     let old = c.args.self.now in
     let new = c.expire.new.self in
     runs_on old.timers.resend_at old new c.run_timer.new.self (ap (λ (x : Socket). x.timers.ends_at) c.expire.ensures.same) (c.run_timer.ensures.runs size fits some)
+
+pub returns-clause-hole : goal.returns-clause-hole
+returns-clause-hole c = λ size offset count fits small due resend calm is text less.
+    let old = c.args.self.now in
+    let mid = c.run_timer.new.self in
+    let new = c.expire.new.self in
+    let same : new ≡ mid = (c.in_default.ensures.rests (c.run_timer.ensures.rests small due)).0 in
+    let flow : mid.flow ≡ record old.flow { congestion = mid.flow.congestion } = ap (λ (x : Socket). x.flow) c.run_timer.ensures.same in
+    let Hole : Flow → Type 0 = λ (f : Flow). IsHole f.scoreboard f.rescued offset count in
+    c.next.ensures.hole offset count (ap (λ (x : Socket). x.flow.resend) same ∙ ap (λ (f : Flow). f.resend) flow ∙ resend)
+    (ap (λ (x : Socket). is_in_recovery x.flow.congestion.phase) same ∙ ap is_in_recovery c.run_timer.ensures.phase ∙ calm) (subst Hole (sym (ap (λ (x : Socket). x.flow) same ∙ flow)) is)
+    (subst (λ (n : ℕ). 0 < n) (sym (ap (λ (q : Queue). q.mss) (c.queue-queue.ensures.value size fits))) text)
+    (subst (λ (n : ℕ). offset < min n new.flow.congestion.cwnd) (sym c.queue-queue.ensures.window) (subst (λ (f : Flow). offset < min old.connection.wnd f.congestion.cwnd) c.next.ensures.same less))

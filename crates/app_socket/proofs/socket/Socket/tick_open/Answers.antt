@@ -1,5 +1,5 @@
-use Rattle.std.proofs.Common.{ap, subst, ◌≡◌, ◌∙◌, refl, sym, ℕ, List, arith}
-use Rattle.std.specs.Prelude.{Some, Option, option_map, None, if◌then◌else◌}
+use Rattle.std.proofs.Common.{ap, subst, ◌≡◌, ◌∙◌, refl, sym, ℕ, ◌≤◌, List, arith}
+use Rattle.std.specs.Prelude.{Some, Option, option_map, None, if◌then◌else◌, min}
 use Rattle.app_connection.specs.Worlds.{Goes, said}
 use Rattle.app_connection.specs.declared.segment.Segment.{Segment}
 use Rattle.app_socket.specs.declared.socket.Socket.{Socket}
@@ -11,6 +11,7 @@ use Rattle.app_connection.specs.declared.connection.Connection.{Connection}
 use Rattle.app_connection.specs.Endpoints.{len_of}
 use Rattle.app_socket.specs.declared.timers.Timers.{Timers}
 use Rattle.app_socket.specs.Resends.{IsArmed, Resends, is_due, is_room_news}
+use Rattle.app_socket.specs.Times.{later}
 
 pub returns-in-Some-clause-goes : goal.returns-in-Some-clause-goes
 returns-in-Some-clause-goes c = λ there back consumed buffer stand.
@@ -52,6 +53,7 @@ resends_on old mid new t outgoing now given is same ends r =
       sound = r.sound;
       stays = r.stays;
       patience = λ some. patience_on old.timers.resend_at _ _ _ ends (r.patience some);
+      lasts = subst (λ (n : ℕ). min old.timers.ends_at (later now 300000) ≤ n) (sym ends) r.lasts;
       agreed = r.agreed;
       quiet = r.quiet;
       only = r.only;
@@ -74,6 +76,7 @@ resends_bare old new outgoing now s bare r = record {
   sound = r.sound;
   stays = r.stays;
   patience = r.patience;
+  lasts = r.lasts;
   agreed = r.agreed;
   quiet = λ none. r.quiet tt;
   only = r.only;
@@ -96,6 +99,7 @@ resends_told old new outgoing now s t is r =
       sound = r.sound;
       stays = r.stays;
       patience = r.patience;
+      lasts = r.lasts;
       agreed = r.agreed;
       quiet = r.quiet;
       only = r.only;
@@ -120,6 +124,8 @@ returns-in-Some-clause-acknowledges c = λ opened. record {
   room = λ synced room. refl;
   ack = c.advertise.ensures.ack ∙ ack_as c.args.self.now.connection.receiving c.next_text.new.self.connection.receiving c.next_text.ensures.receiving;
   number = λ none. absurd (omega (arith, none, ap len_of c.advertise.ensures.segment, c.in-Some.ensures.items opened));
+  at = λ due none. absurd (omega (arith, none, ap len_of c.advertise.ensures.segment, c.in-Some.ensures.items opened));
+  rst = ap (λ (s : Segment). s.rst) c.advertise.ensures.segment ∙ c.in-Some.ensures.rst;
 }
 
 pub returns-then-is_reached-clause-resends : goal.returns-then-is_reached-clause-resends
@@ -147,4 +153,6 @@ returns-clause-acknowledges c = λ opened.
           ∙ news;
       ack = tt;
       number = tt;
+      at = λ due. tt;
+      rst = tt;
     }
