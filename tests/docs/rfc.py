@@ -16,9 +16,10 @@ STATES = "met", "tested", "caller", "deviates", "not supported"
 LEVELS = "", "MUST", "SHOULD", "MAY"
 HEAD = """# Conformance to RFCs
 
-This page says which requirements of RFCs the code meets. `tests/docs/rfc.py --write` makes it of `tests/data/rfc.txt`,
-and `make test` checks that each named statement and test exists. People read the RFCs: that a row says what its RFC
-asks for is not checked. Not every requirement of these RFCs has a row.
+This page is for people who want to know whether the code conforms to RFCs, and where it deviates.
+`tests/docs/rfc.py --write` makes it of `tests/data/rfc.txt`, and `make test` checks that each named statement and test
+exists. People read the RFCs: that a row says what its RFC asks for is not checked. Not every requirement of these RFCs
+has a row.
 
 | State | Meaning |
 |---|---|
