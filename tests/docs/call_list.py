@@ -45,7 +45,8 @@ REASONS = [
 ]
 HEAD = """# Calls of the C library
 
-`tests/docs/c_calls.py --write` writes this page. For each call of `c/ip_wire.h` it says:
+This page is for people who change calls of the C library. `tests/docs/c_calls.py --write` makes it. For each call of
+`c/ip_wire.h` it says:
 
 | Column | Contents |
 |---|---|
