@@ -4,7 +4,7 @@
 The bound of a function is read from its machine code: its return address, all registers that it pushes, all that it takes off
 the stack pointer, and the largest bound of a function to which it calls or jumps. So it holds for every input. The library
 calls nothing by a pointer, has no recursion but in the calls that sort, and no array of a variable length: else this fails. What
-the functions of libc take is not counted. Each call must stay within the bound that `docs/C.md` promises.
+the functions of libc take is not counted. Each call must stay within the bound that `docs/C.md` and `README.md` promise.
 """
 import os
 import re
@@ -13,6 +13,7 @@ import sys
 
 TOP = os.path.dirname(os.path.dirname(os.path.dirname(os.path.abspath(__file__))))
 SORTS = {"lk_index_routes", "lk_make_route_table"}
+PAGES = ("docs/C.md", "README.md")
 PROMISE = re.compile(r"at most ([\d,]+) bytes of stack")
 LIBC = {"memcpy", "memmove", "memset", "memcmp", "bcmp", "abort"}  # what rustc makes may abort
 CODE = re.compile(r"^ *([0-9a-f]+):\t(?:(?:cs|data16|notrack|bnd) )*(\w+) *(.*)$")
@@ -123,10 +124,14 @@ def bounds(code):
     return found
 
 
+def promise_of(page):
+    with open(os.path.join(TOP, page), encoding="utf-8") as file:
+        return int(PROMISE.search(file.read())[1].replace(",", ""))
+
+
 def main(words):
     library = next((word for word in words if word != "--print"), os.path.join(TOP, "out/lib/libip_wire.so"))
-    with open(os.path.join(TOP, "docs/C.md"), encoding="utf-8") as page:
-        promise = int(PROMISE.search(page.read())[1].replace(",", ""))
+    promise = min(promise_of(page) for page in PAGES)
     try:
         found = bounds(functions(library))
     except Fault as fault:
@@ -135,7 +140,7 @@ def main(words):
     order = sorted(found.items(), key=lambda pair: (-pair[1], pair[0]))
     if "--print" in words:
         print("".join(f"{taken:6} {name}\n" for name, taken in order), end="")
-    over = [f"{name} takes {taken} bytes of stack, and docs/C.md promises {promise}\n" for name, taken in order if taken > promise]
+    over = [f"{name} takes {taken} bytes of stack, and the pages promise {promise}\n" for name, taken in order if taken > promise]
     print("".join(over), end="")
     print(f"{len(found)} calls, at most {order[0][1]} bytes of stack ({order[0][0]})")
     return 1 if over or not found else 0
