@@ -14,10 +14,11 @@ Record = namedtuple("Record", "base fields")
 Part = namedtuple("Part", "of names")
 
 WORD = re.compile(r"⟦[^⟧]*⟧\.\w+|[^\W\d][\w'-]*(?:\.\w[\w']*)*")
-TOKEN = re.compile(rf"\s*({WORD.pattern}|0x[0-9a-f]+|\d+|\+\+|\.\w[\w.']*|[→↔≡≢≤<×⊎¬+\-*/%^∷λ.()" r"{},;:=⊥⊤\[\]])")
+TOKEN = re.compile(rf"\s*({WORD.pattern}|0x[0-9a-f]+|\d+|\+\+|&&|\|\||==|\.\w[\w.']*|[→↔≡≢≤<×⊎¬+\-*/%^∷λ.()" r"{},;:=⊥⊤\[\]])")
 # The infix signs, from those that bind least. The signs of RIGHT group to the right.
-LEVELS = ["→"], ["↔"], ["⊎"], ["×"], ["≡", "≢"], ["≤", "<"], ["+", "-", "++"], ["∷"], ["*", "/", "%"], ["^"]
-RIGHT = "→", "⊎", "×", "∷", "^"
+LEVELS = (["→"], ["↔"], ["⊎"], ["×"], ["≡", "≢"], ["||"], ["&&"], ["=="], ["≤", "<"], ["+", "-", "++"], ["∷"],
+          ["*", "/", "%"], ["^"])
+RIGHT = "→", "⊎", "×", "||", "&&", "∷", "^"
 RELATIONS = 4  # the level of those that bind more than `¬`
 KEYWORDS = "in", "then", "else"
 

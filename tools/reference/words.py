@@ -16,6 +16,9 @@ UNDER_VIEW = re.compile(r"B\.octets \((?:packet|frame|header)_slice (self\.\w+)\
                         r"|(result|packet|frame|header)\b(?!\.))")
 RELATIONS = {"≡": "{} {} {}", "≢": "{} {} not {}", "≤": "{} {} at most {}", "<": "{} {} less than {}"}
 SIGNS = "→×⊎↔"
+# The signs between booleans, and the calls that return one.
+JOINS = {"&&": " and ", "||": " or "}
+TESTS = "not", "nat_lt"
 NAMES = {
     "result": "the result", "self": "the value", "self.old": "the value before", "self.new": "the value after",
     "bytes": "the bytes", "bytes.old": "the bytes before", "bytes.new": "the bytes after",
@@ -340,6 +343,8 @@ class Words:
             return self.name(term)
         if isinstance(term, Apply) and isinstance(term.head, str):
             return self.computed(term.head, term.given)
+        if isinstance(term, Infix) and term.sign in ("&&", "||", "=="):
+            return f"whether {self.truth(term)}"
         if isinstance(term, Infix) and term.sign == "++":
             return f"{self.bracketed(term.left)} followed by {self.thing(term.right)}"
         if isinstance(term, Infix) and term.sign == "∷":
@@ -355,10 +360,27 @@ class Words:
         if isinstance(term, Record):
             return f"{self.thing(term.base) if term.base else 'a value'} with {code(term.fields)}"
         if isinstance(term, Choice):
-            is_name = isinstance(term.test, str)
-            test = f"{self.thing(term.test)} is <code>true</code>" if is_name else self.fact(term.test)
-            return f"({self.thing(term.then)} if {test}, else {self.thing(term.other)})"
+            return f"({self.thing(term.then)} if {self.truth(term.test)}, else {self.thing(term.other)})"
         raise Unreadable(term)
+
+    def truth(self, term):
+        """What is so if a boolean is true."""
+        if isinstance(term, Infix) and term.sign in JOINS:
+            return JOINS[term.sign].join(map(self.truth_beside, chain(term, term.sign)))
+        if isinstance(term, Infix) and term.sign == "==":
+            return self.relation(Infix("≡", term.left, term.right), False)
+        if isinstance(term, Apply) and term.head == "not":
+            is_equation = isinstance(term.given[0], Infix) and term.given[0].sign == "=="
+            opposite = Infix("≢", *term.given[0][1:]) if is_equation else Not(Apply("IsTrue", term.given))
+            return self.fact(opposite)
+        if isinstance(term, Apply) and term.head == "nat_lt":
+            return self.relation(Infix("<", *term.given), False)
+        said = self.thing(term)
+        return tested(said) or f"{said} is <code>true</code>"
+
+    def truth_beside(self, term):
+        """The same beside others, in brackets if it has parts of its own."""
+        return f"({self.truth(term)})" if isinstance(term, Infix) and term.sign in JOINS else self.truth(term)
 
     def subject(self, term):
         """A value as the subject of a sentence: if it has a comma, a comma follows it too."""
@@ -388,6 +410,8 @@ class Words:
     def computed(self, head, given):
         """The result of a definition."""
         found, short = self.meaning(head), head.rpartition(".")[2]
+        if short in TESTS and not found:
+            return f"whether {self.truth(Apply(short, given))}"
         if head == "field":
             is_known = given[0] in ("bytes", "bytes.old") and given[0] not in self.own_names
             return self.bits(*given[1:]) + ("" if is_known else f" of {self.thing(given[0])}")
