@@ -47,7 +47,7 @@ pub record Arrived (a b : End) (new : Connection) : Type 0 where
 pub not_none : (n : ℕ) → 0 < n → (n == 0) ≡ false
 not_none n some = grind (arith, nat_tests)
 
-or_left : (b d : Bool) → b ≡ true → (b || d) ≡ true
+pub or_left : (b d : Bool) → b ≡ true → (b || d) ≡ true
 or_left true d is = refl
 or_left false d is = absurd (cc)
 

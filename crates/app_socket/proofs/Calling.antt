@@ -1,9 +1,9 @@
 -- Calls of both sockets, one after the other.
-use Rattle.std.proofs.Common.{◌≡◌, ◌⊎◌, inl, inr, refl, sym, ◌∙◌, ap, subst, ℕ, ◌+◌, ◌%◌, ◌<◌, List, [], ◌∷◌, ◌++◌, Bool, true, false, length, map, take, drop, zero, suc, nat_lt, arith, length-take, length-drop, Bor}
+use Rattle.std.proofs.Common.{◌≡◌, ◌⊎◌, inl, inr, refl, sym, ◌∙◌, ap, subst, ℕ, ◌+◌, ◌%◌, ◌<◌, List, [], ◌∷◌, ◌++◌, Bool, true, false, length, take, drop, nat_lt, arith, length-take, length-drop, Bor}
 use Rattle.std.specs.Prelude.{Option, Some, None, is_some, ◌==◌, ◌&&◌, not}
 use Rattle.std.proofs.lemmas.Bool.{cases_lt, cond_both, cond-true, false≢true}
-use Rattle.tcp_model.specs.Endpoint.{Item, Syn, Byte, Fin, distance}
-use Rattle.tcp_model.specs.Network.{World, Segment as Packet, end_of as last_of, number_at, stream}
+use Rattle.tcp_model.specs.Endpoint.{Item, distance}
+use Rattle.tcp_model.specs.Network.{World, Segment as Packet, number_at, stream}
 use Rattle.tcp_model.proofs.Numbers.{number_more}
 use Rattle.app_tcp.proofs.Standing.{reached_good}
 use Rattle.app_tcp.specs.Items.{items_of, syn_of}
@@ -39,6 +39,7 @@ use Rattle.app_socket.specs.Answered.{IsSet}
 use Rattle.app_socket.specs.Pair.{Past, end_at, past_after}
 use Rattle.app_socket.proofs.Arriving.{not_none}
 use Rattle.app_socket.proofs.Growing.{far}
+use Rattle.app_socket.proofs.Syn.{head_syn, later_syn, rest_syn, syn_flag, take_syn}
 
 -- ---- one call
 
@@ -53,14 +54,6 @@ arrive_call s new out before after h b now fresh x options o has taken from fits
     steps now (event.Arrives x options fresh) new after o
     (subst (λ (e : Move). MayCome e (end_of (end_at s out before h)) (end_of b)) (sym (choice_false (rejects s now x.now options.now) (move.Send 0 0) (move.Arrives x fresh) taken)) from)
     (λ none. absurd (false≢true (sym none ∙ has))) fits it
-
--- a segment whose timestamp is taken is not rejected
-pub none_rejected : (a b t : Bool) → t ≡ true → (a && (b && not t)) ≡ false
-none_rejected true true true is = refl
-none_rejected true false true is = refl
-none_rejected false true true is = refl
-none_rejected false false true is = refl
-none_rejected a b false is = absurd (cc)
 
 -- ---- what a run says of both ends
 
@@ -141,10 +134,6 @@ not_waiting c at is wait = wait_at c.phase c.sending.is_closed (not c.sending.ha
 
 -- ---- segments
 
-pub no_flag : (b : Bool) → one b ≡ 0 → b ≡ false
-no_flag true is = absurd (omega (arith, is))
-no_flag false is = refl
-
 pub no_len_of : (s : Segment) → s.payload.now ≡ [] → s.fin ≡ false → s.syn ≡ false → len_of s ≡ 0
 no_len_of s text fin syn = omega (arith, ap length text, ap one fin, ap one syn)
 
@@ -214,45 +203,6 @@ nothing_sent w c outgoing s waits none sent =
     omega (arith, all, items_len s.syn s.fin s.payload.now, ap length is, length-take (length items) (drop (w.acked + sent.offset) (stream w.written w.closed)), length-drop (w.acked + sent.offset) (stream w.written w.closed))
 
 -- ---- the SYN
-
-abbrev head_syn : List Item → Bool
-head_syn [] = false
-head_syn (Syn ∷ items) = true
-head_syn (Byte b ∷ items) = false
-head_syn (Fin ∷ items) = false
-
-nil_syn : (n : ℕ) → head_syn (drop n []) ≡ false
-nil_syn zero = refl
-nil_syn (suc n) = refl
-
--- there is none after the first item
-tail_syn : (n : ℕ) (written : List ℕ) (closed : Bool) → head_syn (drop n (map Byte written ++ last_of closed)) ≡ false
-tail_syn zero [] true = refl
-tail_syn zero [] false = refl
-tail_syn zero (b ∷ written) closed = refl
-tail_syn (suc n) [] true = nil_syn n
-tail_syn (suc n) [] false = refl
-tail_syn (suc n) (b ∷ written) closed = tail_syn n written closed
-
-later_syn : (n : ℕ) (written : List ℕ) (closed : Bool) → 0 < n → head_syn (drop n (stream written closed)) ≡ false
-later_syn zero written closed some = absurd (omega (arith, some))
-later_syn (suc n) written closed some = tail_syn n written closed
-
-rest_syn : (bytes : List ℕ) (fin : Bool) → head_syn (map Byte bytes ++ last_of fin) ≡ false
-rest_syn [] true = refl
-rest_syn [] false = refl
-rest_syn (b ∷ bytes) fin = refl
-
-take_syn : (n : ℕ) (items : List Item) → head_syn items ≡ false → head_syn (take n items) ≡ false
-take_syn zero items is = refl
-take_syn (suc n) [] is = refl
-take_syn (suc n) (Syn ∷ items) is = absurd (false≢true (sym is))
-take_syn (suc n) (Byte b ∷ items) is = refl
-take_syn (suc n) (Fin ∷ items) is = refl
-
-syn_flag : (syn fin : Bool) (payload : List ℕ) → head_syn (items_of syn payload fin) ≡ false → syn ≡ false
-syn_flag true fin payload is = absurd (false≢true (sym is))
-syn_flag false fin payload is = refl
 
 -- after the SYN was acknowledged nothing that waits has one
 held_syn : (w : World) (c : Sending) (outgoing : List ℕ) → c.has_syn ≡ false → Waits w c outgoing → (offset : ℕ) → head_syn (drop (w.acked + offset) (stream w.written w.closed)) ≡ false

@@ -4,9 +4,11 @@ pub mod Delivery
 pub mod Openings
 pub mod Rounds
 pub mod StaysOpen
+pub mod Syn
 pub mod ManyRounds
 pub mod Growing
 pub mod Arriving
 pub mod Calling
 pub mod Answering
 pub mod Sending
+pub mod Exchanging

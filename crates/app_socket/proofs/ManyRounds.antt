@@ -23,8 +23,8 @@ use Rattle.app_connection.specs.declared.state.Phase.TheVariants as phase
 use Rattle.app_connection.specs.declared.state.State.{State}
 use Rattle.app_connection.specs.declared.state.State.TheVariants as state
 use Rattle.app_connection.specs.declared.step.Event.TheVariants as move
-use Rattle.app_connection.specs.Endpoints.{OutFits, endpoint_of, is_of_unsent, len_of, next_of, one}
-use Rattle.app_connection.specs.Sequence.{is_earlier, is_of_sent, is_taken_at}
+use Rattle.app_connection.specs.Endpoints.{OutFits, endpoint_of, is_of_unsent, len_of, next_of}
+use Rattle.app_connection.specs.Sequence.{is_earlier, is_of_sent}
 use Rattle.app_connection.specs.States.{has_peer, state_at, state_from, state_in}
 use Rattle.app_connection.specs.Steps.{Steps}
 use Rattle.app_connection.specs.Worlds.{Brings, HearsAck, Said, Stand, said}
@@ -37,9 +37,10 @@ use Rattle.app_socket.specs.Rounds.{AcknowledgesItems, AreBefore, AreRounds, Goe
 use Rattle.app_socket.specs.declared.laws.Round.{Round}
 use Rattle.app_socket.specs.Times.{is_open, later, resend_or_probe}
 use Rattle.app_socket.proofs.Opened.{open_has_peer, open_phase}
-use Rattle.app_socket.proofs.Rounds.{false_test, not_after, of_sent, went}
+use Rattle.app_socket.proofs.Rounds.{bare_taken, false_test, no_flag, not_after, of_sent, went}
 use Rattle.app_socket.proofs.StaysOpen.{open_run}
 use Rattle.app_socket.proofs.Stepping.{no_len}
+use Rattle.app_socket.proofs.Syn.{syn_gone}
 
 -- ---- how many items wait
 
@@ -167,18 +168,6 @@ none_waits w c outgoing at fits waits h =
 
 -- ---- the acknowledgement comes
 
-no_flag : (b : Bool) → one b ≡ 0 → b ≡ false
-no_flag true is = absurd (omega (arith, is))
-no_flag false is = refl
-
--- a bare acknowledgement at RCV.NXT is taken
-taken_at : (next window : ℕ) → is_taken_at next window next 0 ≡ true
-taken_at next window = true_test (distance next next) (window + 2) (omega arith)
-
-bare_taken : (next window number len : ℕ) → number ≡ next → len ≡ 0 → is_taken_at next window number len ≡ true
-bare_taken next window number len same none =
-    subst (λ (n : ℕ). is_taken_at next window number n ≡ true) (sym none) (subst (λ (n : ℕ). is_taken_at next window n 0 ≡ true) (sym same) (taken_at next window))
-
 either : (b : Bool) → (b ≡ true) ⊎ (b ≡ false)
 either true = inl refl
 either false = inr refl
@@ -245,9 +234,9 @@ stands_acked old new outgoing before after s taken iss o at has synced a steps s
       sym goes.went.stand.stands.holds.is_open ∙ open_run goes.went.texts stands.back goes.went.of_receiver (st.stands.holds.is_open ∙ synced),
     )
 
--- after an acknowledgement was heard so many items less wait
+-- after an acknowledgement was heard so many items less wait, and no SYN
 heard_less : (w : World) (old new : Sending) (outgoing : List ℕ) (taken : ℕ) → OutFits old (length outgoing) → OutFits new (length outgoing) → Waits w old outgoing → taken ≤ old.flight
-    → HearsAck old new outgoing (number_at w.initial (w.acked + taken)) → taken + count_of new ≡ count_of old
+    → HearsAck old new outgoing (number_at w.initial (w.acked + taken)) → (taken + count_of new ≡ count_of old) × (0 < taken → new.has_syn ≡ false)
 heard_less w old new outgoing taken fits fits2 waits few hears =
     let there = with_ack w taken in
     let n = number_at w.initial (w.acked + taken) in
@@ -260,15 +249,21 @@ heard_less w old new outgoing taken fits fits2 waits few hears =
     let far : distance n (number_at w.initial w.acked) ≡ taken = distance_after w.initial (w.acked + taken) w.acked (omega arith) (omega (arith, few, small.1)) ∙ (let e : w.acked + taken - w.acked ≡ taken = omega arith in e) in
     let within : nat_lt (w.sent - w.acked) (distance n (number_at w.initial w.acked)) ≡ false = false_test _ _ (omega (arith, far, few, waits.flight)) in
     let new_ones : newly (number_at w.initial w.acked) (w.sent - w.acked) n ≡ taken = cond-false (nat_lt (w.sent - w.acked) (distance n (number_at w.initial w.acked))) _ _ within ∙ far in
-    omega (arith, counted w old outgoing fits waits, counted v new outgoing fits2 last, new_ones)
+    (omega (arith, counted w old outgoing fits waits, counted v new outgoing fits2 last, new_ones), λ some. syn_gone v new outgoing last (omega (arith, new_ones, some)))
 
 pub acknowledges_scaled : (c : Connection) (g : Agreed) (s : Segment) (taken : ℕ) → AcknowledgesItems c s taken → AcknowledgesItems c (scaled_by g s) taken
 acknowledges_scaled c g s taken a = record { number = a.number; ack = a.ack; rst = a.rst; bare = a.bare; some = a.some; few = a.few }
 
 -- what the socket learns from it
-learned : (w : World) (old new : Socket) (outgoing : List ℕ) (incoming now taken : ℕ) (s : Segment) → OutFits old.connection.sending (length outgoing) → OutFits new.connection.sending (length outgoing)
+pub record Learned (old new : Socket) (s : Segment) (taken : ℕ) : Type 0 where
+  pub less : taken + count_of new.connection.sending ≡ count_of old.connection.sending
+  pub newly : newly_in old new ≡ taken
+  pub ack : s.ack ≡ Some new.connection.sending.una
+  pub syn : new.connection.sending.has_syn ≡ false
+
+pub learned : (w : World) (old new : Socket) (outgoing : List ℕ) (incoming now taken : ℕ) (s : Segment) → OutFits old.connection.sending (length outgoing) → OutFits new.connection.sending (length outgoing)
     → Waits w old.connection.sending outgoing → old.connection.receiving.is_open ≡ true → AcknowledgesItems old.connection s taken → Learns old new outgoing incoming now s
-    → (taken + count_of new.connection.sending ≡ count_of old.connection.sending) × (newly_in old new ≡ taken)
+    → Learned old new s taken
 learned w old new outgoing incoming now taken s fits fits2 waits synced a learns =
     let c = old.connection in
     let n = number_at w.initial (w.acked + taken) in
@@ -294,13 +289,18 @@ learned w old new outgoing incoming now taken s fits fits2 waits synced a learns
     ack_of (λ ack. new.connection.sending.una ≡ (if is_of_sent c.sending.una (next_of c) ack then ack else c.sending.una)) s.ack n is (learns.una synced a.rst syn here unsent)
     ∙ cond-true (is_of_sent c.sending.una (next_of c) n) n c.sending.una between
     in
-    let hears = ack_of (λ ack. is_of_sent c.sending.una (next_of c) ack ≡ true → HearsAck c.sending new.connection.sending outgoing ack) s.ack n is (learns.hears synced a.rst syn here unsent) between in (
-      heard_less w c.sending new.connection.sending outgoing taken fits fits2 waits a.few hears,
-      ap (λ (m : ℕ). distance m c.sending.una) una
+    let hears = ack_of (λ ack. is_of_sent c.sending.una (next_of c) ack ≡ true → HearsAck c.sending new.connection.sending outgoing ack) s.ack n is (learns.hears synced a.rst syn here unsent) between in
+    let heard = heard_less w c.sending new.connection.sending outgoing taken fits fits2 waits a.few hears in
+    record {
+      less = heard.0;
+      newly =
+          ap (λ (m : ℕ). distance m c.sending.una) una
           ∙ ap (λ (m : ℕ). distance n m) waits.una
           ∙ distance_after w.initial (w.acked + taken) w.acked (omega arith) (omega (arith, a.few, small.1))
-          ∙ (let e : w.acked + taken - w.acked ≡ taken = omega arith in e),
-    )
+          ∙ (let e : w.acked + taken - w.acked ≡ taken = omega arith in e);
+      ack = is ∙ ap Some (sym una);
+      syn = heard.1 a.some;
+    }
 
 -- after it fewer items wait
 pub further : (old new : Socket) (outgoing before after : List ℕ) (incoming now by end taken iss : ℕ) (s : Bor Segment) (o : Option Said) → OutFits old.connection.sending (length outgoing) → OutFits new.connection.sending (length outgoing)
@@ -316,9 +316,9 @@ further old new outgoing before after incoming now by end taken iss s o fits fit
       | inl opened ↦
           let l = learns opened in
           let is = learned stands.there old new outgoing incoming now taken (scaled_by old.agreed s.now) fits fits2 stands.stand.waits waiting.synced (acknowledges_scaled old.connection old.agreed s.now taken a) l in
-          let some : 0 < newly_in old new = omega (arith, is.1, a.some) in
+          let some : 0 < newly_in old new = omega (arith, is.newly, a.some) in
           record {
-            less = omega (arith, is.0, a.some);
+            less = omega (arith, is.less, a.some);
             waiting = λ rest.
                 let runs : nat_lt 0 (new.connection.sending.flight + unsent_of new.connection.sending) ≡ true = true_test _ _ (omega (arith, rest)) in
                 record {
@@ -426,7 +426,7 @@ pub record Going (s : Socket) (outgoing incoming : List ℕ) (left : List Round)
   pub few : 0 < count_of s.connection.sending → count_of s.connection.sending + index ≤ n
   pub ahead : 0 < count_of s.connection.sending → Ahead s left
 
-timer_self : (o : Option ℕ) (probe : ℕ) → is_some o ≡ true → MatchOption o ⊥ (λ at. at ≤ resend_or_probe o probe)
+pub timer_self : (o : Option ℕ) (probe : ℕ) → is_some o ≡ true → MatchOption o ⊥ (λ at. at ≤ resend_or_probe o probe)
 timer_self None probe is = absurd (cc)
 timer_self (Some at) probe is = omega arith
 

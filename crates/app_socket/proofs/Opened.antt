@@ -1,5 +1,5 @@
 -- What holds of a connection that is set up.
-use Rattle.std.proofs.Common.{◌≡◌, ◌⊎◌, inr, refl, ◌∙◌, ap, subst, ℕ, ◌<◌, List, Bool, true, false, arith}
+use Rattle.std.proofs.Common.{◌≡◌, ◌⊎◌, inr, refl, ◌∙◌, ap, subst, ℕ, ◌<◌, List, Bool, true, false, length, arith}
 use Rattle.std.specs.Prelude.{Option, Some, None, IfSome, is_some, ◌&&◌, if◌then◌else◌}
 use Rattle.tcp_model.specs.Network.{World}
 use Rattle.app_tcp.specs.Stands.{Stands, IsAnswer}
@@ -11,8 +11,10 @@ use Rattle.app_connection.specs.declared.state.Phase.TheVariants as phase
 use Rattle.app_connection.specs.declared.state.State.{State}
 use Rattle.app_connection.specs.declared.state.State.TheVariants as state
 use Rattle.app_connection.specs.Endpoints.{len_of, spoken}
+use Rattle.app_connection.specs.Promises.{HasNoText}
 use Rattle.app_connection.specs.States.{state_from, state_in, has_peer}
 use Rattle.app_connection.specs.declared.segment.Reply.{Reply}
+use Rattle.app_socket.specs.Promises.{HasShortText}
 use Rattle.app_socket.specs.Times.{is_open}
 
 open_in : (p : Phase) (s : State) → is_open (state_in p s) ≡ true → p ≡ phase.Open
@@ -63,6 +65,11 @@ answers_as (Some s) r t incoming is answers = λ back consumed stands. inr (answ
 pub patience_on : (o : Option ℕ) (old mid new : ℕ) → new ≡ mid → IfSome o (λ at. mid ≡ old) → IfSome o (λ at. new ≡ old)
 patience_on None old mid new same still = tt
 patience_on (Some at) old mid new same still = same ∙ still
+
+-- a segment without text has short text
+pub no_text_short : (o : Option Segment) → HasNoText o → HasShortText o
+no_text_short None none = tt
+no_text_short (Some s) none = omega (arith, ap length none.0)
 
 -- a reply is a segment
 pub is_spoken : (o : Option Segment) → is_some o ≡ is_some (spoken o)

@@ -17,7 +17,7 @@ use Rattle.app_tcp.proofs.Rounds.{answer_acked, answer_sender, pending_some, seg
 use Rattle.app_connection.specs.declared.connection.Connection.{Connection}
 use Rattle.app_connection.specs.declared.segment.Segment.{Segment}
 use Rattle.app_connection.specs.Endpoints.{is_of_unsent, next_of, one}
-use Rattle.app_connection.specs.Sequence.{is_earlier, is_of_sent}
+use Rattle.app_connection.specs.Sequence.{is_earlier, is_of_sent, is_taken_at}
 use Rattle.app_connection.specs.Worlds.{HearsAck}
 use Rattle.app_connection.proofs.Going.{ack_of}
 use Rattle.app_socket.specs.Resends.{ComesAcross, GoesRound, SendsFirst}
@@ -168,3 +168,23 @@ round_of initial room events old mid new outgoing o ack sends small waits less o
       same = refl;
       alive = true_test _ _ (omega (arith, answer_acked w2, came.good.counted));
     }
+
+pub no_flag : (b : Bool) → one b ≡ 0 → b ≡ false
+no_flag true is = absurd (omega (arith, is))
+no_flag false is = refl
+
+-- a bare acknowledgement at RCV.NXT is taken
+taken_at : (next window : ℕ) → is_taken_at next window next 0 ≡ true
+taken_at next window = true_test (distance next next) (window + 2) (omega arith)
+
+pub bare_taken : (next window number len : ℕ) → number ≡ next → len ≡ 0 → is_taken_at next window number len ≡ true
+bare_taken next window number len same none =
+    subst (λ (n : ℕ). is_taken_at next window number n ≡ true) (sym none) (subst (λ (n : ℕ). is_taken_at next window n 0 ≡ true) (sym same) (taken_at next window))
+
+-- a segment whose timestamp is taken is not rejected
+pub none_rejected : (a b t : Bool) → t ≡ true → (a && (b && not t)) ≡ false
+none_rejected true true true is = refl
+none_rejected true false true is = refl
+none_rejected false true true is = refl
+none_rejected false false true is = refl
+none_rejected a b false is = absurd (cc)

@@ -10,5 +10,6 @@ pub mod Promises
 pub mod Replies
 pub mod Pair
 pub mod Answered
+pub mod Exchanges
 pub mod Rounds
 pub mod Openings

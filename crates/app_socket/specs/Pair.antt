@@ -10,6 +10,7 @@ use Rattle.app_socket.specs.declared.laws.pair.Exchange.{Exchange}
 use Rattle.app_socket.specs.declared.socket.Socket.{Socket}
 use Rattle.app_socket.specs.Rounds.{IsWaiting}
 use Rattle.app_socket.specs.Runs.{End, Runs}
+use Rattle.app_socket.specs.Segments.{StaysOrUpdates}
 use Rattle.app_socket.specs.Times.{is_open, later}
 use Rattle.app_tcp.specs.Waits.{count_of}
 
@@ -50,8 +51,9 @@ pub record MayAnswer (s : Socket) (size : ℕ) (r : Exchange) : Type 0 where
   pub taken : takes s.agreed.recent r.text.options.timestamp r.arrives ≡ true
 
 -- After a round there is a run of both ends, in which the programs wrote and read nothing more. Fewer items of the first one wait.
--- If some do, its timer runs again, and the end by silence is put off. The other one is as before.
-pub record Exchanged (old here there : Socket) (outgoing incoming answers text : List ℕ) (h t : Past) (r : Exchange) : Type 0 where
+-- If some do, its timer runs again, and the end by silence is put off. SND.UNA is then RCV.NXT of the other one, which is as before.
+-- If that was so before, the round puts off the end of the other one too. `old` and `was` are both before the round.
+pub record Exchanged (old here was there : Socket) (outgoing incoming answers text : List ℕ) (h t : Past) (r : Exchange) : Type 0 where
   pub past : Past
   pub past_there : Past
   pub runs : Runs (record { here = end_at here outgoing incoming past; there = end_at there answers text past_there })
@@ -60,8 +62,15 @@ pub record Exchanged (old here there : Socket) (outgoing incoming answers text :
   pub wrote_there : past_there.wrote ≡ t.wrote
   pub read_there : past_there.read ≡ t.read
   pub less : count_of here.connection.sending < count_of old.connection.sending
+  pub was_opened : past.was_opened ≡ true
   pub waiting : 0 < count_of here.connection.sending → IsWaiting here (r.answered + 60000) (later r.answered 300000)
+  pub syn : 0 < count_of here.connection.sending → here.connection.sending.has_syn ≡ false
+  pub level : 0 < count_of here.connection.sending → here.connection.sending.una ≡ there.connection.receiving.next
+  pub recent : StaysOrUpdates old.agreed.recent here.agreed.recent r.answer.options.timestamp r.answered
   pub opened : is_open (state_from there.connection) ≡ true
   pub synced : there.connection.receiving.is_open ≡ true
   pub idle : count_of there.connection.sending ≡ 0
   pub writes : there.connection.sending.is_closed ≡ false
+  pub recent_there : StaysOrUpdates was.agreed.recent there.agreed.recent r.text.options.timestamp r.arrives
+  pub lasts : min was.timers.ends_at (later r.arrives 300000) ≤ there.timers.ends_at
+  pub lives : old.connection.sending.una ≡ was.connection.receiving.next → later r.arrives 300000 ≤ there.timers.ends_at

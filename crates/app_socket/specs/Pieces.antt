@@ -14,9 +14,10 @@ is_worth q count available max_window =
     count == q.mss ||
     ((count == available && (q.is_eager || (q.flight == 0 || q.has_fin))) || not (nat_lt (2 * count) max_window))
 
--- A piece has items, and ends where it may with these windows.
+-- A piece has items, at most as many as fit a segment, and ends where it may with these windows.
 pub record IsWithin (p : Piece) (window cwnd : ℕ) : Type 0 where
   pub some : 0 < p.count
+  pub few : p.count < 65536
   pub end : p.offset + p.count ≤ limit_of window cwnd
   pub small : cwnd ≤ 1073741824
 

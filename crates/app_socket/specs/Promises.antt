@@ -16,11 +16,12 @@ use Rattle.app_connection.specs.Steps.{Steps}
 use Rattle.app_connection.specs.Worlds.{said}
 use Rattle.app_socket.specs.Events.{move_of}
 use Rattle.app_socket.specs.Resends.{Acknowledges, BeginsBy, IsSound, LearnsBy, Resends, SendsSyn, is_due}
-use Rattle.app_socket.specs.Segments.{GoesForward, IsSent, has_timestamp, is_stale, taken_of}
+use Rattle.app_socket.specs.Segments.{GoesForward, IsSent, StaysOrUpdates, has_timestamp, is_stale, taken_of}
 use Rattle.app_socket.specs.Times.{due_in, is_open, later, patience_of}
 use Rattle.app_socket.specs.Window.{HasRoom, Tells, end_after, limit_of}
 use Rattle.app_socket.specs.declared.socket.Socket.{Socket}
 use Rattle.app_socket.specs.declared.step.Event.{Event}
+use Rattle.app_socket.specs.declared.step.Event.TheVariants as event
 
 -- the connection is in a synchronized state (RFC 9293, section 3.3.2)
 abbrev pub IsOpen : Socket → Type 0
@@ -50,6 +51,10 @@ abbrev pub SendsStream : Socket → List ℕ → Option Segment → Type 0
 SendsStream old outgoing given =
     IsOpen old
     → IfSome given (λ s. 0 < len_of s → (there : World) → Waits there old.connection.sending outgoing → IsSent there s)
+
+-- a segment has at most 65,535 bytes of text
+abbrev pub HasShortText : Option Segment → Type 0
+HasShortText given = IfSome given (λ s. length s.payload.now < 65536)
 
 -- text and FIN in the window are taken, unless PAWS drops the segment
 abbrev pub TakesText : Socket → Socket → List ℕ → List ℕ → ℕ → Event → Type 0
@@ -126,6 +131,16 @@ AnswersStale old now e given = is_stale old now e ≡ true → is_some given ≡
 -- TS.Recent does not go back
 abbrev pub KeepsRecent : Socket → Socket → ℕ → Type 0
 KeepsRecent old new now = IsOpen old → GoesForward old.agreed.recent new.agreed.recent now
+
+-- TS.Recent becomes no timestamp but that of the segment
+abbrev pub HearsTimestamp : Event → Socket → Socket → ℕ → Type 0
+HearsTimestamp event.Listen old new now = Unit {0}
+HearsTimestamp (event.Open iss) old new now = Unit {0}
+HearsTimestamp (event.Arrives segment options fresh) old new now =
+    IsOpen old → StaysOrUpdates old.agreed.recent new.agreed.recent options.now.timestamp now
+HearsTimestamp event.Close old new now = Unit {0}
+HearsTimestamp event.Abort old new now = Unit {0}
+HearsTimestamp event.Tick old new now = Unit {0}
 
 -- ---- what goes again
 

@@ -394,6 +394,11 @@ pub record Learns (old new : Socket) (outgoing : List ℕ) (incoming now : ℕ) 
       (state_from new.connection ≡ TimeWait → ⊥) → 0 < newly_in old new → later now 300000 ≤ new.timers.ends_at
   pub lasts :
       (state_from new.connection ≡ TimeWait → ⊥) → min old.timers.ends_at (later now 300000) ≤ new.timers.ends_at
+  -- A segment near RCV.NXT puts it off as far, whatever it acknowledges.
+  pub near :
+      (state_from new.connection ≡ TimeWait → ⊥) → old.connection.receiving.is_open ≡ true → s.rst ≡ false
+      → distance s.number old.connection.receiving.next ≤ room_of old.connection.receiving incoming + 1
+      → later now 300000 ≤ new.timers.ends_at
   -- the first segment goes again after a partial acknowledgement in fast recovery (RFC 6582, section 3.2), if it did not go again
   -- before
   pub partial : ResendsOnPartial old.flow new.flow new.connection.sending.una (newly_in old new)

@@ -16,7 +16,7 @@ use Rattle.app_connection.specs.States.{state_from}
 use Rattle.app_connection.specs.declared.step.Event.{Event as Move}
 use Rattle.app_connection.specs.declared.step.Event.TheVariants as move
 use Rattle.app_options.specs.Options.{of_syn, of_segment, text_limit, window_out}
-use Rattle.app_options.specs.Timestamps.{is_old, takes}
+use Rattle.app_options.specs.Timestamps.{is_old, takes, updated}
 use Rattle.app_options.specs.declared.timestamps.Recent.{Recent}
 use Rattle.app_socket.specs.declared.flow.Flow.{Flow}
 use Rattle.app_socket.specs.declared.socket.Socket.{Socket}
@@ -64,6 +64,10 @@ abbrev pub GoesForward : Option Recent → Option Recent → ℕ → Type 0
 GoesForward None new now = new ≡ None
 GoesForward (Some old) None now = ⊥
 GoesForward (Some old) (Some new) now = (new ≡ old) ⊎ (is_old old new.value now ≡ false)
+
+-- TS.Recent stays, or becomes this timestamp (RFC 7323, section 4.3).
+abbrev pub StaysOrUpdates : Option Recent → Option Recent → Option (ℕ × ℕ) → ℕ → Type 0
+StaysOrUpdates old new timestamp now = (new ≡ old) ⊎ (new ≡ updated old timestamp now)
 
 -- The items of a segment are what the event Send puts on the network, from an item after SND.UNA on.
 pub record IsSent (w : World) (s : Segment) : Type 0 where

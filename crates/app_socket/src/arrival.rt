@@ -10,7 +10,7 @@ ghost use Rattle.app_connection.specs.declared.state.State.TheVariants as state;
 ghost use Rattle.app_connection.specs.Worlds.{GoesOut, said};
 ghost use Rattle.tcp_model.specs.Endpoint.{distance};
 ghost use Rattle.app_socket.specs.Resends.{IsArmed, IsDuplicate, IsSound, Learns, restarted_at, scaled_by, CountsDuplicate, ResendsOnPartial, ResendsOnThird, RestartsTimer, StaysSound, newly_after};
-ghost use Rattle.app_socket.specs.Segments.{rejects};
+ghost use Rattle.app_socket.specs.Segments.{StaysOrUpdates, rejects};
 ghost use Rattle.app_socket.specs.Times.{is_open, later, patience_of};
 ghost use Rattle.app_socket.specs.Window.{HasRoom, Tells};
 ghost use Rattle.app_connection.specs.Promises.{HasNoText, IsAnswerOf};
@@ -105,6 +105,8 @@ impl Socket {
             → is_bare segment.now ≡ true → is_some result ≡ answers_bare self.old.connection
             (room_of self.old.connection.receiving (length incoming.old)) segment.now.number segment.now.ack) }
         ensures recent { KeepsRecent self.old self.new now }
+        ensures timestamp { IsOpen self.old
+            → StaysOrUpdates self.old.agreed.recent self.new.agreed.recent options.now.timestamp now }
         ensures begins { is_open (state_from self.old.connection) ≡ false → IsOpen self.new → RemembersFlight self.new }
         ensures gets { IsOpen self.old → self.old.connection.receiving.is_open ≡ true
             → rejects self.old now segment.now options.now ≡ false → GetsBy (Move.Arrives segment.entry fresh)
@@ -260,6 +262,9 @@ impl Socket {
             → 0 < newly_after self.old before.now.una → later now 300000 ≤ self.new.timers.ends_at }
         ensures lasts { is_open before.now.state ≡ true → (state_from self.old.connection ≡ state.TimeWait → ⊥)
             → min self.old.timers.ends_at (later now 300000) ≤ self.new.timers.ends_at }
+        ensures near { is_open before.now.state ≡ true → (state_from self.old.connection ≡ state.TimeWait → ⊥)
+            → segment.now.rst ≡ false → distance segment.now.number before.now.next ≤ before.now.room + 1
+            → later now 300000 ≤ self.new.timers.ends_at }
         ensures off { is_open before.now.state ≡ false → self.new.timers.resend_at ≡ None }
         ensures sound { is_open before.now.state ≡ true → StaysSound self.old self.new before.now.una }
         ensures begins { is_open before.now.state ≡ false → IsSound self.new.flow self.old.connection.sending.flight }
@@ -299,6 +304,9 @@ impl Socket {
             → 0 < newly_after self.old before.now.una → later now 300000 ≤ self.new.timers.ends_at }
         ensures lasts { (state_from self.old.connection ≡ state.TimeWait → ⊥)
             → min self.old.timers.ends_at (later now 300000) ≤ self.new.timers.ends_at }
+        ensures near { (state_from self.old.connection ≡ state.TimeWait → ⊥) → segment.now.rst ≡ false
+            → distance segment.now.number before.now.next ≤ before.now.room + 1
+            → later now 300000 ≤ self.new.timers.ends_at }
         ensures patience { IsPatient self.old self.new now }
     {
         if self.connection.state() == State::TimeWait {

@@ -16,6 +16,7 @@ ghost use Rattle.app_socket.specs.Segments.{text_of};
 ghost use Rattle.app_socket.specs.Times.{is_open, resend_or_probe};
 
 pub mod pair;
+pub mod rounds;
 pub mod schedules;
 
 use crate::{Event, Socket};

@@ -7,7 +7,7 @@ ghost use Rattle.app_socket.specs.Events.{IsShort, IsTick, IsQuiet};
 ghost use Rattle.app_socket.specs.Resends.{Connects, ConnectsBy};
 ghost use Rattle.app_socket.specs.Times.{later, patience_of};
 ghost use Rattle.app_connection.specs.Promises.{HasNoText};
-ghost use Rattle.app_socket.specs.Promises.{AcknowledgesInTime, AcknowledgesReceived, AdvertisesWindow, AnswersBare, AnswersStale, BeginsSound, Continues, DropsStale, EndsBySilence, EndsNoLater, IsOpen, IsPatient, KeepsRecent, KeepsRoom, LearnsFrom, OwesAck, OwesNoAck, ResendsInTime, ResendsSyn, RestsUntilDue, SendsStream, SendsWithin, StaysIdle, StaysOpen, TakesText, StepsBy};
+ghost use Rattle.app_socket.specs.Promises.{AcknowledgesInTime, AcknowledgesReceived, AdvertisesWindow, AnswersBare, AnswersStale, BeginsSound, Continues, DropsStale, EndsBySilence, EndsNoLater, HasShortText, HearsTimestamp, IsOpen, IsPatient, KeepsRecent, KeepsRoom, LearnsFrom, OwesAck, OwesNoAck, ResendsInTime, ResendsSyn, RestsUntilDue, SendsStream, SendsWithin, StaysIdle, StaysOpen, TakesText, StepsBy};
 ghost use Rattle.app_socket.specs.Replies.{RepliesToItems};
 
 use crate::socket::Socket;
@@ -54,6 +54,7 @@ impl Socket {
         ensures tells { AdvertisesWindow self.old self.new (length incoming.old) result }
         ensures keeps { KeepsRoom self.old self.new (length incoming.old) }
         ensures text { (IsTick event.entry → ⊥) → HasNoText result }
+        ensures short { IsTick event.entry → HasShortText result }
         ensures sends { SendsStream self.old outgoing.now result }
         ensures answers { AcknowledgesReceived self.old self.new incoming.new result }
         ensures stale { DropsStale self.old self.new now event.entry }
@@ -64,6 +65,7 @@ impl Socket {
         ensures replies { RepliesToItems self.old self.new now event.entry result }
         ensures to_bare { AnswersBare self.old self.new (length incoming.old) now event.entry result }
         ensures recent { KeepsRecent self.old self.new now }
+        ensures timestamp { HearsTimestamp event.entry self.old self.new now }
         ensures patience { IsPatient self.old self.new now }
         ensures begins { BeginsSound self.old self.new event.entry }
         ensures stays { StaysOpen self.old self.new event.entry }

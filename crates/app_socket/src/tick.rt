@@ -16,7 +16,7 @@ ghost use Rattle.app_socket.specs.Segments.{IsSent, text_of};
 ghost use Rattle.app_socket.specs.Times.{is_open, later};
 ghost use Rattle.app_socket.specs.Window.{HasRoom, Tells, end_after, limit_of};
 ghost use Rattle.app_connection.specs.Promises.{ChangesOnlyNext, GoesFrom, IsAnswerOf};
-ghost use Rattle.app_socket.specs.Promises.{AcknowledgesInTime, AcknowledgesReceived, AdvertisesWindow, EndsBySilence, EndsNoLater, KeepsRoom, OwesNoAck, ResendsInTime, ResendsSyn, RestsUntilDue, SendsStream, SendsWithin, StaysIdle, StepsBy};
+ghost use Rattle.app_socket.specs.Promises.{AcknowledgesInTime, AcknowledgesReceived, AdvertisesWindow, EndsBySilence, EndsNoLater, HasShortText, KeepsRoom, OwesNoAck, ResendsInTime, ResendsSyn, RestsUntilDue, SendsStream, SendsWithin, StaysIdle, StepsBy};
 
 use crate::flow::{Piece, Queue};
 use crate::socket::Socket;
@@ -58,6 +58,7 @@ impl Socket {
         ensures within { SendsWithin self.old self.new result }
         ensures keeps { KeepsRoom self.old self.new (length incoming.old) }
         ensures acks { OwesNoAck self.old self.new result }
+        ensures short { HasShortText result }
         ensures sends { SendsStream self.old outgoing.now result }
         ensures answers { AcknowledgesReceived self.old self.new incoming.new result }
         ensures agreed { self.new.agreed ≡ self.old.agreed }
@@ -93,6 +94,7 @@ impl Socket {
         ensures endpoint { endpoint_of self.new.connection ≡ endpoint_of self.old.connection }
         ensures goes { GoesFrom self.old.connection self.new.connection outgoing.now (option_map said result) }
         ensures agreed { self.new.agreed ≡ self.old.agreed }
+        ensures short { HasShortText result }
         ensures again { is_due self.old.timers.resend_at now ≡ true → SendsSyn self.old self.new now result }
         ensures ends_at { self.new.timers.ends_at ≡ self.old.timers.ends_at }
         ensures resend { now < 9223372036854775808 → IfSome self.new.timers.resend_at (λ t. now < t) }
@@ -123,6 +125,7 @@ impl Socket {
         ensures resend { now < 9223372036854775808 → IfSome self.new.timers.resend_at (λ t. now < t) }
         ensures tells { IfSome result (λ s. IfSome s.ack
             (λ ack. Tells self.old.edge self.new.edge self.new.connection.receiving incoming ack s.window)) }
+        ensures short { self.old.connection.phase ≡ Open → HasShortText result }
         ensures sends { self.old.connection.phase ≡ Open → IfSome result (λ s. 0 < len_of s → (there : World)
             → Waits there self.old.connection.sending outgoing.now → IsSent there s) }
         ensures answers { IfSome result (λ s. IsAnswerOf self.old.connection.receiving s.ack) }
@@ -178,6 +181,7 @@ impl Socket {
             ≡ record self.old { connection = self.new.connection; timers = self.new.timers; flow = self.new.flow } }
         ensures ack_at { self.new.timers.ack_at ≡ self.old.timers.ack_at }
         ensures agreed { self.new.agreed ≡ self.old.agreed }
+        ensures short { self.old.connection.phase ≡ Open → HasShortText result }
         ensures sends { self.old.connection.phase ≡ Open → IfSome result (λ s. (there : World)
             → Waits there self.old.connection.sending outgoing.now → IsSent there s) }
         ensures within { self.old.connection.phase ≡ Open → IfSome result
@@ -343,6 +347,8 @@ impl Socket {
         ensures first { self.old.connection.phase ≡ Open → has_peer (state_from self.old.connection) ≡ true
             → 0 < piece.now.count → piece.now.offset ≡ 0 → 0 < count_of self.old.connection.sending
             → SendsFirst self.old.connection.sending self.new.connection.sending outgoing.now result }
+        ensures short { self.old.connection.phase ≡ Open → (window cwnd : ℕ) → IsWithin piece.now window cwnd
+            → HasShortText result }
         ensures sends { self.old.connection.phase ≡ Open → IfSome result (λ s. (there : World)
             → Waits there self.old.connection.sending outgoing.now → IsSent there s) }
         ensures within { self.old.connection.phase ≡ Open → (window : ℕ)

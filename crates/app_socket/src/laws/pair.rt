@@ -1,9 +1,10 @@
 //! Laws of two sockets.
 
-ghost use Rattle.std.specs.Prelude.{[], ◌≡◌, ◌<◌, length, ℕ, true, false, IfSome, MatchOption, Some};
+ghost use Rattle.std.specs.Prelude.{◌≡◌, ◌<◌, length};
 ghost use Rattle.app_connection.specs.Endpoints.{InFits, OutFits};
 ghost use Rattle.app_socket.specs.Pair.{Exchanged, MayAnswer, MaySend, Past, end_at};
 ghost use Rattle.app_socket.specs.Answered.{AnsweredBy};
+ghost use Rattle.app_socket.specs.Promises.{HasShortText};
 ghost use Rattle.app_socket.specs.Runs.{Runs};
 
 use crate::{Event, Header, Socket};
@@ -30,8 +31,7 @@ pub struct Exchange {
 
 /// A round of two sockets after a loss. The timer expires twice, the segment at SND.UNA comes to the other end, and the
 /// acknowledgement of that end, at once or after 40 ms, comes back. Then fewer items wait than before. What happened before may be
-/// any run of both ends, over a network that loses, repeats, reorders, delays, splits and joins segments. Returns false if the
-/// segment has more than 65,535 bytes of text.
+/// any run of both ends, over a network that loses, repeats, reorders, delays, splits and joins segments.
 pub fn a_round_of_two_sockets(
     here: &mut Socket,
     outgoing: &[u8],
@@ -40,7 +40,7 @@ pub fn a_round_of_two_sockets(
     answers: &[u8],
     text: &mut [u8],
     round: &Exchange,
-) -> bool
+)
     requires out { OutFits here.old.connection.sending (length outgoing.now) }
     requires rings { InFits here.old.connection.receiving (length incoming.old) }
     requires out_there { OutFits there.old.connection.sending (length answers.now) }
@@ -54,15 +54,15 @@ pub fn a_round_of_two_sockets(
           here = end_at here.old outgoing.now incoming.old h;
           there = end_at there.old answers.now text.old t;
         })
-        → MaySend here.old round.now → MayAnswer there.old (length text.old) round.now → result ≡ true
-        → Exchanged here.old here.new there.new outgoing.now incoming.new answers.now text.new h t round.now }
+        → MaySend here.old round.now → MayAnswer there.old (length text.old) round.now → Exchanged here.old here.new
+        there.old there.new outgoing.now incoming.new answers.now text.new h t round.now }
 {
     let _ = here.step(outgoing, incoming, round.first, Event::Tick);
     let Some(sent) = here.step(outgoing, incoming, round.second, Event::Tick) else {
-        return false;
+        return;
     };
     let Some(answer) = answer(there, answers, text, round, &sent) else {
-        return false;
+        return;
     };
     let answer = with_window(&answer, round.answer.window);
     let _ = here.step(
@@ -71,10 +71,9 @@ pub fn a_round_of_two_sockets(
         round.answered,
         Event::Arrives(&answer, &round.answer.options, 0),
     );
-    true
 }
 
-// The segment comes, and is answered at once or by the next call. None if one of both segments has more than 65,535 bytes of text.
+// The segment comes, and is answered at once or by the next call.
 fn answer<'a>(
     there: &mut Socket,
     answers: &'a [u8],
@@ -82,16 +81,14 @@ fn answer<'a>(
     round: &Exchange,
     sent: &Segment,
 ) -> Option<Segment<'a>>
+    requires short { length sent.now.payload.now < 65536 }
     requires out { OutFits there.old.connection.sending (length answers.now) }
     requires rings { InFits there.old.connection.receiving (length text.old) }
     ensures out { OutFits there.new.connection.sending (length answers.now) }
     ensures rings { InFits there.new.connection.receiving (length text.old) }
-    ensures short { IfSome result (λ s. length s.payload.now < 65536) }
+    ensures short { HasShortText result }
     ensures goes { AnsweredBy there.old there.new answers.now text.old text.new round.now sent.now result }
 {
-    if sent.payload.len() > 65535 {
-        return None;
-    }
     let segment = with_window(sent, round.text.window);
     let reply = there.step(
         answers,
@@ -102,13 +99,7 @@ fn answer<'a>(
     if reply.is_some() {
         return reply;
     }
-    let Some(answer) = there.step(answers, text, round.calls, Event::Tick) else {
-        return None;
-    };
-    if answer.payload.len() > 65535 {
-        return None;
-    }
-    Some(answer)
+    there.step(answers, text, round.calls, Event::Tick)
 }
 
 // The same segment, with another window.

@@ -1,38 +1,13 @@
-use Rattle.std.proofs.Common.{◌≡◌, refl, ◌∙◌, sym, ap, subst, ℕ, ◌+◌, Bool, true, false, arith}
-use Rattle.std.specs.Prelude.{◌&&◌, not}
-use Rattle.tcp_model.specs.Endpoint.{distance}
+use Rattle.std.proofs.Common.{◌≡◌, ◌∙◌, sym, ap, true, false, arith}
 use Rattle.tcp_model.specs.Network.{run, start}
-use Rattle.app_tcp.proofs.Rounds.{true_test}
 use Rattle.app_options.specs.declared.agreed.Agreed.{Agreed}
 use Rattle.app_options.specs.Timestamps.{takes}
 use Rattle.app_connection.specs.declared.connection.Connection.{Connection}
-use Rattle.app_connection.specs.Endpoints.{one}
-use Rattle.app_connection.specs.Sequence.{is_taken_at}
 use Rattle.app_connection.specs.States.{state_from}
 use Rattle.app_socket.specs.Segments.{rejects}
 use Rattle.app_socket.specs.Times.{is_open}
-use Rattle.app_socket.proofs.Rounds.{count_some, round_of}
+use Rattle.app_socket.proofs.Rounds.{bare_taken, count_some, no_flag, none_rejected, round_of}
 use Rattle.app_socket.proofs.laws.a_round_is_acknowledged.Goals as goal
-
--- a segment whose timestamp is taken is not rejected
-none_rejected : (a b t : Bool) → t ≡ true → (a && (b && not t)) ≡ false
-none_rejected true true true is = refl
-none_rejected true false true is = refl
-none_rejected false true true is = refl
-none_rejected false false true is = refl
-none_rejected a b false is = absurd (cc)
-
-no_flag : (b : Bool) → one b ≡ 0 → b ≡ false
-no_flag true is = absurd (omega (arith, is))
-no_flag false is = refl
-
--- a bare acknowledgement at RCV.NXT is taken
-taken_at : (next window : ℕ) → is_taken_at next window next 0 ≡ true
-taken_at next window = true_test (distance next next) (window + 2) (omega arith)
-
-bare_taken : (next window number len : ℕ) → number ≡ next → len ≡ 0 → is_taken_at next window number len ≡ true
-bare_taken next window number len same none =
-    subst (λ (n : ℕ). is_taken_at next window number n ≡ true) (sym none) (subst (λ (n : ℕ). is_taken_at next window n 0 ≡ true) (sym same) (taken_at next window))
 
 pub returns : goal.returns
 returns c = λ after initial room events waits less opened space.

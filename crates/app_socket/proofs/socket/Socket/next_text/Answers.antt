@@ -1,5 +1,5 @@
 use Rattle.std.proofs.Common.{ap, ◌≡◌, inl, inr, ◌∙◌, refl, sym, subst, ℕ, ◌+◌, ◌%◌, ◌<◌, ◌≤◌, true, min, arith}
-use Rattle.std.specs.Prelude.{None, Option, Some, IfSome, MatchOption}
+use Rattle.std.specs.Prelude.{None, Option, Some, IfSome, MatchOption, option_map}
 use Rattle.app_connection.proofs.Going.{goes_at, stand_as}
 use Rattle.app_socket.specs.declared.socket.Socket.{Socket}
 use Rattle.app_socket.proofs.Opened.{patience_on}
@@ -12,7 +12,9 @@ use Rattle.app_connection.specs.declared.connection.Connection.{Connection}
 use Rattle.app_connection.specs.declared.segment.Segment.{Segment}
 use Rattle.app_connection.specs.declared.state.Phase.TheVariants.{Open}
 use Rattle.app_connection.specs.Endpoints.{len_of}
+use Rattle.app_connection.specs.Promises.{GoesFrom}
 use Rattle.app_connection.specs.States.{has_peer, state_from}
+use Rattle.app_connection.specs.Worlds.{said}
 use Rattle.app_socket.specs.declared.flow.Flow.{Flow}
 use Rattle.app_socket.specs.Resends.{BacksOff, IsArmed, IsSound, SendsFirst, SendsNone}
 use Rattle.app_socket.specs.Times.{later}
@@ -52,6 +54,13 @@ returns-in_default-clause-resends c = λ opened has.
       quiet = λ none. same;
       only = only_same old.connection new.connection same;
     }
+
+pub returns-clause-short : goal.returns-clause-short
+returns-clause-short c = λ opened. c.cut.ensures.short (ap (λ (x : Socket). x.connection.phase) c.piece.ensures.same ∙ opened) _ _ c.in-Some.ensures.within
+
+pub returns-clause-goes : goal.returns-clause-goes
+returns-clause-goes c =
+    subst (λ (x : Connection). GoesFrom x c.cut.new.self.connection c.args.outgoing.now (option_map said c.cut.result)) (ap (λ (x : Socket). x.connection) c.piece.ensures.same) c.cut.ensures.goes
 
 -- a segment with items goes
 goes_some : (o : Option Segment) → MatchOption o ⊥ (λ s. 0 < len_of s) → SendsNone o → ⊥

@@ -58,7 +58,7 @@ returns-then-counts-clause-learns c = λ opened after taken.
     let is : Learns c.args.self.now new c.args.outgoing.now size c.args.now (scaled_by c.args.self.now.agreed c.args.segment.now) =
     subst (λ (x : Socket). Learns x new c.args.outgoing.now size c.args.now (scaled_by x.agreed c.args.segment.now)) same learns
     in
-    record { una = is.una; sound = is.sound; hears = is.hears; restarts = is.restarts; keeps = is.keeps; armed = is.armed; lives = is.lives; lasts = is.lasts; partial = is.partial; counted = is.counted; third = is.third }
+    record { una = is.una; sound = is.sound; hears = is.hears; restarts = is.restarts; keeps = is.keeps; armed = is.armed; lives = is.lives; lasts = is.lasts; near = is.near; partial = is.partial; counted = is.counted; third = is.third }
 
 pub returns-else-counts-clause-learns : goal.returns-else-counts-clause-learns
 returns-else-counts-clause-learns c = λ opened after taken.
@@ -72,7 +72,7 @@ returns-else-counts-clause-learns c = λ opened after taken.
     let is : Learns c.args.self.now new c.args.outgoing.now size c.args.now (scaled_by c.args.self.now.agreed c.args.segment.now) =
     subst (λ (x : Socket). Learns x new c.args.outgoing.now size c.args.now (scaled_by x.agreed c.args.segment.now)) same learns
     in
-    record { una = is.una; sound = is.sound; hears = is.hears; restarts = is.restarts; keeps = is.keeps; armed = is.armed; lives = is.lives; lasts = is.lasts; partial = is.partial; counted = is.counted; third = is.third }
+    record { una = is.una; sound = is.sound; hears = is.hears; restarts = is.restarts; keeps = is.keeps; armed = is.armed; lives = is.lives; lasts = is.lasts; near = is.near; partial = is.partial; counted = is.counted; third = is.third }
 
 pub returns-then-counts-clause-gets : goal.returns-then-counts-clause-gets
 returns-then-counts-clause-gets c = λ opened synced taken.

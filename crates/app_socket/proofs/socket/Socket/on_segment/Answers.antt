@@ -113,6 +113,11 @@ returns-in_default-clause-learns c = λ opened after.
           (c.learn.ensures.lives is (λ e. lasts (ap state_from same ∙ e)) (subst (λ (n : ℕ). 0 < n) (sym newly) some));
       lasts = λ lasts.
           subst (λ (n : ℕ). min old.timers.ends_at (later now 300000) ≤ n) (sym c.answer.ensures.ends_at) (c.learn.ensures.lasts is (λ e. lasts (ap state_from same ∙ e)));
+      near = λ lasts synced rst close.
+          subst (λ (n : ℕ). later now 300000 ≤ n) (sym c.answer.ensures.ends_at)
+          (c.learn.ensures.near is (λ e. lasts (ap state_from same ∙ e)) rst
+          (subst (λ (n : ℕ). distance s.number n ≤ b.room + 1) (sym (c.before-before.ensures.next synced))
+          (subst (λ (n : ℕ). distance s.number old.connection.receiving.next ≤ n + 1) (sym c.before-before.ensures.room) close)));
       partial = λ some part rescued.
           ap (λ (x : Socket). x.flow.resend) c.answer.ensures.same
           ∙ c.learn.ensures.partial is (subst (λ (n : ℕ). 0 < n) (sym newly) some)

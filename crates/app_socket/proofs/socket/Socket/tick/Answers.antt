@@ -1,8 +1,9 @@
 use Rattle.std.proofs.Common.{◌≡◌, true, false, refl, sym, ◌∙◌, ap}
 use Rattle.std.specs.Prelude.{option_map}
-use Rattle.app_socket.proofs.Opened.{no_items, open_phase, open_has_peer}
+use Rattle.app_socket.proofs.Opened.{no_items, no_text_short, open_phase, open_has_peer}
 use Rattle.app_connection.specs.States.{has_peer, state_from}
 use Rattle.app_connection.specs.Worlds.{said}
+use Rattle.app_socket.specs.Times.{is_open}
 use Rattle.app_socket.proofs.Stepping.{steps_idle, steps_silent, steps_tick}
 use Rattle.app_socket.proofs.socket.Socket.tick.Goals as goal
 
@@ -39,3 +40,12 @@ returns-clause-resends c = λ opened before. c.tick_open.ensures.resends (open_p
 
 pub returns-clause-acknowledges : goal.returns-clause-acknowledges
 returns-clause-acknowledges c = λ opened before. c.tick_open.ensures.acknowledges (open_phase c.args.self.now.connection opened)
+
+pub returns-then-self-now-clause-short : goal.returns-then-self-now-clause-short
+returns-then-self-now-clause-short c = no_text_short c.step.result (c.step.ensures.text (λ opened sends. sends))
+
+pub returns-clause-short : goal.returns-clause-short
+returns-clause-short c =
+    let old = c.args.self.now.connection in
+    let opened : is_open (state_from old) ≡ true = sym (c.is_open.ensures ∙ ap is_open c.state-state.ensures.value) ∙ c.if-not-is_open.false in
+    c.tick_open.ensures.short (open_phase old opened)
