@@ -1,10 +1,10 @@
 -- Many rounds of two sockets.
-use Rattle.std.proofs.Common.{◌≡◌, ◌⊎◌, inl, inr, refl, sym, ◌∙◌, ap, subst, ℕ, ◌+◌, ◌≤◌, ◌<◌, List, ◌∷◌, ◌++◌, true, false, length, take, drop, min, arith, length-append, get_or}
+use Rattle.std.proofs.Common.{◌≡◌, ◌⊎◌, inl, inr, refl, sym, ◌∙◌, ap, subst, ℕ, ◌+◌, ◌≤◌, ◌<◌, List, ◌∷◌, true, false, length, take, drop, min, arith, length-append, get_or}
 use Rattle.std.specs.Prelude.{Option, Some, None, MatchOption}
 use Rattle.std.proofs.lemmas.Bool.{cases_lt}
 use Rattle.std.proofs.lemmas.List.{at_drop_more, length-take-le}
 use Rattle.tcp_model.specs.Endpoint.{Item}
-use Rattle.tcp_model.specs.Network.{World, IsPrefixOf, bytes_of, stream}
+use Rattle.tcp_model.specs.Network.{IsPrefixOf, bytes_of, stream}
 use Rattle.tcp_model.proofs.Parts.{part_first}
 use Rattle.tcp_model.proofs.Streams.{bytes_first}
 use Rattle.app_tcp.specs.Ring.{ring}

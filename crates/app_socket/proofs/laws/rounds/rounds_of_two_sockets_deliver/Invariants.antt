@@ -1,4 +1,4 @@
-use Rattle.std.proofs.Common.{◌≡◌, length, drop}
+use Rattle.std.proofs.Common.{length, drop}
 use Rattle.app_tcp.specs.Waits.{count_of}
 use Rattle.app_connection.specs.Endpoints.{OutFits, InFits}
 use Rattle.app_socket.specs.Exchanges.{MayExchange}

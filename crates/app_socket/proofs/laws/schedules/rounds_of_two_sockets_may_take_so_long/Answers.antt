@@ -1,4 +1,4 @@
-use Rattle.std.proofs.Common.{◌≡◌, refl, sym, ◌∙◌, ap, subst, ℕ, Bool, true, false}
+use Rattle.std.proofs.Common.{◌≡◌, refl, ◌∙◌, ap, ℕ, Bool, true, false}
 use Rattle.std.specs.Prelude.{Option, Some, not, ◌&&◌}
 use Rattle.app_options.specs.declared.timestamps.Recent.{Recent}
 use Rattle.app_options.specs.Timestamps.{is_before, is_outdated, takes, updated}
