@@ -139,6 +139,12 @@ class Congestion:
         self.cwnd, self.acked, self.duplicates = self.mss, 0, 0
         self.recover, self.is_recovering, self.is_resent = after, False, True
 
+    def undo(self, cwnd, ssthresh):
+        """What was done for a loss was not needed (RFC 4015)."""
+        self.cwnd, self.ssthresh = min(MAX_CWND, max(cwnd, self.mss)), min(MAX_CWND, max(ssthresh, 2 * self.mss))
+        self.acked, self.duplicates = 0, 0
+        self.recover, self.is_recovering, self.is_resent = None, False, False
+
     def on_idle(self):
         """RFC 5681, section 4.1."""
         self.cwnd, self.acked = min(self.initial, self.cwnd), 0

@@ -4,10 +4,10 @@ The names of states and variables are those of the RFC. Each event returns the s
 has the rules that handled the last event.
 
 The RFC leaves some choices to an endpoint. This one acknowledges each segment with text or FIN at once, also after a gap.
-It keeps one piece of text after a gap (SHLD-31). It sends text only if the user asks for a segment, and none from after
-SND.NXT. Of a SYN it takes the window, and neither text nor FIN: the peer sends them again. In SYN-RECEIVED it takes the
-acknowledgement of its SYN only at RCV.NXT, or with the SYN of the peer (figure 7). The window is 0 after the FIN of the
-peer. Both buffers are rings, and a text ends where its ring ends.
+It keeps eight pieces of text after gaps, and a FIN there (SHLD-31). It sends text only if the user asks for a segment,
+and none from after SND.NXT. Of a SYN it takes the window, and neither text nor FIN: the peer sends them again. In
+SYN-RECEIVED it takes the acknowledgement of its SYN only at RCV.NXT, or with the SYN of the peer (figure 7). The window
+is 0 after the FIN of the peer. Both buffers are rings, and a text ends where its ring ends.
 
 Section 3.10.7.4 asks for "special allowance" for valid acknowledgements if RCV.WND is 0. A peer that probes the window sends
 the number at its right edge (section 3.8.6.1), so its next acknowledgement is one past the edge. A synchronized endpoint takes
@@ -17,6 +17,8 @@ from typing import NamedTuple, Optional
 
 MASK = 0xFFFFFFFF
 HALF = 1 << 31
+# The most pieces of text that are kept after gaps, and the most that a segment tells.
+MOST_PIECES, MOST_BLOCKS = 8, 3
 
 CLOSED, LISTEN, SYN_SENT, SYN_RECEIVED, ESTABLISHED = "CLOSED", "LISTEN", "SYN-SENT", "SYN-RECEIVED", "ESTABLISHED"
 FIN_WAIT_1, FIN_WAIT_2, CLOSE_WAIT = "FIN-WAIT-1", "FIN-WAIT-2", "CLOSE-WAIT"
@@ -73,8 +75,11 @@ class Connection:
     def begin_text(self):
         """The text that came and was not read yet, where it begins in its ring, and whether the FIN came."""
         self.unread, self.at_in, self.has_fin = bytearray(), 0, False
-        # The piece of text that is kept after a gap, and how far after RCV.NXT it begins.
-        self.later, self.later_at = bytearray(), 0
+        # The pieces of text that are kept after gaps: how far after RCV.NXT each begins, and its bytes. They are in order and
+        # apart.
+        self.pieces = []
+        # How far after RCV.NXT the newest of them began, and a FIN is (0: it did not come).
+        self.newest = self.fin_at = 0
 
     @property
     def rcv_wnd(self):
@@ -432,37 +437,62 @@ class Connection:
             self.met.append("text" if not skip else "text, in part again")
         if len(seg.text) - skip > len(text):
             self.met.append("text, cut")
-        if has_fin:
-            self.later.clear()
-        elif len(text) < self.later_at:
-            self.later_at -= len(text)
-        else:
-            text += bytes(self.later[len(text) - self.later_at :])
-            self.later.clear()
+        to = len(text) if has_fin else self.end_of_kept(len(text))
+        for at, piece in self.pieces if to > len(text) else ():
+            if at <= len(text) < at + len(piece):
+                text += bytes(piece[len(text) - at :])
         self.unread += text
-        self.rcv_nxt = (self.rcv_nxt + len(text)) & MASK
-        if has_fin:
-            self.take_fin()
+        self.rcv_nxt = (self.rcv_nxt + to) & MASK
+        if has_fin or 0 < self.fin_at == to:
+            return self.take_fin()
+        self.pieces = [(max(0, at - to), piece[max(0, to - at) :]) for at, piece in self.pieces if at + len(piece) > to]
+        self.newest, self.fin_at = max(0, self.newest - to), max(0, self.fin_at - to)
+
+    def end_of_kept(self, at):
+        """How far after RCV.NXT the first number at or after `at` is that is not kept."""
+        ends = [first + len(piece) for first, piece in self.pieces if first <= at < first + len(piece)]
+        return ends[0] if ends else at
 
     def take_later(self, seg):
-        """Text after a gap is kept as far as it is in the window and joins what is kept. The newest counts."""
+        """Text after a gap is kept as far as it is in the window, if it is no ninth piece, and a FIN too. The newest counts."""
         self.met.append("text after a gap")
         ahead = distance(seg.seq, self.rcv_nxt)
-        text = seg.text[: max(0, self.rcv_wnd - ahead)]
-        if not text:
+        if ahead >= self.rcv_wnd:
             return
-        at = ahead - self.later_at if self.later else 0
-        if not self.later:
-            self.later_at = ahead
-        if at > len(self.later) or at + len(text) < 0:
-            return
-        if at < 0:
-            self.later[:0] = bytes(-at)
-            self.later_at, at = ahead, 0
-        self.later[at : at + len(text)] = text
+        text = seg.text[: self.rcv_wnd - ahead]
+        end = ahead + len(text)
+        if text:
+            apart = [(at, piece) for at, piece in self.pieces if at > end or at + len(piece) < ahead]
+            if len(apart) == MOST_PIECES:
+                return
+            whole = bytearray(text)
+            for at, piece in self.pieces:
+                if at < ahead and (at, piece) not in apart:
+                    whole[:0] = piece[: ahead - at]
+                    ahead_of_whole = at
+                    break
+            else:
+                ahead_of_whole = ahead
+            for at, piece in self.pieces:
+                if at + len(piece) > end and (at, piece) not in apart:
+                    whole += piece[end - at :]
+            self.pieces = sorted(apart + [(ahead_of_whole, whole)], key=lambda piece: piece[0])
+            self.newest = ahead
+        if "F" in seg.bits and len(text) == len(seg.text) and end < self.rcv_wnd:
+            self.fin_at = end
+
+    @property
+    def blocks(self):
+        """The SACK blocks of what is kept: first the piece with the newest text, and then the lowest ones."""
+        covers = [at <= self.newest < at + len(piece) for at, piece in self.pieces]
+        newest = covers.index(True) if True in covers else 0
+        told = self.pieces[newest : newest + 1] + self.pieces[:newest] + self.pieces[newest + 1 :]
+        firsts = [((self.rcv_nxt + at) & MASK, len(piece)) for at, piece in told[:MOST_BLOCKS]]
+        return tuple((first, (first + count) & MASK) for first, count in firsts)
 
     def take_fin(self):
         self.met.append("FIN")
         self.rcv_nxt = (self.rcv_nxt + 1) & MASK
         self.has_fin = True
+        self.pieces, self.newest, self.fin_at = [], 0, 0
         self.state = {ESTABLISHED: CLOSE_WAIT, FIN_WAIT_1: CLOSING, FIN_WAIT_2: TIME_WAIT}[self.state]

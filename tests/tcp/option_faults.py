@@ -45,7 +45,7 @@ class NoLeastText(Socket):
     @property
     def most(self):
         most = super().most
-        return most if most > MIN_TEXT else max(1, self.limit - self.agreed.of_segment(self.kept, self.now).size)
+        return most if most > MIN_TEXT else max(1, self.limit - self.agreed.of_segment(self.blocks[:1], self.now).size)
 
 
 class ScaledSyn(Socket):
@@ -241,7 +241,7 @@ class NoBlock(Socket):
 
     class agreement(tcp_options.Agreed):
         def of_segment(self, kept, now):
-            return super().of_segment(None, now)
+            return super().of_segment((), now)
 
 
 class AnyBlock(Socket):
@@ -250,7 +250,7 @@ class AnyBlock(Socket):
     class agreement(tcp_options.Agreed):
         def of_segment(self, kept, now):
             options = super().of_segment(kept, now)
-            return options._replace(blocks=(kept,)) if kept else options
+            return options._replace(blocks=kept)
 
 
 class TakesAnyBlock(Socket):

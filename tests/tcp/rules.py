@@ -105,6 +105,7 @@ SOCKET_RULES = {
     "old timestamp": SYNCHRONIZED,
     "TS.Recent": SYNCHRONIZED,
     "RTTM": SENDING,
+    "spurious": SENDING,
     "SACK": SENDING,
     "bad SACK": SYNCHRONIZED,
     "hole": SENDING,
@@ -117,8 +118,8 @@ SOCKET_RULES = {
 RARE = {("third duplicate ACK", CLOSE_WAIT), ("third duplicate ACK", CLOSING), ("third duplicate ACK", LAST_ACK),
         ("partial ACK", CLOSE_WAIT), ("partial ACK", CLOSING), ("partial ACK", LAST_ACK), ("override", CLOSING),
         ("override", LAST_ACK), ("idle", CLOSING), ("idle", LAST_ACK), ("acknowledgement", LAST_ACK), ("hole", CLOSE_WAIT),
-        ("hole", CLOSING), ("hole", LAST_ACK), ("too big", CLOSING), ("too big", LAST_ACK), ("no timestamp", TIME_WAIT),
-        ("too big: nothing", TIME_WAIT)}
+        ("hole", CLOSING), ("hole", LAST_ACK), ("spurious", CLOSING), ("spurious", LAST_ACK), ("too big", CLOSING),
+        ("too big", LAST_ACK), ("no timestamp", TIME_WAIT), ("too big: nothing", TIME_WAIT)}
 # Rules that are named in either table.
 NAMED = RULES.keys() | SOCKET_RULES.keys()
 

@@ -1,6 +1,6 @@
 """A TCP connection with time: a connection of model.py with the timers of RFC 9293 (section 3.8), RFC 1122 (section 4.2.3) and
-RFC 6298, the congestion control of RFC 5681 and RFC 6582, a loss probe as in RFC 8985, and the options of RFC 7323 and RFC 2018.
-Times are in milliseconds.
+RFC 6298, the congestion control of RFC 5681 and RFC 6582 with undo by RFC 3522 and RFC 4015, a loss probe as in RFC 8985,
+and the options of RFC 7323 and RFC 2018. Times are in milliseconds.
 
 Each event returns the packet that goes out, or None. After each event the caller calls `tick` until it returns None, and
 again at `due`. `met` has the rules that handled the last event.
@@ -50,6 +50,10 @@ class Socket:
         self.scoreboard, self.rescued = self.board(), 0
         # Whether the timer expired since the last sample.
         self.is_probed = False
+        # When the first segment went again since the last acknowledgement (0: none did), and cwnd and ssthresh before that.
+        self.undo = 0, 0, 0
+        # When the timer expired last.
+        self.expired_at = 0
 
     def __getattr__(self, name):
         """The variables of the connection, and the calls that need no time."""
@@ -92,15 +96,9 @@ class Socket:
         return min(time for time in times if time is not None)
 
     @property
-    def kept(self):
-        """The block that is kept after a gap, or None."""
-        first = (self.rcv_nxt + self.later_at) & MASK
-        return (first, (first + len(self.later)) & MASK) if self.later else None
-
-    @property
     def most(self):
         """The most bytes of text in the next segment: the options of a segment count (RFC 6691)."""
-        return max(self.limit - self.agreed.of_segment(self.kept, self.now).size, min(self.limit, MIN_TEXT))
+        return max(self.limit - self.agreed.of_segment(self.blocks[:1], self.now).size, min(self.limit, MIN_TEXT))
 
     def packet(self, seg):
         """A segment with its window field and its options."""
@@ -111,7 +109,7 @@ class Socket:
             of_syn = self.agreed.of_syn if seg.ack is None else self.agreed.of_syn_ack
             window, options = min(MAX_FIELD, seg.window), of_syn(self.mss, self.now)
         elif "R" not in seg.bits:
-            options = self.agreed.of_segment(self.kept, self.now)
+            options = self.agreed.of_segment(self.blocks[:1] if seg.text else self.blocks, self.now)
         return Packet(seg.seq, seg.ack, seg.bits, window, seg.text, options)
 
     # User calls
@@ -187,7 +185,7 @@ class Socket:
     def take(self, seg, iss):
         """A segment with its window in bytes."""
         was, was_open, rcv_nxt, is_near = self.state, self.is_open, self.rcv_nxt, self.is_near(seg)
-        una, flight, window, is_special = self.snd_una, self.flight, self.snd_wnd, bool(self.later) or "F" in seg.bits
+        una, flight, window, is_special = self.snd_una, self.flight, self.snd_wnd, bool(self.pieces) or "F" in seg.bits
         reply = self.connection.arrives(seg, iss)
         if self.state in NO_PEER:
             return reply
@@ -231,7 +229,7 @@ class Socket:
         if self.timing:
             return self.sample() if not is_before(self.snd_una, self.timing[0]) else None
         rtt = self.agreed.round_trip(options, self.now)
-        if rtt is not None:
+        if rtt is not None and max(0, self.now - rtt) >= self.expired_at:
             self.met.append("RTTM")
             self.rto.on_sample(rtt)
             self.is_probed = False
@@ -250,6 +248,7 @@ class Socket:
         is_duplicate = not newly and is_near and self.is_duplicate(seg, una, flight, window)
         if newly:
             self.take_time(seg.options)
+            self.restore(seg.options, newly)
             self.move_on(newly)
             self.resend_at = self.now + self.timer if self.is_waiting else None
         total = self.scoreboard.total
@@ -264,11 +263,31 @@ class Socket:
         if window == 0 < self.snd_wnd and self.is_waiting:
             self.resend_at = self.now + self.timer
 
+    def restore(self, options, newly):
+        """An echo of a timestamp from before a segment went again: nothing was lost (RFC 3522, section 3.2; RFC 4015)."""
+        rtt = self.agreed.round_trip(options, self.now)
+        sent_at, *sizes = self.undo
+        if rtt is not None and max(0, self.now - rtt) < sent_at:
+            self.met.append("spurious")
+            self.congestion.undo(*sizes)
+            self.cursor, self.resend = self.flight + newly, False
+        self.undo = 0, *sizes
+
+    def save(self, cwnd, ssthresh):
+        if not self.undo[0]:
+            self.undo = self.now, cwnd, ssthresh
+
+    @property
+    def sizes(self):
+        return self.congestion.unlimited, self.congestion.ssthresh
+
     def count_duplicates(self, count, flight):
         """One, or as many as there are segments in its blocks (RFC 6675, section 5)."""
         for _ in range(count):
+            sizes = self.sizes
             is_third = self.congestion.on_duplicate(flight, self.snd_una, self.snd_nxt)
             if is_third:
+                self.save(*sizes)
                 self.resend, self.rescued = True, 0
             self.met.append("third duplicate ACK" if is_third else "duplicate ACK")
 
@@ -307,7 +326,7 @@ class Socket:
         """The acknowledgement goes at once, by the next `tick`, or later (RFC 5681, section 4.2)."""
         if not has_moved:
             return self.advertised(reply) if reply else None
-        is_now = is_special or self.later or self.ack_at is not None
+        is_now = is_special or self.pieces or self.ack_at is not None
         self.ack_at = self.now if is_now else self.now + ACK_DELAY
         return None
 
@@ -372,9 +391,10 @@ class Socket:
 
     def loss_probe(self):
         """The first segment goes again, in fast recovery, before the time-out."""
-        self.is_probed, self.resend_at = True, self.now + self.rto.timeout
+        self.is_probed, self.resend_at, self.expired_at = True, self.now + self.rto.timeout, self.now
         if self.is_worth_probe():
             self.met.append("loss probe")
+            self.save(*self.sizes)
             self.congestion.on_probe(self.flight, self.snd_nxt)
             self.resend, self.rescued = True, 0
 
@@ -387,7 +407,9 @@ class Socket:
         if self.flight or not self.snd_wnd:
             self.rto.back_off()
         self.met.append("window probe" if not self.snd_wnd else "time-out" if self.flight else "override")
+        self.expired_at = self.now
         if self.flight and self.snd_wnd:
+            self.save(*self.sizes)
             self.congestion.on_timeout(self.flight, self.snd_nxt)
         self.timing, self.is_probed = None, True
         self.go_back()
@@ -447,9 +469,11 @@ class Socket:
         return self.advertised(self.connection.acknowledgement())
 
     def is_update_due(self):
-        """The peer has little of the window, and could have more."""
-        gain = distance(self.rcv_nxt + self.rcv_wnd, self.edge)
-        return not self.has_fin and distance(self.edge, self.rcv_nxt) < self.threshold <= gain < HALF
+        """The peer would read much more of the window, and has little of it, or at most half of what it could have."""
+        promised = distance(self.edge, self.rcv_nxt)
+        gain, told = self.rcv_wnd - promised, self.agreed.read_as(promised)
+        is_more = gain >= self.threshold and self.agreed.read_as(self.rcv_wnd) - told >= self.threshold
+        return not self.has_fin and is_more and (told < self.threshold or gain >= promised)
 
     def keep_alive_probe(self):
         """RFC 1122, section 4.2.3.6."""

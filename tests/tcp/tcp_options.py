@@ -122,12 +122,17 @@ class Agreed:
         return Options(mss, None if self.scale is None else self.own_scale, self.has_sack, self.stamps(now))
 
     def of_segment(self, kept, now):
-        """`kept` is the block that is kept after a gap, or None."""
-        return Options(stamps=self.stamps(now), blocks=(kept,) if kept and self.has_sack else ())
+        """`kept` are the blocks of what is kept after gaps."""
+        return Options(stamps=self.stamps(now), blocks=kept if self.has_sack else ())
 
     def field(self, window):
         """The window field (RFC 7323, section 2.3)."""
         return min(MAX_FIELD, window >> (0 if self.scale is None else self.own_scale))
+
+    def read_as(self, window):
+        """An own window as the peer reads it."""
+        shift = 0 if self.scale is None else self.own_scale
+        return window >> shift << shift
 
     def window(self, field):
         return field << (self.scale or 0)

@@ -121,7 +121,7 @@ class Watch:
         limit = min(self.mss, max(MIN_MSS, DEFAULT_MSS if asked.mss is None else asked.mss))
         assert len(seg.text) <= max(limit - options.size, min(limit, MIN_TEXT)), "a larger segment than the peer takes"
         for first, end in options.blocks:
-            assert asked.has_sack and len(options.blocks) == 1, "blocks that were not asked for"
+            assert asked.has_sack and len(options.blocks) <= (1 if seg.text else 3), "blocks that were not asked for"
             assert is_after(first, seg.ack) and is_after(end, first), "a block is not after a gap"
             assert {(first + at) & MASK for at in range(distance(end, first))} <= self.came, "a block did not come"
 

@@ -23,6 +23,8 @@ def end_of_ghost(text, at):
         return text.index(";", at) + 1
     first = next(token for token in TOKEN.finditer(text, at) if token.group() in "{;")
     end = after_braces(text, first.start()) if first.group() == "{" else first.end()
+    if proof := re.match(r"\s*by\s*(?=\{)", text[end:]):
+        end = after_braces(text, end + proof.end())
     return end + len(re.match(r"[;,]?", text[end:]).group())
 
 

@@ -159,3 +159,15 @@ timed_out s flight next =
 -- the connection was idle (RFC 5681, section 4.1)
 abbrev pub restarted : Sender → Sender
 restarted s = record s { cwnd = min (initial_window s.mss) s.cwnd; acked = 0 }
+
+-- What was done for a loss was not needed: cwnd and ssthresh are these again, as before it. RFC 4015, section 3.4, allows a cwnd
+-- of what is in flight and an initial window at most. The next loss begins fast recovery or slow start.
+abbrev pub undone : Sender → ℕ → ℕ → Sender
+undone s cwnd ssthresh = record s {
+  cwnd = capped (max cwnd s.mss);
+  ssthresh = capped (max ssthresh (2 * s.mss));
+  acked = 0;
+  duplicates = 0;
+  phase = Open;
+  is_resent = false;
+}

@@ -39,7 +39,7 @@ pub struct Congestion {
 
 impl Congestion {
     ghost use Rattle.std.specs.Prelude.{◌≡◌, ◌+◌, ◌/◌, ◌==◌, ◌&&◌, not, max, min, true, false};
-    ghost use Rattle.app_congestion.specs.Congestion.{sender_of, begins, halved, capped, is_past, is_partial, is_in_recovery, is_third, grown, unchanged, allowed, partial, acknowledged, duplicated, probed, timed_out, restarted};
+    ghost use Rattle.app_congestion.specs.Congestion.{sender_of, begins, halved, capped, is_past, is_partial, is_in_recovery, is_third, grown, unchanged, allowed, partial, acknowledged, duplicated, probed, timed_out, restarted, undone};
 
     /// A connection with this maximum segment size (SMSS); 0 counts as 1. Its initial window is that of RFC 6928: 10 segments
     /// of up to 1,460 bytes.
@@ -82,6 +82,24 @@ impl Congestion {
         ensures two { 2 * self.now.mss ≤ result }
     {
         self.ssthresh
+    }
+
+    /// What was done for a loss was not needed: cwnd and ssthresh are these again, as before it (RFC 4015).
+    pub fn undo(&mut self, cwnd: u32, ssthresh: u32)
+        ensures { sender_of self.new ≡ undone (sender_of self.old) cwnd ssthresh }
+    {
+        let cwnd = cwnd.max(self.mss).min(MAX_CWND);
+        let ssthresh = ssthresh.max(2 * self.mss).min(MAX_CWND);
+        *self = Congestion {
+            mss: self.mss,
+            cwnd,
+            ssthresh,
+            acked: 0,
+            duplicates: 0,
+            first_flight: self.first_flight,
+            phase: Phase::Open,
+            is_resent: false,
+        };
     }
 
     /// Whether it is in fast recovery.
@@ -230,8 +248,8 @@ impl Congestion {
         }
     }
 
-    // The window without the segments that limited transmit allows.
-    fn unchanged(&self) -> u32
+    /// The window without the segments that limited transmit allows.
+    pub fn unchanged(&self) -> u32
         ensures { result ≡ unchanged (sender_of self.now) }
     {
         let limited = u32::from(self.duplicates.min(LIMITED)) * self.mss;

@@ -1,5 +1,5 @@
 -- What is acknowledged has come.
-use Rattle.std.proofs.Common.{◌≡◌, sym, ◌∙◌, ap, subst, refl, ℕ, ◌+◌, ◌-◌, ◌≤◌, List, [], ◌∷◌, ◌++◌, Bool, true, false, length, map, take, drop, arith, length-append, length-take, length-drop}
+use Rattle.std.proofs.Common.{◌≡◌, sym, ◌∙◌, ap, refl, ℕ, ◌-◌, ◌≤◌, List, [], ◌∷◌, ◌++◌, Bool, true, false, length, map, take, arith, length-append, length-take, length-drop}
 use Rattle.std.proofs.lemmas.List.{length-map, take_all}
 use Rattle.tcp_model.specs.Endpoint.{Item, Byte}
 use Rattle.tcp_model.specs.Network.{World, bytes_of, end_of, is_ended, stream}

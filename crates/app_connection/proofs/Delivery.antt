@@ -69,7 +69,7 @@ if_said P Q (Some s) f h = f s h
 
 answer_stands : (v : World) (consumed : List ℕ) (r : Receiving) (incoming : List ℕ) → Stands v consumed r incoming → Stands (happens v Answer) consumed r incoming
 answer_stands v consumed r incoming stands =
-    stands_still v Answer consumed r incoming (cond_both v.receiver.is_open _ _ (λ (x : World). x.receiver ≡ v.receiver) (λ is. refl) (λ not. refl)) (cond_both v.receiver.is_open _ _ (λ (x : World). x.later ≡ v.later) (λ is. refl) (λ not. refl)) stands
+    stands_still v Answer consumed r incoming (cond_both v.receiver.is_open _ _ (λ (x : World). x.receiver ≡ v.receiver) (λ is. refl) (λ not. refl)) stands
 
 -- what the peer's own half sees of a history after events of its receiver
 direction_kept : (v u : World) (a c b : End) → ByReceiver v u → Carries u b c → (b.was_opened ≡ false → u ≡ start 0) → Direction v b a → Direction u b c

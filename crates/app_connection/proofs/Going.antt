@@ -6,7 +6,7 @@ use Rattle.tcp_model.specs.Endpoint.{Item, Syn, Byte}
 use Rattle.tcp_model.specs.Network.{World, Send, Segment as Sent, end_of, bytes_of, happens, is_ended, run, sends, stream}
 use Rattle.app_tcp.proofs.Standing.{answers}
 use Rattle.app_tcp.specs.Items.{items_of, syn_of}
-use Rattle.app_tcp.specs.Stands.{Stands, SegmentComes, IsAnswer, Use, Nothing, Keeping, Merging, Joining, events_of}
+use Rattle.app_tcp.specs.Stands.{Stands, SegmentComes, IsAnswer, again}
 use Rattle.app_tcp.specs.Waits.{Waits, IsSend}
 use Rattle.app_tcp.specs.declared.receiving.Receiving.{Receiving}
 use Rattle.app_tcp.specs.declared.sending.Sending.{Sending}
@@ -283,12 +283,10 @@ text_later back consumed s old new before after syn (inl none) still later stand
     stands_now back consumed new after (subst (λ (l : List ℕ). Stands back consumed new l) (sym same.1) (subst (λ (r : Receiving). Stands back consumed r before) (sym same.0) stands))
 text_later back consumed s old new before after syn (inr comes) still later stands = later comes.0 (text_of back comes.0 s.number s.syn s.payload.now s.fin syn comes.1)
 
--- what the receiving half does with a segment
-pub used : (which : ℕ) (how : Use) → OfReceiver (events_of which how)
-used which Nothing = tt
-used which (Keeping count) = tt
-used which (Merging count) = tt
-used which (Joining count) = tt
+-- segments that come again
+pub comings : (segments : List ℕ) → OfReceiver (again segments)
+comings [] = tt
+comings (which ∷ more) = comings more
 
 -- a segment that is no RST
 pub brought : (there back : World) (s : Segment) → s.rst ≡ false → Arrives there back s → Brings there back (said s)
@@ -319,5 +317,11 @@ fresh_stands w back r buffer shut empty stands fresh = record {
     held = ap bytes_of (fresh.empty ∙ sym empty) ∙ stands.holds.held;
     ended = ap is_ended (fresh.empty ∙ sym empty) ∙ stands.holds.ended;
   };
-  keeps = λ some. absurd (false≢true (sym shut ∙ stands.holds.is_open ∙ (stands.keeps some).is_open));
+  keeps = record {
+    gap = stands.keeps.gap;
+    bytes = λ n some. absurd (false≢true (sym shut ∙ stands.holds.is_open ∙ stands.keeps.opened n some));
+    fin = λ some. absurd (false≢true (sym shut ∙ stands.holds.is_open ∙ stands.keeps.opened_fin some));
+    opened = stands.keeps.opened;
+    opened_fin = stands.keeps.opened_fin;
+  };
 }

@@ -1,10 +1,10 @@
 -- What the events of one end leave of a history: those of its sender leave the receiver, and those of its receiver the sender.
-use Rattle.std.proofs.Common.{◌≡◌, refl, sym, ◌∙◌, ap, subst, ℕ, suc, ◌+◌, List, [], ◌∷◌, Bool, length, nat_lt, take, drop}
-use Rattle.std.specs.Prelude.{Option, Some, None, slice_get, if◌then◌else◌}
+use Rattle.std.proofs.Common.{◌≡◌, refl, sym, ◌∙◌, ap, subst, ℕ, suc, ◌+◌, List, [], ◌∷◌, length, nat_lt, take, drop}
+use Rattle.std.specs.Prelude.{Option, Some, None, slice_get}
 use Rattle.std.proofs.lemmas.Bool.{cond_both}
 use Rattle.tcp_model.specs.Endpoint.{Item, Receiver}
-use Rattle.tcp_model.specs.Network.{World, Event, Write, Close, Send, Segment_comes, Resegment, Keep, Merge, Join, Answer, Ack_comes, Segment, Ack, ack_comes, happens, keep, merge, resegments, run, segment_comes, sends, start, stream}
-use Rattle.app_tcp.proofs.Standing.{reached_more}
+use Rattle.tcp_model.specs.Network.{World, Event, Write, Close, Send, Segment_comes, Resegment, Answer, Ack_comes, Segment, Ack, ack_comes, happens, resegments, run, segment_comes, sends, start, stream}
+use Rattle.app_tcp.proofs.Standing.{keeps_still, reached_more}
 use Rattle.app_tcp.specs.Stands.{Holds, IsReached, Stands}
 use Rattle.app_tcp.specs.Waits.{Waits}
 use Rattle.app_tcp.specs.declared.receiving.Receiving.{Receiving}
@@ -32,7 +32,7 @@ pub record BySender (w v : World) : Type 0 where
 
 -- a history after events of its receiver
 pub record ByReceiver (w v : World) : Type 0 where
-  pub same : v ≡ record w { receiver = v.receiver; later = v.later; acks = v.acks }
+  pub same : v ≡ record w { receiver = v.receiver; acks = v.acks }
   pub acks : Grows w.acks v.acks
   pub reached : IsReached w → IsReached v
 
@@ -51,7 +51,7 @@ sender_then u v w one two = record {
 
 pub receiver_then : (u v w : World) → ByReceiver u v → ByReceiver v w → ByReceiver u w
 receiver_then u v w one two = record {
-  same = two.same ∙ ap (λ (x : World). record x { receiver = w.receiver; later = w.later; acks = w.acks }) one.same;
+  same = two.same ∙ ap (λ (x : World). record x { receiver = w.receiver; acks = w.acks }) one.same;
   acks = grows_both u.acks v.acks w.acks one.acks two.acks;
   reached = λ r. two.reached (one.reached r);
 }
@@ -62,7 +62,7 @@ record SentBy (w v : World) : Type 0 where
   segments : Grows w.segments v.segments
 
 record TakenBy (w v : World) : Type 0 where
-  same : v ≡ record w { receiver = v.receiver; later = v.later; acks = v.acks }
+  same : v ≡ record w { receiver = v.receiver; acks = v.acks }
   acks : Grows w.acks v.acks
 
 sent_none : (w : World) → SentBy w w
@@ -84,17 +84,6 @@ acked_by w (Some a) = cond_both _ _ _ (SentBy w) (λ alive. record { same = refl
 comes_by : (w : World) (room : ℕ) (s : Option Segment) → TakenBy w (segment_comes w room s)
 comes_by w room None = taken_none w
 comes_by w room (Some s) = cond_both _ _ _ (TakenBy w) (λ alive. record { same = refl; acks = grows_same w.acks }) (λ dead. taken_none w)
-
-kept_by : (w : World) (count : ℕ) (s : Option Segment) → TakenBy w (keep w count s)
-kept_by w count None = taken_none w
-kept_by w count (Some s) = record { same = refl; acks = grows_same w.acks }
-
-either_taken : (b : Bool) (w u v : World) → TakenBy w u → TakenBy w v → TakenBy w (if b then u else v)
-either_taken b w u v one other = cond_both b u v (TakenBy w) (λ is. one) (λ is. other)
-
-merged_by : (w : World) (count : ℕ) (s : Option Segment) → TakenBy w (merge w count s)
-merged_by w count None = taken_none w
-merged_by w count (Some s) = either_taken _ w _ w (either_taken _ w _ w (record { same = refl; acks = grows_same w.acks }) (taken_none w)) (taken_none w)
 
 answered_by : (w : World) → TakenBy w (happens w Answer)
 answered_by w = cond_both w.receiver.is_open _ _ (TakenBy w) (λ is. record { same = refl; acks = grows_one _ w.acks }) (λ not. taken_none w)
@@ -137,9 +126,6 @@ by_sender (Write bytes ∷ es) w own = absurd own
 by_sender (Close ∷ es) w own = absurd own
 by_sender (Segment_comes which room ∷ es) w own = absurd own
 by_sender (Resegment place count ∷ es) w own = absurd own
-by_sender (Keep which count ∷ es) w own = absurd own
-by_sender (Merge which count ∷ es) w own = absurd own
-by_sender (Join room ∷ es) w own = absurd own
 by_sender (Answer ∷ es) w own = absurd own
 
 -- the events of a receiver
@@ -148,15 +134,6 @@ by_receiver [] w own = receiver_none w
 by_receiver (Segment_comes which room ∷ es) w own =
     let v = happens w (Segment_comes which room) in
     receiver_then w v (run es v) (taken_then w (Segment_comes which room) (comes_by w room (slice_get w.segments which))) (by_receiver es v own)
-by_receiver (Keep which count ∷ es) w own =
-    let v = happens w (Keep which count) in
-    receiver_then w v (run es v) (taken_then w (Keep which count) (kept_by w count (slice_get w.segments which))) (by_receiver es v own)
-by_receiver (Merge which count ∷ es) w own =
-    let v = happens w (Merge which count) in
-    receiver_then w v (run es v) (taken_then w (Merge which count) (merged_by w count (slice_get w.segments which))) (by_receiver es v own)
-by_receiver (Join room ∷ es) w own =
-    let v = happens w (Join room) in
-    receiver_then w v (run es v) (taken_then w (Join room) (comes_by w room (Some w.later))) (by_receiver es v own)
 by_receiver (Write bytes ∷ es) w own = absurd own
 by_receiver (Close ∷ es) w own = absurd own
 by_receiver (Send offset count ∷ es) w own = absurd own
@@ -183,18 +160,12 @@ written_still (Write bytes ∷ es) w own = absurd own
 written_still (Close ∷ es) w own = absurd own
 written_still (Segment_comes which room ∷ es) w own = absurd own
 written_still (Resegment place count ∷ es) w own = absurd own
-written_still (Keep which count ∷ es) w own = absurd own
-written_still (Merge which count ∷ es) w own = absurd own
-written_still (Join room ∷ es) w own = absurd own
 written_still (Answer ∷ es) w own = absurd own
 
 -- in a history without segments its receiver does nothing
 pub receiver_idle : (es : List Event) (initial : ℕ) → OfReceiver es → run es (start initial) ≡ start initial
 receiver_idle [] initial own = refl
 receiver_idle (Segment_comes which room ∷ es) initial own = receiver_idle es initial own
-receiver_idle (Keep which count ∷ es) initial own = receiver_idle es initial own
-receiver_idle (Merge which count ∷ es) initial own = receiver_idle es initial own
-receiver_idle (Join room ∷ es) initial own = receiver_idle es initial own
 receiver_idle (Write bytes ∷ es) initial own = absurd own
 receiver_idle (Close ∷ es) initial own = absurd own
 receiver_idle (Send offset count ∷ es) initial own = absurd own
@@ -206,19 +177,10 @@ receiver_idle (Ack_comes which ∷ es) initial own = absurd own
 pub stands_kept : (w v : World) (consumed : List ℕ) (r : Receiving) (incoming : List ℕ) → BySender w v → Stands w consumed r incoming → Stands v consumed r incoming
 stands_kept w v consumed r incoming by stands =
     let receiver : v.receiver ≡ w.receiver = ap (λ (x : World). x.receiver) by.same in
-    let later : v.later ≡ w.later = ap (λ (x : World). x.later) by.same in
     record {
       reached = by.reached stands.reached;
       holds = subst (λ (x : Receiver). Holds x consumed r incoming) (sym receiver) stands.holds;
-      keeps = λ some.
-          let it = stands.keeps some in
-          record {
-            is_open = it.is_open;
-            gap = it.gap;
-            number = ap (λ (s : Segment). s.number) later ∙ it.number;
-            place = ap (λ (s : Segment). s.place) later ∙ it.place ∙ ap (λ (x : Receiver). length x.got + r.gap) (sym receiver);
-            items = ap (λ (s : Segment). s.items) later ∙ it.items;
-          };
+      keeps = keeps_still w v r incoming receiver (record { find = by.segments }) stands.keeps;
     }
 
 -- the sender of a history waits as it did after events of its receiver

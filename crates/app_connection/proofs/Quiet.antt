@@ -4,7 +4,7 @@ use Rattle.std.specs.Prelude.{◌&&◌, ◌==◌, not, Option, Some, None, slice
 use Rattle.std.proofs.lemmas.Bool.{false≢true, cond_both}
 use Rattle.std.proofs.lemmas.Bool.Decides.{nat_tests}
 use Rattle.tcp_model.specs.Endpoint.{distance}
-use Rattle.tcp_model.specs.Network.{World, Segment, Ack, Event, Write, Close, Send, Segment_comes, Resegment, Keep, Merge, Join, Answer, Ack_comes, number_at, segment_comes, resegments, keep, merge, ack_comes, happens, run}
+use Rattle.tcp_model.specs.Network.{World, Segment, Ack, Event, Write, Close, Send, Segment_comes, Resegment, Answer, Ack_comes, number_at, segment_comes, resegments, ack_comes, happens, run}
 use Rattle.tcp_model.proofs.Kept.{Good}
 use Rattle.tcp_model.proofs.Numbers.{distance_after}
 use Rattle.app_tcp.proofs.Standing.{reached_good}
@@ -33,14 +33,6 @@ later_comes w room (Some s) = both _ w _ w (record { initial = refl; sent = omeg
 later_resegments : (w : World) (place count : ℕ) → Later w (resegments w place count)
 later_resegments w place count = both (nat_lt w.sent (place + count)) w w _ (same w) (record { initial = refl; sent = omega arith })
 
-later_keep : (w : World) (count : ℕ) (s : Option Segment) → Later w (keep w count s)
-later_keep w count None = same w
-later_keep w count (Some s) = record { initial = refl; sent = omega arith }
-
-later_merge : (w : World) (count : ℕ) (s : Option Segment) → Later w (merge w count s)
-later_merge w count None = same w
-later_merge w count (Some s) = both _ w _ w (both _ w _ w (record { initial = refl; sent = omega arith }) (same w)) (same w)
-
 later_ack : (w : World) (a : Option Ack) → Later w (ack_comes w a)
 later_ack w None = same w
 later_ack w (Some a) = both _ w _ w (record { initial = refl; sent = omega arith }) (same w)
@@ -51,9 +43,6 @@ later w Close = record { initial = refl; sent = omega arith }
 later w (Send offset count) = both _ w w _ (same w) (both _ w w _ (same w) (record { initial = refl; sent = omega arith }))
 later w (Segment_comes which room) = later_comes w room (slice_get w.segments which)
 later w (Resegment place count) = later_resegments w place count
-later w (Keep which count) = later_keep w count (slice_get w.segments which)
-later w (Merge which count) = later_merge w count (slice_get w.segments which)
-later w (Join room) = later_comes w room (Some w.later)
 later w Answer = both w.receiver.is_open w _ w (record { initial = refl; sent = omega arith }) (same w)
 later w (Ack_comes which) = later_ack w (slice_get w.acks which)
 

@@ -1,6 +1,6 @@
 -- The events of a connection.
 -- Pinned by: `connection/figures`
-use Rattle.std.specs.Prelude.{ℕ, ◌≡◌, ◌⊎◌, ◌<◌, List, length, Bool, true, false, not, if◌then◌else◌}
+use Rattle.std.specs.Prelude.{ℕ, ◌≡◌, ◌⊎◌, ◌<◌, List, length, Bool, false, not, if◌then◌else◌}
 use Rattle.tcp_model.specs.Network.{World, Close, happens}
 use Rattle.app_tcp.specs.Waits.{from_of}
 use Rattle.app_tcp.specs.declared.receiving.Receiving.{Receiving}

@@ -3,7 +3,7 @@
 -- Pinned by: `connection/figures`
 use Rattle.std.specs.Prelude.{ℕ, ◌≡◌, ◌+◌, ◌<◌, ◌≤◌, ◌⊎◌, List, [], ◌∷◌, length, Bool, true, false, Option, Some, IfSome, slice_get}
 use Rattle.tcp_model.specs.Endpoint.{Item, Syn}
-use Rattle.tcp_model.specs.Network.{World, Event, Segment as Sent, Send, Segment_comes, Keep, Merge, Join, Ack_comes, run, stream, is_ended, happens}
+use Rattle.tcp_model.specs.Network.{World, Event, Segment as Sent, Send, Segment_comes, Ack_comes, run, stream, is_ended, happens}
 use Rattle.app_tcp.specs.Items.{items_of, syn_of}
 use Rattle.app_tcp.specs.Stands.{Stands, SegmentComes, IsAnswer, Uses}
 use Rattle.app_tcp.specs.Waits.{Waits, AckComes}
@@ -76,13 +76,10 @@ OfSender (Send offset count ∷ events) = OfSender events
 OfSender (Ack_comes which ∷ events) = OfSender events
 OfSender (event ∷ events) = ⊥
 
--- events of the receiving half: it takes or keeps what was sent
+-- events of the receiving half: it takes what was sent
 abbrev pub OfReceiver : List Event → Type 0
 OfReceiver [] = Unit {0}
 OfReceiver (Segment_comes which room ∷ events) = OfReceiver events
-OfReceiver (Keep which count ∷ events) = OfReceiver events
-OfReceiver (Merge which count ∷ events) = OfReceiver events
-OfReceiver (Join room ∷ events) = OfReceiver events
 OfReceiver (event ∷ events) = ⊥
 
 -- They stand for these histories after further events, which are the endpoint's own: nothing is written or closed, and the peer does nothing.
@@ -110,9 +107,12 @@ pub record HearsAck (old new : Sending) (outgoing : List ℕ) (ack : ℕ) : Type
       (there : World) (which : ℕ) → AckComes there which ack → Waits there old outgoing
       → Waits (happens there (Ack_comes which)) new outgoing
 
--- Text and FIN are taken, as far as there is room: in each history in which they come, it is the event Segment_comes.
+-- Text and FIN are taken, as far as there is room: in each history in which they come, it is the event Segment_comes. What is kept
+-- after them is taken too, as if its segments came again.
 pub record GetsText (old new : Receiving) (before after : List ℕ) (room number : ℕ) (items : List Item) : Type 0 where
-  pub uses : (back : World) (which : ℕ) (consumed : List ℕ) → SegmentComes back which number items → Stands back consumed old before → Uses (happens back (Segment_comes which room)) which consumed new after
+  pub uses :
+      (back : World) (which : ℕ) (consumed : List ℕ) → SegmentComes back which number items
+      → Stands back consumed old before → Uses (happens back (Segment_comes which room)) consumed new after
 
 -- the receiving half stands for the receiver after further events
 pub record StandsLater (back : World) (consumed : List ℕ) (r : Receiving) (incoming : List ℕ) : Type 0 where

@@ -1,9 +1,10 @@
 //! The connection, and the calls of its application (RFC 9293, sections 3.10.1 to 3.10.5).
 
-ghost use Rattle.std.specs.Prelude.{◌≡◌, ◌==◌, ◌&&◌, ◌∷◌, nat_lt, ◌+◌, ◌%◌, ◌≤◌, ◌<◌, ◌++◌, ◌⊎◌, ℕ, List, [], length, true, false, IfSome, Some, None, max, take, option_map, MatchOption};
+ghost use Rattle.std.specs.Prelude.{◌≡◌, ◌==◌, ◌&&◌, ◌∷◌, not, ◌+◌, ◌%◌, ◌≤◌, ◌<◌, ◌++◌, ◌⊎◌, ℕ, List, [], length, true, false, IfSome, Some, None, max, take, option_map, MatchOption};
 ghost use Rattle.tcp_model.specs.Endpoint.{Syn};
 ghost use Rattle.tcp_model.specs.Network.{World, Event, Close, happens, run, start, IsPrefixOf};
-ghost use Rattle.app_tcp.specs.Stands.{Stands, reach, room_of, IsAnswer};
+ghost use Rattle.app_tcp.specs.Ranges.{blocks_of, is_none};
+ghost use Rattle.app_tcp.specs.Stands.{AreTold, Stands, room_of, IsAnswer};
 ghost use Rattle.app_tcp.specs.Waits.{Waits, from_of, unsent_of, count_of};
 ghost use Rattle.app_tcp.specs.Items.{items_of};
 ghost use Rattle.app_connection.specs.declared.state.Phase.TheVariants.{Closed, SynSent, Open, SynReceived};
@@ -17,7 +18,7 @@ ghost use Rattle.app_connection.specs.Promises.{ChangesOnlyNext, GoesFrom, HasNo
 
 use crate::segment::{Reply, Segment};
 use crate::state::{Phase, State, state_of};
-use app_tcp::{Receiving, Sending};
+use app_tcp::{Blocks, Receiving, Sending};
 
 /// One end of a connection. Its bytes are in two rings of the caller's, each of less than 2^30 bytes.
 #[derive(Debug, Clone, Copy)]
@@ -435,25 +436,20 @@ impl Connection {
         }
     }
 
-    /// The numbers of the bytes that are kept after a gap: the first, and the one after the last, as in a SACK block (RFC 2018,
-    /// section 3).
-    pub fn kept(&self) -> Option<(u32, u32)>
-        requires { reach self.now.receiving < 1073741824 }
-        ensures some { 0 < self.now.receiving.kept → result ≡ Some (
-          (self.now.receiving.next + self.now.receiving.gap) % 4294967296,
-          (self.now.receiving.next + self.now.receiving.gap + self.now.receiving.kept) % 4294967296,
-        ) }
-        ensures none { self.now.receiving.kept ≡ 0 → result ≡ None }
-        ensures legal { (back : World) (consumed buffer : List ℕ) → InFits self.now.receiving (length buffer)
-            → Stands back consumed self.now.receiving buffer → IfSome result (λ range. (range.0 ≡ back.later.number)
-            × (range.1 ≡ (back.later.number + length back.later.items) % 4294967296)) }
+    /// The SACK blocks of what is kept after gaps: the numbers of the first byte, and after the last one (RFC 2018,
+    /// section 3). The first one has the newest bytes, and the others are the lowest (section 4). There are at most three.
+    pub fn blocks(&self) -> Blocks
+        ensures value { result
+            ≡ blocks_of self.now.receiving.ranges self.now.receiving.next self.now.receiving.newest }
+        ensures legal { (back : World) (consumed buffer : List ℕ) → Stands back consumed self.now.receiving buffer
+            → AreTold back result }
     {
-        self.receiving.kept()
+        self.receiving.blocks()
     }
 
     /// Whether bytes of the peer are kept after a gap.
     pub fn has_gap(&self) -> bool
-        ensures { result ≡ nat_lt 0 self.now.receiving.kept }
+        ensures { result ≡ not (is_none self.now.receiving.ranges) }
     {
         self.receiving.has_gap()
     }

@@ -1,6 +1,6 @@
 -- What both SYNs of a connection agree on, and the options of each segment.
 -- Pinned by: `options/options`
-use Rattle.std.specs.Prelude.{ℕ, ◌+◌, ◌-◌, ◌*◌, ◌/◌, Bool, true, false, ◌&&◌, if◌then◌else◌, Option, Some, None, is_some, option_map, unwrap_or, ◌∷◌, replicate, min, max}
+use Rattle.std.specs.Prelude.{ℕ, ◌+◌, ◌-◌, ◌*◌, ◌/◌, Bool, true, false, ◌&&◌, if◌then◌else◌, Option, Some, None, is_some, option_map, unwrap_or, List, replicate, min, max}
 use Rattle.wire_tcp_options.specs.declared.tcp.summary.TcpOptionSummary.{TcpOptionSummary}
 use Rattle.app_options.specs.declared.agreed.Agreed.{Agreed}
 use Rattle.app_options.specs.Timestamps.{echoes, heard, stamp}
@@ -46,13 +46,13 @@ answer a mss size now = record {
 abbrev pub of_syn : Agreed → ℕ → ℕ → ℕ → Bool → TcpOptionSummary
 of_syn a mss size now is_answer = if is_answer then answer a mss size now else offer a mss size now
 
--- The options of a segment without SYN: one SACK block for what is kept after a gap (RFC 2018, section 4), and a timestamp.
-abbrev pub of_segment : Agreed → Option (ℕ × ℕ) → ℕ → TcpOptionSummary
+-- The options of a segment without SYN: SACK blocks for what is kept after gaps (RFC 2018, section 4), and a timestamp.
+abbrev pub of_segment : Agreed → List (Option (ℕ × ℕ)) → ℕ → TcpOptionSummary
 of_segment a kept now = record {
   max_segment_size = None;
   window_scale = None;
   sack_permitted = false;
-  sack_ranges = (if a.has_sack then kept else None) ∷ replicate 3 None;
+  sack_ranges = if a.has_sack then kept else replicate 4 None;
   timestamp = echoes a.recent a.offset now;
 }
 

@@ -25,9 +25,9 @@ pub struct Agreed {
 }
 
 impl Agreed {
-    ghost use Rattle.std.specs.Prelude.{◌≡◌, ◌≤◌, ◌*◌, min};
+    ghost use Rattle.std.specs.Prelude.{◌≡◌, ◌≤◌, ◌*◌, ◌∷◌, None, min, replicate};
     ghost use Rattle.app_options.specs.Timestamps.{echoes, round_trip, takes, updated};
-    ghost use Rattle.app_options.specs.Options.{agreed_on, nothing, of_segment, of_syn, text_limit, window_in, window_out};
+    ghost use Rattle.app_options.specs.Options.{agreed_on, nothing, of_segment, of_syn, text_limit, window_in, window_out, own_scale};
 
     /// Nothing yet. The timestamps of this end begin at `offset`, which should be random (RFC 7323, section 5.4).
     pub fn new(offset: u32) -> Agreed
@@ -80,15 +80,31 @@ impl Agreed {
         }
     }
 
-    /// The options of another segment. `kept`: the numbers of the bytes that are kept after a gap.
+    /// The options of another segment. `kept`: a SACK block of what is kept after a gap.
     pub fn of_segment(&self, kept: Option<(u32, u32)>, now: u64) -> TcpOptionSummary
-        ensures { result ≡ of_segment self.now kept now }
+        ensures { result ≡ of_segment self.now (kept ∷ replicate 3 None) now }
     {
         TcpOptionSummary {
             max_segment_size: None,
             window_scale: None,
             sack_permitted: false,
             sack_ranges: [if self.has_sack { kept } else { None }, None, None, None],
+            timestamp: self.timestamp(now),
+        }
+    }
+
+    /// The same with several SACK blocks. A timestamp leaves room for three.
+    pub fn of_blocks(&self, kept: [Option<(u32, u32)>; SACK_BLOCKS], now: u64) -> TcpOptionSummary
+        ensures { result ≡ of_segment self.now kept now }
+    {
+        if !self.has_sack {
+            return self.of_segment(None, now);
+        }
+        TcpOptionSummary {
+            max_segment_size: None,
+            window_scale: None,
+            sack_permitted: false,
+            sack_ranges: kept,
             timestamp: self.timestamp(now),
         }
     }
@@ -130,12 +146,19 @@ impl Agreed {
     pub fn window_out(&self, window: u32, size: usize) -> u16
         ensures value { result ≡ window_out self.now window size }
     {
-        let scale = if self.peer_scale.is_some() {
+        (window >> self.own_scale(size)).min(MAX_FIELD) as u16
+    }
+
+    /// The own window scale, for a receive buffer of this size: at most 14, and 0 if windows are not scaled.
+    pub fn own_scale(&self, size: usize) -> u8
+        ensures value { result ≡ own_scale self.now size }
+        ensures most { result ≤ 14 }
+    {
+        if self.peer_scale.is_some() {
             scale_of(size)
         } else {
             0
-        };
-        (window >> scale).min(MAX_FIELD) as u16
+        }
     }
 
     /// Whether both ends use SACK.

@@ -127,7 +127,7 @@ came a old new answers before after t r sent x options o run set at from some ma
     at_phase : new.connection.phase ≡ phase.Open
     at_phase = same_phase old.connection new.connection (stays may.opened at_x.rst) ∙ there_set.open_phase
 
-    learned : Learns old new answers (length before) r.arrives (scaled_by old.agreed x.now)
+    learned : Learns old new answers (length before) r.arrives (scaled_by old.agreed x.now) options.now.timestamp
     learned = learns may.opened (open_still new.connection at_phase (arrived.closed ∙ may.writes)) rejected
 
     open_on : state_from new.connection ≡ state.TimeWait → ⊥

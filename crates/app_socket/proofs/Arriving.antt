@@ -11,7 +11,7 @@ use Rattle.tcp_model.proofs.Parts.{part_first}
 use Rattle.tcp_model.proofs.Streams.{end_all}
 use Rattle.app_tcp.proofs.Rounds.{true_test}
 use Rattle.app_tcp.proofs.Standing.{comes, reached_good}
-use Rattle.app_tcp.specs.Stands.{SegmentComes, Stands, events_of, room_of}
+use Rattle.app_tcp.specs.Stands.{SegmentComes, Stands, again, room_of}
 use Rattle.app_tcp.specs.Waits.{Waits, count_of}
 use Rattle.app_tcp.specs.declared.receiving.Receiving.{Receiving}
 use Rattle.app_tcp.specs.declared.sending.Sending.{Sending}
@@ -26,7 +26,7 @@ use Rattle.app_connection.specs.Sequence.{is_earlier, is_taken_at}
 use Rattle.app_connection.specs.Steps.{Steps}
 use Rattle.app_connection.specs.Worlds.{Goes, OfReceiver, Said, Stand, said}
 use Rattle.app_connection.proofs.Arrived.{all_acked}
-use Rattle.app_connection.proofs.Going.{brought, text_of, used}
+use Rattle.app_connection.proofs.Going.{brought, comings, text_of}
 use Rattle.app_connection.proofs.Moving.{by_receiver, waits_kept, written_still}
 use Rattle.app_connection.proofs.Pair.{Pair}
 use Rattle.app_connection.proofs.Resegments.{Coming, coming}
@@ -192,8 +192,8 @@ comes_further a b p s iss new incoming o here there may at some space fits steps
         in
         let uses = (gets at.rst at.syn at.some taken (ap is_some at.ack) unsent).uses v text.0 b.read plain stands in
         let one = got_more v text.0 room s.now.number (said s.now).items good opened text.1 next (omega (arith, at.some, items_len s.now.syn s.now.fin s.now.payload.now)) free in
-        let two = got_run (events_of text.0 uses.how) (happens v (Segment_comes text.0 room)) (used text.0 uses.how) in
-        moved (Segment_comes text.0 room ∷ events_of text.0 uses.how) (used text.0 uses.how) uses.stands (omega (arith, one, two, same))
+        let two = got_run (again uses.segments) (happens v (Segment_comes text.0 room)) (comings uses.segments) in
+        moved (Segment_comes text.0 room ∷ again uses.segments) (comings uses.segments) uses.stands (omega (arith, one, two, same))
 
     more : (0 < distance new.receiving.next a.connection.sending.una) × (distance new.receiving.next a.connection.sending.una ≤ a.connection.sending.flight)
     more = elim (cases_lt 0 (distance b.connection.receiving.next a.connection.sending.una)) [ inl some_ahead ↦ ahead some_ahead | inr none ↦ level none ]

@@ -3,7 +3,7 @@ use Rattle.std.proofs.Common.{◌≡◌, refl, ◌∙◌, ap, ℕ, ◌+◌, ◌-
 use Rattle.std.specs.Prelude.{Option, Some, None, slice_get}
 use Rattle.std.proofs.lemmas.Bool.{cond_both}
 use Rattle.tcp_model.specs.Endpoint.{Item, Syn, Byte, Fin, Receiver, fresh, newly, opened, received}
-use Rattle.tcp_model.specs.Network.{World, Ack, Event, Write, Close, Send, Segment_comes, Resegment, Keep, Merge, Join, Answer, Ack_comes, Segment as Sent, ack_comes, happens, is_alive, keep, merge, number_at, run, segment_comes, sends, stream}
+use Rattle.tcp_model.specs.Network.{World, Ack, Event, Write, Close, Send, Segment_comes, Resegment, Answer, Ack_comes, Segment as Sent, ack_comes, happens, is_alive, number_at, run, segment_comes, sends, stream}
 use Rattle.tcp_model.proofs.Numbers.{distance_after}
 use Rattle.tcp_model.specs.Endpoint.{distance}
 use Rattle.app_tcp.proofs.Standing.{reached_good}
@@ -36,22 +36,9 @@ got_segment w room None = omega arith
 got_segment w room (Some s) =
     cond_both (is_alive (length w.receiver.got) s.place) _ _ (λ (v : World). length w.receiver.got ≤ length v.receiver.got) (λ alive. got_received w.receiver s.number s.items room) (λ dead. omega arith)
 
-got_keep : (w : World) (count : ℕ) (o : Option Sent) → length w.receiver.got ≤ length (keep w count o).receiver.got
-got_keep w count None = omega arith
-got_keep w count (Some s) = omega arith
-
-got_merge : (w : World) (count : ℕ) (o : Option Sent) → length w.receiver.got ≤ length (merge w count o).receiver.got
-got_merge w count None = omega arith
-got_merge w count (Some s) =
-    cond_both (is_alive (length w.receiver.got) s.place) _ _ (λ (v : World). length w.receiver.got ≤ length v.receiver.got)
-    (λ yes. cond_both (is_alive (length w.receiver.got) w.later.place) _ _ (λ (v : World). length w.receiver.got ≤ length v.receiver.got) (λ kept. omega arith) (λ dead. omega arith)) (λ no. omega arith)
-
 pub got_run : (es : List Event) (w : World) → OfReceiver es → length w.receiver.got ≤ length (run es w).receiver.got
 got_run [] w own = omega arith
 got_run (Segment_comes which room ∷ es) w own = le_then _ _ _ (got_segment w room (slice_get w.segments which)) (got_run es (happens w (Segment_comes which room)) own)
-got_run (Keep which count ∷ es) w own = le_then _ _ _ (got_keep w count (slice_get w.segments which)) (got_run es (happens w (Keep which count)) own)
-got_run (Merge which count ∷ es) w own = le_then _ _ _ (got_merge w count (slice_get w.segments which)) (got_run es (happens w (Merge which count)) own)
-got_run (Join room ∷ es) w own = le_then _ _ _ (got_segment w room (Some w.later)) (got_run es (happens w (Join room)) own)
 got_run (Write bytes ∷ es) w own = absurd own
 got_run (Close ∷ es) w own = absurd own
 got_run (Send offset count ∷ es) w own = absurd own
@@ -93,9 +80,6 @@ later_run [] w own = later_none w
 later_run (Send offset count ∷ es) w own = later_then _ _ _ (later_send w offset count) (later_run es (happens w (Send offset count)) own)
 later_run (Ack_comes which ∷ es) w own = later_then _ _ _ (later_ack w (slice_get w.acks which)) (later_run es (happens w (Ack_comes which)) own)
 later_run (Segment_comes which room ∷ es) w own = absurd own
-later_run (Keep which count ∷ es) w own = absurd own
-later_run (Merge which count ∷ es) w own = absurd own
-later_run (Join room ∷ es) w own = absurd own
 later_run (Write bytes ∷ es) w own = absurd own
 later_run (Close ∷ es) w own = absurd own
 later_run (Resegment place count ∷ es) w own = absurd own

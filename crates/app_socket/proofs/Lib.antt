@@ -1,5 +1,6 @@
 pub mod Opened
 pub mod Stepping
+pub mod Undone
 pub mod Delivery
 pub mod Openings
 pub mod Rounds

@@ -261,10 +261,10 @@ pub record Learned (old new : Socket) (s : Segment) (taken : ℕ) : Type 0 where
   pub ack : s.ack ≡ Some new.connection.sending.una
   pub syn : new.connection.sending.has_syn ≡ false
 
-pub learned : (w : World) (old new : Socket) (outgoing : List ℕ) (incoming now taken : ℕ) (s : Segment) → OutFits old.connection.sending (length outgoing) → OutFits new.connection.sending (length outgoing)
-    → Waits w old.connection.sending outgoing → old.connection.receiving.is_open ≡ true → AcknowledgesItems old.connection s taken → Learns old new outgoing incoming now s
+pub learned : (w : World) (old new : Socket) (outgoing : List ℕ) (incoming now taken : ℕ) (s : Segment) (t : Option (ℕ × ℕ)) → OutFits old.connection.sending (length outgoing) → OutFits new.connection.sending (length outgoing)
+    → Waits w old.connection.sending outgoing → old.connection.receiving.is_open ≡ true → AcknowledgesItems old.connection s taken → Learns old new outgoing incoming now s t
     → Learned old new s taken
-learned w old new outgoing incoming now taken s fits fits2 waits synced a learns =
+learned w old new outgoing incoming now taken s t fits fits2 waits synced a learns =
     let c = old.connection in
     let n = number_at w.initial (w.acked + taken) in
     let is : s.ack ≡ Some n = a.ack ∙ ap Some (number_is w c.sending outgoing taken waits) in
@@ -303,10 +303,10 @@ learned w old new outgoing incoming now taken s fits fits2 waits synced a learns
     }
 
 -- after it fewer items wait
-pub further : (old new : Socket) (outgoing before after : List ℕ) (incoming now by end taken iss : ℕ) (s : Bor Segment) (o : Option Said) → OutFits old.connection.sending (length outgoing) → OutFits new.connection.sending (length outgoing)
+pub further : (old new : Socket) (outgoing before after : List ℕ) (incoming now by end taken iss : ℕ) (s : Bor Segment) (t : Option (ℕ × ℕ)) (o : Option Said) → OutFits old.connection.sending (length outgoing) → OutFits new.connection.sending (length outgoing)
     → IsWaiting old by end → AcknowledgesItems old.connection s.now taken → endpoint_of new.connection ≡ endpoint_of old.connection → Steps old.connection new.connection outgoing before after (move.Arrives s iss) o
-    → (is_open (state_from new.connection) ≡ true → Learns old new outgoing incoming now (scaled_by old.agreed s.now)) → StandsFor old.connection outgoing before → GoesFurther old new outgoing after now
-further old new outgoing before after incoming now by end taken iss s o fits fits2 waiting a same steps learns stands =
+    → (is_open (state_from new.connection) ≡ true → Learns old new outgoing incoming now (scaled_by old.agreed s.now) t) → StandsFor old.connection outgoing before → GoesFurther old new outgoing after now
+further old new outgoing before after incoming now by end taken iss s t o fits fits2 waiting a same steps learns stands =
     let at = open_phase old.connection waiting.opened in
     let at2 : new.connection.phase ≡ phase.Open = same_phase old.connection new.connection same ∙ at in
     let came = stands_acked old.connection new.connection outgoing before after s taken iss o at (open_has_peer old.connection waiting.opened) waiting.synced a steps stands in
@@ -315,7 +315,7 @@ further old new outgoing before after incoming now by end taken iss s o fits fit
     elim (either (is_open (state_from new.connection))) [
       | inl opened ↦
           let l = learns opened in
-          let is = learned stands.there old new outgoing incoming now taken (scaled_by old.agreed s.now) fits fits2 stands.stand.waits waiting.synced (acknowledges_scaled old.connection old.agreed s.now taken a) l in
+          let is = learned stands.there old new outgoing incoming now taken (scaled_by old.agreed s.now) t fits fits2 stands.stand.waits waiting.synced (acknowledges_scaled old.connection old.agreed s.now taken a) l in
           let some : 0 < newly_in old new = omega (arith, is.newly, a.some) in
           record {
             less = omega (arith, is.less, a.some);

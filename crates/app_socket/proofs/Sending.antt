@@ -178,12 +178,12 @@ comes_back s0 s2 s3 was new out i2 i3 answers after h h2 t r by end s y options 
     steps = steps_by s2.connection s3.connection out i2 i3 _ (move.Arrives y 0) _ (sym (choice_false _ (move.Send 0 0) (move.Arrives y 0) rejected)) continues
 
     g : GoesFurther s2 s3 out i3 r.answered
-    g = further s2 s3 out i2 i3 (length i2) r.answered by end answered.taken 0 y (option_map said o) fits2 fits3 still.waiting acks (stays still.waiting.opened acks.rst) steps (λ opened. learns still.waiting.opened opened rejected) still.stands
+    g = further s2 s3 out i2 i3 (length i2) r.answered by end answered.taken 0 y options.now.timestamp (option_map said o) fits2 fits3 still.waiting acks (stays still.waiting.opened acks.rst) steps (λ opened. learns still.waiting.opened opened rejected) still.stands
 
     -- what is learned if something still waits
     known : 0 < count_of s3.connection.sending → Learned s2 s3 (scaled_by s2.agreed y.now) answered.taken
     known = λ rest.
-        learned still.stands.there s2 s3 out (length i2) r.answered answered.taken (scaled_by s2.agreed y.now) fits2 fits3 still.stands.stand.waits still.waiting.synced (acknowledges_scaled s2.connection s2.agreed y.now answered.taken acks)
+        learned still.stands.there s2 s3 out (length i2) r.answered answered.taken (scaled_by s2.agreed y.now) options.now.timestamp fits2 fits3 still.stands.stand.waits still.waiting.synced (acknowledges_scaled s2.connection s2.agreed y.now answered.taken acks)
         (learns still.waiting.opened (g.waiting rest).opened rejected)
 
     from : IsFrom answered.past.sent (length answered.past.wrote) (length h2.wrote) (said y.now)

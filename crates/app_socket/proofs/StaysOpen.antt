@@ -3,7 +3,7 @@ use Rattle.std.proofs.Common.{◌≡◌, ap, ℕ, List, [], ◌∷◌, true, len
 use Rattle.std.specs.Prelude.{Option, Some, None, slice_get}
 use Rattle.std.proofs.lemmas.Bool.{cond_both, cond-true}
 use Rattle.tcp_model.specs.Endpoint.{Receiver, accepted, fresh}
-use Rattle.tcp_model.specs.Network.{World, Event, Write, Close, Send, Segment_comes, Resegment, Keep, Merge, Join, Answer, Ack_comes, Segment as Sent, happens, is_alive, keep, merge, run, segment_comes}
+use Rattle.tcp_model.specs.Network.{World, Event, Write, Close, Send, Segment_comes, Resegment, Answer, Ack_comes, Segment as Sent, happens, is_alive, run, segment_comes}
 use Rattle.app_connection.specs.Worlds.{OfReceiver}
 
 open_segment : (w : World) (room : ℕ) (o : Option Sent) → w.receiver.is_open ≡ true → (segment_comes w room o).receiver.is_open ≡ true
@@ -12,22 +12,9 @@ open_segment w room (Some s) is =
     cond_both (is_alive (length w.receiver.got) s.place) _ _ (λ (v : World). v.receiver.is_open ≡ true)
     (λ alive. ap (λ (r : Receiver). r.is_open) (cond-true w.receiver.is_open (accepted w.receiver.next w.receiver.got (fresh w.receiver.next s.number s.items room)) _ is)) (λ dead. is)
 
-open_keep : (w : World) (count : ℕ) (o : Option Sent) → w.receiver.is_open ≡ true → (keep w count o).receiver.is_open ≡ true
-open_keep w count None is = is
-open_keep w count (Some s) is = is
-
-open_merge : (w : World) (count : ℕ) (o : Option Sent) → w.receiver.is_open ≡ true → (merge w count o).receiver.is_open ≡ true
-open_merge w count None is = is
-open_merge w count (Some s) is =
-    cond_both (is_alive (length w.receiver.got) s.place) _ _ (λ (v : World). v.receiver.is_open ≡ true)
-    (λ yes. cond_both (is_alive (length w.receiver.got) w.later.place) _ _ (λ (v : World). v.receiver.is_open ≡ true) (λ kept. is) (λ dead. is)) (λ no. is)
-
 pub open_run : (es : List Event) (w : World) → OfReceiver es → w.receiver.is_open ≡ true → (run es w).receiver.is_open ≡ true
 open_run [] w own is = is
 open_run (Segment_comes which room ∷ es) w own is = open_run es (happens w (Segment_comes which room)) own (open_segment w room (slice_get w.segments which) is)
-open_run (Keep which count ∷ es) w own is = open_run es (happens w (Keep which count)) own (open_keep w count (slice_get w.segments which) is)
-open_run (Merge which count ∷ es) w own is = open_run es (happens w (Merge which count)) own (open_merge w count (slice_get w.segments which) is)
-open_run (Join room ∷ es) w own is = open_run es (happens w (Join room)) own (open_segment w room (Some w.later) is)
 open_run (Write bytes ∷ es) w own is = absurd own
 open_run (Close ∷ es) w own is = absurd own
 open_run (Send offset count ∷ es) w own is = absurd own

@@ -29,6 +29,8 @@ flow_of f = record {
   rescued = f.rescued;
   max_window = f.max_window;
   is_probed = f.is_probed;
+  undo = f.undo;
+  expired_at = f.expired_at;
 }
 
 -- the socket

@@ -3,6 +3,7 @@ pub mod Fields
 pub mod Times
 pub mod Window
 pub mod Pieces
+pub mod Undo
 pub mod Resends
 pub mod Segments
 pub mod Runs

@@ -20,7 +20,7 @@ use Rattle.app_connection.specs.States.{has_peer, state_from}
 use Rattle.app_connection.specs.declared.state.State.{State}
 use Rattle.app_connection.specs.declared.state.State.TheVariants.{Closed, Listen, SynSent, SynReceived, Established, FinWait1, FinWait2, CloseWait, Closing, LastAck, TimeWait}
 use Rattle.app_options.specs.declared.agreed.Agreed.{Agreed}
-use Rattle.app_options.specs.Options.{window_in}
+use Rattle.app_options.specs.Options.{own_scale, window_in}
 use Rattle.app_socket.specs.declared.flow.Flow.{Flow}
 use Rattle.app_socket.specs.declared.flow.Queue.{Queue}
 use Rattle.app_socket.specs.Pieces.{is_worth}
@@ -29,6 +29,7 @@ use Rattle.app_socket.specs.declared.step.Event.{Event}
 use Rattle.app_socket.specs.declared.step.Event.TheVariants as event
 use Rattle.app_socket.specs.Segments.{rejects, text_of}
 use Rattle.app_socket.specs.Times.{later, mss_of}
+use Rattle.app_socket.specs.Undo.{Undoes, is_needless, saved}
 use Rattle.app_socket.specs.Window.{is_update_due, least_growth}
 
 -- whether a timer expires
@@ -81,11 +82,12 @@ is_probe_useful f q = not (q.window == 0) && (nat_lt q.mss q.flight && not (nat_
 
 -- only what is known of losses changes
 abbrev pub ChangesRecovery : Flow → Flow → Type 0
-ChangesRecovery old new = new ≡ record old { congestion = new.congestion; resend = new.resend; rescued = new.rescued }
+ChangesRecovery old new =
+    new ≡ record old { congestion = new.congestion; resend = new.resend; rescued = new.rescued; undo = new.undo }
 
 -- The retransmission timer expires (RFC 6298, sections 5.4 to 5.6): all that is in flight goes again from the first item on, what
 -- the peer had after a gap is forgotten (RFC 2018, section 8), and the timeout doubles.
-pub record TimesOut (old new : Flow) (q : Queue) : Type 0 where
+pub record TimesOut (old new : Flow) (q : Queue) (now : ℕ) : Type 0 where
   pub same :
       new ≡ record old {
         rto = new.rto;
@@ -96,12 +98,16 @@ pub record TimesOut (old new : Flow) (q : Queue) : Type 0 where
         scoreboard = new.scoreboard;
         rescued = 0;
         is_probed = true;
+        undo = new.undo;
+        expired_at = now;
       }
   pub known : (n : ℕ) → has new.scoreboard n ≡ false
   pub backs_off : 0 < q.flight → BacksOff old.rto new.rto
   pub probes : q.window ≡ 0 → BacksOff old.rto new.rto
   pub slows :
       0 < q.flight → 0 < q.window → sender_of new.congestion ≡ timed_out (sender_of old.congestion) q.flight (next_in q)
+  -- cwnd and ssthresh of before are kept.
+  pub saves : 0 < q.flight → 0 < q.window → new.undo ≡ saved old now
 
 -- What is remembered of the segments is of those in flight.
 pub record IsSound (f : Flow) (flight : ℕ) : Type 0 where
@@ -198,6 +204,10 @@ pub record Resends (old new : Socket) (outgoing : List ℕ) (now : ℕ) (given :
       → WhenTimeout old now
       (sender_of new.flow.congestion
       ≡ timed_out (sender_of old.flow.congestion) old.connection.sending.flight (next_in (queue_of old)))
+  -- cwnd and ssthresh of before, and the time, are kept until the next acknowledgement (RFC 4015, section 3.2).
+  pub saves :
+      0 < old.connection.wnd → 0 < old.connection.sending.flight
+      → WhenTimeout old now (new.flow.undo ≡ saved old.flow now)
   -- after the first time that it expires, it is the retransmission timer
   pub probed : WhenDue old now (new.flow.is_probed ≡ true)
   -- The timeout changes only then.
@@ -255,7 +265,7 @@ waits_for_bytes TimeWait = false
 abbrev pub is_room_news : Socket → ℕ → Bool
 is_room_news s incoming =
     waits_for_bytes (state_from s.connection) && is_update_due s.edge s.connection.receiving.next
-    (room_of s.connection.receiving incoming) (least_growth incoming (mss_of s.options))
+    (room_of s.connection.receiving incoming) (least_growth incoming (mss_of s.options)) (own_scale s.agreed incoming)
 
 -- What is acknowledged when time passes in an open connection.
 pub record Acknowledges (old : Socket) (incoming now : ℕ) (given : Option Segment) : Type 0 where
@@ -365,8 +375,15 @@ StaysSound old new una =
     IsSound old.flow (old.connection.sending.flight + newly_after old una)
     → IsSound new.flow old.connection.sending.flight
 
--- What a segment makes of an open connection, with its window in bytes.
-pub record Learns (old new : Socket) (outgoing : List ℕ) (incoming now : ℕ) (s : Segment) : Type 0 where
+-- Congestion control is as before the retransmission, if the timestamp of an acknowledgement of something new shows that it was
+-- not needed (RFC 3522, RFC 4015). SND.UNA was `una` before.
+abbrev pub UndoesNeedless : Socket → Socket → ℕ → Option (ℕ × ℕ) → ℕ → Type 0
+UndoesNeedless old new una timestamp now =
+    0 < newly_after old una → is_needless old timestamp now ≡ true
+    → Undoes old.flow new.flow (newly_after old una) old.connection.sending.flight old.connection.sending.una
+
+-- What a segment makes of an open connection, with its window in bytes, and its timestamp t.
+pub record Learns (old new : Socket) (outgoing : List ℕ) (incoming now : ℕ) (s : Segment) (t : Option (ℕ × ℕ)) : Type 0 where
   -- An acknowledgement of something that was sent becomes SND.UNA (RFC 9293, section 3.10.7.4).
   pub una :
       old.connection.receiving.is_open ≡ true
@@ -400,8 +417,14 @@ pub record Learns (old new : Socket) (outgoing : List ℕ) (incoming now : ℕ) 
       → distance s.number old.connection.receiving.next ≤ room_of old.connection.receiving incoming + 1
       → later now 300000 ≤ new.timers.ends_at
   -- the first segment goes again after a partial acknowledgement in fast recovery (RFC 6582, section 3.2), if it did not go again
-  -- before
-  pub partial : ResendsOnPartial old.flow new.flow new.connection.sending.una (newly_in old new)
+  -- before, and was lost
+  pub partial :
+      is_needless old t now ≡ false
+      → ResendsOnPartial old.flow new.flow new.connection.sending.una (newly_in old new)
+  -- If the acknowledgement shows that nothing was lost, congestion control is as before (RFC 3522, RFC 4015).
+  pub undoes :
+      0 < newly_in old new → is_needless old t now ≡ true
+      → Undoes old.flow new.flow (newly_in old new) new.connection.sending.flight new.connection.sending.una
   -- Duplicate acknowledgements are counted,
   pub counted :
       newly_in old new ≡ 0 → IsDuplicateFor old incoming s → old.connection.receiving.is_open ≡ true
@@ -421,7 +444,7 @@ LearnsBy event.Listen old new outgoing incoming now = Unit {0}
 LearnsBy (event.Open iss) old new outgoing incoming now = Unit {0}
 LearnsBy (event.Arrives segment options fresh) old new outgoing incoming now =
     rejects old now segment.now options.now ≡ false
-    → Learns old new outgoing incoming now (scaled_by old.agreed segment.now)
+    → Learns old new outgoing incoming now (scaled_by old.agreed segment.now) options.now.timestamp
 LearnsBy event.Close old new outgoing incoming now = Unit {0}
 LearnsBy event.Abort old new outgoing incoming now = Unit {0}
 LearnsBy event.Tick old new outgoing incoming now = Unit {0}

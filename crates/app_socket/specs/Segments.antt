@@ -1,9 +1,10 @@
 -- What comes and goes in a header: options, windows, and the items of a segment.
 -- Pinned by: `socket/scenarios`, `socket/options`
-use Rattle.std.specs.Prelude.{ℕ, ◌≡◌, ◌⊎◌, ◌==◌, ◌+◌, ◌%◌, ◌&&◌, [], Bool, false, not, nat_lt, is_some, if◌then◌else◌, min, max, Option, None, Some}
+use Rattle.std.specs.Prelude.{ℕ, ◌≡◌, ◌⊎◌, ◌==◌, ◌&&◌, List, [], ◌∷◌, length, replicate, Bool, false, not, nat_lt, is_some, if◌then◌else◌, min, max, Option, None, Some}
 use Rattle.tcp_model.specs.Network.{World}
 use Rattle.tcp_model.specs.Endpoint.{distance}
 use Rattle.app_tcp.specs.Items.{items_of}
+use Rattle.app_tcp.specs.Ranges.{block_of, blocks_of, is_none, order_of}
 use Rattle.app_tcp.specs.Waits.{IsSend}
 use Rattle.app_tcp.specs.declared.receiving.Receiving.{Receiving}
 use Rattle.app_congestion.specs.Congestion.{sender_of}
@@ -84,7 +85,7 @@ is_narrower s number mss = is_in_flight s.connection number && nat_lt mss s.limi
 
 -- the most text in the next segment
 abbrev pub text_of : Socket → ℕ
-text_of s = text_limit s.agreed s.limit (nat_lt 0 s.connection.receiving.kept)
+text_of s = text_limit s.agreed s.limit (not (is_none s.connection.receiving.ranges))
 
 -- The largest segment is at most this one. The largest segment of congestion control (SMSS) is at most the text that fits in it
 -- (RFC 9293, section 3.7.5).
@@ -101,17 +102,25 @@ pub record GoesAgain (old new : Flow) : Type 0 where
       ≡ record old { congestion = new.congestion; cursor = 0; resend = false; rescued = 0; scoreboard = new.scoreboard }
   pub known : (n : ℕ) → has new.scoreboard n ≡ false
 
--- The numbers of the bytes that are kept after a gap, as in a SACK block (RFC 2018, section 3): the first, and the one after
--- the last.
-abbrev pub kept_of : Receiving → Option (ℕ × ℕ)
-kept_of r = if r.kept == 0 then None else Some ((r.next + r.gap) % 4294967296, (r.next + r.gap + r.kept) % 4294967296)
+-- The SACK blocks that a segment with this text tells: all, or the first one if it has text (RFC 2018, section 4).
+abbrev pub kept_of : Receiving → List ℕ → List (Option (ℕ × ℕ))
+kept_of r text =
+    if is_none r.ranges
+    then replicate 4 None
+    else
+    (if length text == 0
+    then blocks_of r.ranges r.next r.newest
+    else (block_of r.next (order_of r.ranges r.newest).0 ∷ replicate 3 None))
 
 -- The options of a segment: those of a SYN, none of an RST, or the others (RFC 7323, section 3.2).
 abbrev pub options_of : Socket → Segment → ℕ → ℕ → TcpOptionSummary
 options_of s segment incoming now =
     if segment.syn
     then of_syn s.agreed (mss_of s.options) incoming now (is_some segment.ack)
-    else (if segment.rst then summary_of [] else of_segment s.agreed (kept_of s.connection.receiving) now)
+    else
+    (if segment.rst
+    then summary_of []
+    else of_segment s.agreed (kept_of s.connection.receiving segment.payload.now) now)
 
 -- The header of a segment: the window of a SYN is not scaled (RFC 7323, section 2.2).
 abbrev pub header_of : Socket → Segment → ℕ → ℕ → Header

@@ -1,6 +1,6 @@
 -- The window that is advertised (RFC 9293, section 3.8.6).
 -- Pinned by: `socket/scenarios`
-use Rattle.std.specs.Prelude.{ℕ, ◌≡◌, ◌+◌, ◌-◌, ◌/◌, ◌%◌, ◌≤◌, ◌&&◌, Bool, true, min, max, not, nat_lt, if◌then◌else◌}
+use Rattle.std.specs.Prelude.{ℕ, ◌≡◌, ◌+◌, ◌-◌, ◌*◌, ◌/◌, ◌%◌, ◌^◌, ◌≤◌, ◌&&◌, ◌||◌, Bool, true, min, max, not, nat_lt, if◌then◌else◌}
 use Rattle.tcp_model.specs.Endpoint.{distance}
 use Rattle.app_tcp.specs.Stands.{room_of}
 use Rattle.app_tcp.specs.declared.receiving.Receiving.{Receiving}
@@ -31,11 +31,18 @@ is_ahead edge target = nat_lt (distance target edge) 2147483648
 abbrev pub moved : ℕ → ℕ → ℕ
 moved edge target = if is_ahead edge target then target else edge
 
--- Whether the window has to be told again: little of it is left, and much would be won.
-abbrev pub is_update_due : ℕ → ℕ → ℕ → ℕ → Bool
-is_update_due edge next room least =
-    nat_lt (promised edge next) least &&
-    (not (nat_lt room (promised edge next)) && not (nat_lt (room - promised edge next) least))
+-- a window as the peer reads it: windows are scaled by 2^shift (RFC 7323, section 2.3)
+abbrev pub read_as : ℕ → ℕ → ℕ
+read_as window shift = window / 2 ^ shift * 2 ^ shift
+
+-- Whether the window has to be told again: the peer would read much more of it, and little of it is left, or at most half of what
+-- there is room for (RFC 9293, section 3.8.6.2.2).
+abbrev pub is_update_due : ℕ → ℕ → ℕ → ℕ → ℕ → Bool
+is_update_due edge next room least shift =
+    not (nat_lt room (promised edge next)) &&
+    (not (nat_lt (room - promised edge next) least) &&
+    (not (nat_lt (read_as room shift - read_as (promised edge next) shift) least) &&
+    (nat_lt (read_as (promised edge next) shift) least || not (nat_lt (room - promised edge next) (promised edge next)))))
 
 -- The right edge that was told is not after that of the room.
 abbrev pub HasRoom : ℕ → Receiving → ℕ → Type 0

@@ -9,7 +9,9 @@ ghost use Rattle.app_connection.specs.States.{state_from};
 ghost use Rattle.app_connection.specs.declared.state.State.TheVariants as state;
 ghost use Rattle.app_connection.specs.Worlds.{GoesOut, said};
 ghost use Rattle.tcp_model.specs.Endpoint.{distance};
-ghost use Rattle.app_socket.specs.Resends.{IsArmed, IsDuplicate, IsSound, Learns, restarted_at, scaled_by, CountsDuplicate, ResendsOnPartial, ResendsOnThird, RestartsTimer, StaysSound, newly_after};
+ghost use Rattle.app_congestion.specs.Congestion.{is_in_recovery};
+ghost use Rattle.app_socket.specs.Resends.{IsArmed, IsDuplicate, IsSound, Learns, restarted_at, scaled_by, CountsDuplicate, ResendsOnPartial, ResendsOnThird, RestartsTimer, StaysSound, UndoesNeedless, newly_after};
+ghost use Rattle.app_socket.specs.Undo.{Undoes, is_needless};
 ghost use Rattle.app_socket.specs.Segments.{StaysOrUpdates, rejects};
 ghost use Rattle.app_socket.specs.Times.{is_open, later, patience_of};
 ghost use Rattle.app_socket.specs.Window.{HasRoom, Tells};
@@ -115,7 +117,8 @@ impl Socket {
         ensures stays { IsOpen self.old → segment.now.rst ≡ false
             → endpoint_of self.new.connection ≡ endpoint_of self.old.connection }
         ensures learns { WhileOpen self.old self.new (rejects self.old now segment.now options.now ≡ false
-            → Learns self.old self.new outgoing.now (length incoming.old) now (scaled_by self.old.agreed segment.now)) }
+            → Learns self.old self.new outgoing.now (length incoming.old) now (scaled_by self.old.agreed segment.now)
+            options.now.timestamp) }
         ensures stale { rejects self.old now segment.now options.now ≡ true → ChangesOnlyAck self.old self.new }
         ensures answered { rejects self.old now segment.now options.now ≡ true
             → is_some result ≡ is_some options.now.timestamp }
@@ -176,7 +179,7 @@ impl Socket {
         ensures stays { IsOpen self.old → segment.now.rst ≡ false
             → endpoint_of self.new.connection ≡ endpoint_of self.old.connection }
         ensures learns { WhileOpen self.old self.new
-            (Learns self.old self.new outgoing.now (length incoming.old) now segment.now) }
+            (Learns self.old self.new outgoing.now (length incoming.old) now segment.now options.now.timestamp) }
     {
         let before = self.before(incoming.len());
         let reply = self
@@ -247,9 +250,11 @@ impl Socket {
         ensures restarts { is_open before.now.state ≡ true → RestartsTimer self.old self.new before.now.una now }
         ensures keeps { is_open before.now.state ≡ true → newly_after self.old before.now.una ≡ 0 → (earlier : Option ℕ)
             → IsArmed earlier self.old.timers.resend_at now → IsArmed earlier self.new.timers.resend_at now }
-        ensures partial { is_open before.now.state ≡ true
+        ensures partial { is_open before.now.state ≡ true → is_needless self.old options.now.timestamp now ≡ false
             → ResendsOnPartial self.old.flow self.new.flow self.old.connection.sending.una
             (newly_after self.old before.now.una) }
+        ensures undoes { is_open before.now.state ≡ true
+            → UndoesNeedless self.old self.new before.now.una options.now.timestamp now }
         ensures counted { is_open before.now.state ≡ true → newly_after self.old before.now.una ≡ 0 → IsDuplicate
             before.now.una before.now.flight before.now.window before.now.next before.now.room segment.now
             → CountsDuplicate self.old.flow self.new.flow self.old.connection.sending.una }
@@ -341,8 +346,10 @@ impl Socket {
         ensures ends_at { self.new.timers.ends_at ≡ self.old.timers.ends_at }
         ensures armed { 0 < newly_after self.old before.now.una
             → IfSome self.new.timers.resend_at (λ at. at ≤ later now 60000) }
-        ensures partial { ResendsOnPartial self.old.flow self.new.flow self.old.connection.sending.una
+        ensures partial { is_needless self.old options.now.timestamp now ≡ false
+            → ResendsOnPartial self.old.flow self.new.flow self.old.connection.sending.una
             (newly_after self.old before.now.una) }
+        ensures undoes { UndoesNeedless self.old self.new before.now.una options.now.timestamp now }
         ensures counted { newly_after self.old before.now.una ≡ 0 → IsDuplicate before.now.una before.now.flight
             before.now.window before.now.next before.now.room segment.now
             → CountsDuplicate self.old.flow self.new.flow self.old.connection.sending.una }
@@ -354,7 +361,7 @@ impl Socket {
         if newly > 0 {
             self.learn_newly(before.una, newly, now, options);
         }
-        self.learn_duplicates(before, newly, segment, options);
+        self.learn_duplicates(before, newly, now, segment, options);
     }
 
     // So many numbers after `una` were newly acknowledged: the timer starts anew (RFC 6298, section 5.3).
@@ -364,12 +371,17 @@ impl Socket {
               timers = record self.old.timers { resend_at = self.new.timers.resend_at };
               flow = self.new.flow;
             } }
-        ensures sound { (flight : ℕ) → newly ≤ flight → IsSound self.old.flow flight
-            → IsSound self.new.flow (flight - newly) }
+        ensures sound { IsSound self.old.flow (self.old.connection.sending.flight + newly)
+            → IsSound self.new.flow self.old.connection.sending.flight }
         ensures restarts { (size : ℕ) → OutFits self.old.connection.sending size
             → self.new.timers.resend_at ≡ restarted_at self.new now }
         ensures armed { IfSome self.new.timers.resend_at (λ at. at ≤ later now 60000) }
-        ensures partial { ResendsOnPartial self.old.flow self.new.flow ((una + newly) % 4294967296) newly }
+        ensures partial { is_needless self.old options.now.timestamp now ≡ false
+            → ResendsOnPartial self.old.flow self.new.flow ((una + newly) % 4294967296) newly }
+        ensures undoes { is_needless self.old options.now.timestamp now ≡ true
+            → Undoes self.old.flow self.new.flow newly self.old.connection.sending.flight ((una + newly) % 4294967296) }
+        ensures calm { is_needless self.old options.now.timestamp now ≡ true
+            → is_in_recovery self.new.flow.congestion.phase ≡ false }
     {
         let flight = self.connection.flight();
         let round_trip = self.agreed.round_trip(options.timestamp, now);
@@ -383,6 +395,7 @@ impl Socket {
         &mut self,
         before: &Before,
         newly: u32,
+        now: u64,
         segment: &Segment,
         options: &TcpOptionSummary,
     )
@@ -392,8 +405,11 @@ impl Socket {
             resend = self.new.flow.resend;
             scoreboard = self.new.flow.scoreboard;
             rescued = self.new.flow.rescued;
+            undo = self.new.flow.undo;
           };
         } }
+        ensures calm { 0 < newly → is_in_recovery self.old.flow.congestion.phase ≡ false → self.new.flow
+            ≡ record self.old.flow { scoreboard = self.new.flow.scoreboard } }
         ensures still { self.old.flow.resend ≡ true → self.new.flow.resend ≡ true }
         ensures sound { IsSound self.old.flow self.old.connection.sending.flight
             → IsSound self.new.flow self.old.connection.sending.flight }
@@ -410,9 +426,9 @@ impl Socket {
             0
         };
         if newly == 0 && before.is_duplicate(segment, has_sack) {
-            self.flow.on_duplicates(segments.max(1), flight, una);
+            self.flow.on_duplicates(segments.max(1), flight, una, now);
         } else if newly > 0 && self.flow.is_recovering() {
-            self.flow.on_duplicates(segments, flight, una);
+            self.flow.on_duplicates(segments, flight, una, now);
         }
     }
 

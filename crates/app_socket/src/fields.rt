@@ -7,8 +7,9 @@ use crate::flow::{Flow, Timed};
 use crate::options::Options;
 use crate::socket::Socket;
 use crate::timers::Timers;
+use crate::undo::Undo;
 use app_congestion::{CongestionFields, RtoFields, Scoreboard};
-use app_connection::ConnectionFields;
+use app_connection::{Connection, ConnectionFields};
 use app_options::AgreedFields;
 
 /// A `Socket`.
@@ -21,6 +22,8 @@ pub struct SocketFields {
     congestion: CongestionFields,
     scoreboard: Scoreboard,
     agreed: AgreedFields,
+    undo: Undo,
+    expired_at: u64,
     ends_at: u64,
     resend_at: u64,
     ack_at: u64,
@@ -53,7 +56,9 @@ impl Socket {
             timing: flow.timing.unwrap_or(Timed { end: 0, sent_at: 0 }),
             congestion: flow.congestion.fields(),
             scoreboard: flow.scoreboard,
+            undo: flow.undo,
             agreed: self.agreed.fields(),
+            expired_at: flow.expired_at,
             ends_at: timers.ends_at,
             resend_at: timers.resend_at.unwrap_or(0),
             ack_at: timers.ack_at.unwrap_or(0),
@@ -74,6 +79,22 @@ impl Socket {
 }
 
 impl SocketFields {
+    /// The connection without its timers: to read and write, which moves none.
+    #[inline(always)]
+    pub fn connection(&self) -> Connection
+        ensures { result ≡ (socket_of self.now).connection }
+    {
+        self.connection.value()
+    }
+
+    /// The connection after that.
+    #[inline(always)]
+    pub fn set_connection(&mut self, connection: &Connection)
+        ensures { socket_of self.new ≡ record (socket_of self.old) { connection = connection.now } }
+    {
+        self.connection = connection.fields();
+    }
+
     /// The value with these fields.
     #[inline(always)]
     pub fn value(&self) -> Socket
@@ -128,6 +149,8 @@ impl SocketFields {
             rescued: self.rescued,
             max_window: self.max_window,
             is_probed: self.is_probed,
+            undo: self.undo,
+            expired_at: self.expired_at,
         }
     }
 }

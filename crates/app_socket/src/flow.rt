@@ -5,7 +5,9 @@ ghost use Rattle.app_congestion.specs.Congestion.{acknowledged, begins, duplicat
 ghost use Rattle.app_congestion.specs.Scoreboard.{has, total};
 ghost use Rattle.app_socket.specs.Pieces.{IsSacked, IsWithin};
 ghost use Rattle.app_socket.specs.Resends.{BacksOff, Samples, TimesOut, is_probe_useful, next_in, timer_of, ChangesRecovery, SamplesTimed};
+ghost use Rattle.app_socket.specs.Undo.{IsUndone, Undoes, is_echo_before, is_spurious, saved, since_expired};
 
+use crate::undo::{Undo, is_echo_before, since_expired};
 use app_congestion::{Congestion, Rto, Scoreboard};
 
 // A segment whose round trip is timed.
@@ -36,6 +38,9 @@ pub(crate) struct Flow {
     pub(crate) max_window: u32,
     // Whether the timer expired since the last sample of the round trip.
     pub(crate) is_probed: bool,
+    // What a spurious retransmission restores, and when the timer expired last.
+    pub(crate) undo: Undo,
+    pub(crate) expired_at: u64,
 }
 
 // What the choice of the next segment sees of a connection.
@@ -93,6 +98,8 @@ impl Flow {
             rescued: 0,
             max_window: 0,
             is_probed: false,
+            undo: Undo::NONE,
+            expired_at: 0,
         }
     }
 
@@ -140,6 +147,8 @@ impl Flow {
           rescued = 0;
           max_window = 0;
           is_probed = false;
+          undo = record { sent_at = 0; cwnd = 0; ssthresh = 0 };
+          expired_at = 0;
         } }
         ensures timeout { self.new.rto.timeout ≡ 1000 }
         ensures estimate { self.new.rto.estimate ≡ None }
@@ -153,6 +162,8 @@ impl Flow {
         self.rescued = 0;
         self.max_window = 0;
         self.is_probed = false;
+        self.undo = Undo::NONE;
+        self.expired_at = 0;
     }
 
     // The SYN was acknowledged. One that was sent again is not timed (RFC 6298, section 5.7; RFC 5681, section 3.1).
@@ -199,29 +210,40 @@ impl Flow {
           rto = self.new.rto;
           congestion = self.new.congestion;
           timing = self.new.timing;
-          cursor = self.old.cursor - newly;
+          cursor = self.new.cursor;
           resend = self.new.resend;
           scoreboard = self.new.scoreboard;
           rescued = self.old.rescued - newly;
           is_probed = self.new.is_probed;
+          undo = record self.old.undo { sent_at = 0 };
         } }
+        ensures cursor { is_spurious self.old round_trip now ≡ false → self.new.cursor ≡ self.old.cursor - newly }
         ensures known { (n : ℕ) → has self.new.scoreboard n ≡ has self.old.scoreboard (n + newly) }
-        ensures sender { sender_of self.new.congestion
+        ensures sender { is_spurious self.old round_trip now ≡ false → sender_of self.new.congestion
             ≡ acknowledged (sender_of self.old.congestion) newly flight ((una + newly) % 4294967296) }
-        ensures partial { is_partial self.old.congestion.phase ((una + newly) % 4294967296) ≡ true → 0 < newly
+        ensures undoes { is_spurious self.old round_trip now ≡ true
+            → Undoes self.old self.new newly flight ((una + newly) % 4294967296) }
+        ensures calm { is_spurious self.old round_trip now ≡ true → is_in_recovery self.new.congestion.phase ≡ false }
+        ensures partial { is_spurious self.old round_trip now ≡ false
+            → is_partial self.old.congestion.phase ((una + newly) % 4294967296) ≡ true → 0 < newly
             → self.old.rescued ≤ newly → self.new.resend ≡ true }
-        ensures alone { is_partial self.old.congestion.phase ((una + newly) % 4294967296) ≡ true → 0 < newly
+        ensures alone { is_spurious self.old round_trip now ≡ false
+            → is_partial self.old.congestion.phase ((una + newly) % 4294967296) ≡ true → 0 < newly
             → ((n : ℕ) → has self.new.scoreboard n ≡ false) → self.new.resend ≡ true }
         ensures other { is_partial self.old.congestion.phase ((una + newly) % 4294967296) ≡ false
             → self.new.resend ≡ false }
         ensures timed { SamplesTimed self.old self.new una newly now }
-        ensures told { self.old.timing ≡ None → IfSome round_trip (λ rtt. Samples self.old.rto self.new.rto rtt) }
+        ensures told { self.old.timing ≡ None → IfSome (since_expired self.old.expired_at round_trip now)
+            (λ rtt. Samples self.old.rto self.new.rto rtt) }
+        ensures stale { self.old.timing ≡ None → is_echo_before self.old.expired_at round_trip now ≡ true
+            → self.new.rto ≡ self.old.rto }
         ensures ends { self.old.is_probed ≡ false → self.new.is_probed ≡ false }
     {
         self.time(una, newly, round_trip, now);
         self.cursor = self.cursor.saturating_sub(newly);
         self.rescued = self.rescued.saturating_sub(newly);
         self.scoreboard.advance(newly);
+        self.restore(flight, round_trip, now);
         let is_partial = self
             .congestion
             .on_ack(newly, flight, una.wrapping_add(newly));
@@ -229,19 +251,57 @@ impl Flow {
         self.resend = is_partial && (self.rescued == 0 || self.scoreboard.is_empty());
     }
 
+    // The first acknowledgement after a segment went again: if it echoes a timestamp from before that, nothing was lost, and
+    // congestion control is as if the segment had not gone (RFC 3522, section 3.2; RFC 4015). `flight`: what is in flight.
+    fn restore(&mut self, flight: u32, round_trip: Option<u32>, now: u64)
+        ensures same { self.new ≡ record self.old {
+          undo = record self.old.undo { sent_at = 0 };
+          congestion = self.new.congestion;
+          cursor = self.new.cursor;
+          resend = self.new.resend;
+        } }
+        ensures undone { is_spurious self.old round_trip now ≡ true → IsUndone self.old self.new flight }
+        ensures kept { is_spurious self.old round_trip now ≡ false
+            → self.new ≡ record self.old { undo = record self.old.undo { sent_at = 0 } } }
+    {
+        if is_echo_before(self.undo.sent_at, round_trip, now) {
+            self.congestion.undo(self.undo.cwnd, self.undo.ssthresh);
+            self.cursor = flight;
+            self.resend = false;
+        }
+        self.undo.sent_at = 0;
+    }
+
+    // A segment goes again, at first of these: what congestion control was is kept until the next acknowledgement.
+    fn save(&mut self, congestion: &Congestion, now: u64)
+        ensures { self.new
+            ≡ record self.old { undo = saved (record self.old { congestion = congestion.now }) now } }
+    {
+        if self.undo.sent_at == 0 {
+            self.undo = Undo {
+                sent_at: now,
+                cwnd: congestion.unchanged(),
+                ssthresh: congestion.ssthresh(),
+            };
+        }
+    }
+
     // Takes the round trip of the segment that is timed; where none is, since segments went again, the one that timestamps tell
-    // (RFC 6298, section 3).
+    // (RFC 6298, section 3), unless it began before the timer expired.
     fn time(&mut self, una: u32, newly: u32, round_trip: Option<u32>, now: u64)
         ensures same { self.new
             ≡ record self.old { rto = self.new.rto; timing = self.new.timing; is_probed = self.new.is_probed } }
         ensures timed { SamplesTimed self.old self.new una newly now }
-        ensures told { self.old.timing ≡ None → IfSome round_trip (λ rtt. Samples self.old.rto self.new.rto rtt) }
+        ensures told { self.old.timing ≡ None → IfSome (since_expired self.old.expired_at round_trip now)
+            (λ rtt. Samples self.old.rto self.new.rto rtt) }
+        ensures stale { self.old.timing ≡ None → is_echo_before self.old.expired_at round_trip now ≡ true
+            → self.new.rto ≡ self.old.rto }
         ensures ends { self.old.is_probed ≡ false → self.new.is_probed ≡ false }
     {
         let sample = match self.timing {
             Some(timed) if timed.end.wrapping_sub(una) > newly => return,
             Some(timed) => Some(elapsed(timed.sent_at, now)),
-            None => round_trip,
+            None => since_expired(self.expired_at, round_trip, now),
         };
         self.timing = None;
         if let Some(rtt) = sample {
@@ -277,7 +337,7 @@ impl Flow {
     }
 
     // As many duplicate acknowledgements.
-    pub(crate) fn on_duplicates(&mut self, count: u32, flight: u32, una: u32)
+    pub(crate) fn on_duplicates(&mut self, count: u32, flight: u32, una: u32, now: u64)
         ensures same { ChangesRecovery self.old self.new }
         ensures still { self.old.resend ≡ true → self.new.resend ≡ true }
         ensures none { count ≡ 0 → self.new ≡ self.old }
@@ -288,22 +348,24 @@ impl Flow {
             → self.old.congestion.duplicates < 3 → 3 ≤ self.old.congestion.duplicates + count → self.new.resend ≡ true }
     {
         for _ in 0..count {
-            self.on_duplicate(flight, una);
+            self.on_duplicate(flight, una, now);
         }
     }
 
-    fn on_duplicate(&mut self, flight: u32, una: u32)
+    fn on_duplicate(&mut self, flight: u32, una: u32, now: u64)
         ensures same { ChangesRecovery self.old self.new }
         ensures sender { sender_of self.new.congestion
             ≡ duplicated (sender_of self.old.congestion) flight una ((una + flight) % 4294967296) }
         ensures still { self.old.resend ≡ true → self.new.resend ≡ true }
         ensures third { (not (is_in_recovery self.old.congestion.phase) && is_third (sender_of self.old.congestion) una)
-            ≡ true → (self.new.resend ≡ true) × (self.new.rescued ≡ 0) }
+            ≡ true → (self.new.resend ≡ true) × ((self.new.rescued ≡ 0) × (self.new.undo ≡ saved self.old now)) }
         ensures other { (not (is_in_recovery self.old.congestion.phase) && is_third (sender_of self.old.congestion) una)
             ≡ false → self.new ≡ record self.old { congestion = self.new.congestion } }
     {
         let next = una.wrapping_add(flight);
+        let before = self.congestion;
         if self.congestion.on_duplicate(flight, una, next) {
+            self.save(&before, now);
             self.resend = true;
             self.rescued = 0;
         }
@@ -335,23 +397,30 @@ impl Flow {
 
     // The timer of a loss probe expired: fast recovery begins, and the first segment goes again. Nothing happens if the window is
     // closed, while everything goes again, and for one segment, whose acknowledgement the peer may delay.
-    pub(crate) fn on_probe(&mut self, queue: &Queue)
+    pub(crate) fn on_probe(&mut self, queue: &Queue, now: u64)
         ensures same { self.new ≡ record self.old {
           congestion = self.new.congestion;
           resend = self.new.resend;
           rescued = self.new.rescued;
           is_probed = true;
+          undo = self.new.undo;
+          expired_at = now;
         } }
         ensures first { is_probe_useful self.old queue.now ≡ true → (self.new.resend ≡ true) × (self.new.rescued ≡ 0) }
         ensures sender { is_probe_useful self.old queue.now ≡ true → sender_of self.new.congestion
             ≡ probed (sender_of self.old.congestion) queue.now.flight (next_in queue.now) }
-        ensures other { is_probe_useful self.old queue.now ≡ false → self.new ≡ record self.old { is_probed = true } }
+        ensures saves { is_probe_useful self.old queue.now ≡ true → self.new.undo ≡ saved self.old now }
+        ensures other { is_probe_useful self.old queue.now ≡ false
+            → self.new ≡ record self.old { is_probed = true; expired_at = now } }
         ensures still { self.old.resend ≡ true → self.new.resend ≡ true }
     {
         self.is_probed = true;
+        self.expired_at = now;
         if queue.window == 0 || queue.flight <= u32::from(queue.mss) || self.cursor < queue.flight {
             return;
         }
+        let before = self.congestion;
+        self.save(&before, now);
         self.congestion.on_probe(queue.flight, queue.next());
         self.resend = true;
         self.rescued = 0;
@@ -359,15 +428,16 @@ impl Flow {
 
     // The timer expired: the first segment goes again, or probes a closed window. With nothing in flight it is one that was too
     // small for its window before.
-    pub(crate) fn on_timeout(&mut self, queue: &Queue) -> Piece
+    pub(crate) fn on_timeout(&mut self, queue: &Queue, now: u64) -> Piece
         ensures within { IsWithin result queue.now.window self.new.congestion.cwnd }
         ensures first { result.offset ≡ 0 }
-        ensures times_out { TimesOut self.old self.new queue.now }
+        ensures times_out { TimesOut self.old self.new queue.now now }
         ensures kind { queue.now.window ≡ 0 → result.kind ≡ Kind.Probe }
         ensures again { 0 < queue.now.window → result.kind ≡ Kind.Again }
     {
         self.timing = None;
         self.is_probed = true;
+        self.expired_at = now;
         self.go_back();
         if queue.window == 0 {
             self.rto.back_off();
@@ -375,6 +445,8 @@ impl Flow {
         }
         if queue.flight > 0 {
             self.rto.back_off();
+            let before = self.congestion;
+            self.save(&before, now);
             self.congestion.on_timeout(queue.flight, queue.next());
         }
         self.first(queue, Kind::Again)

@@ -10,8 +10,10 @@ ghost use Rattle.app_socket.specs.Rounds.{AcknowledgesItems, AreBefore, AreRound
 ghost use Rattle.app_socket.specs.Runs.{Ends, Runs, ends_of};
 ghost use Rattle.tcp_model.specs.Network.{World, Event as WorldEvent, run, start, stream};
 ghost use Rattle.app_tcp.specs.Waits.{Waits, count_of};
-ghost use Rattle.app_options.specs.Timestamps.{takes};
-ghost use Rattle.app_socket.specs.Resends.{ComesAcross, GoesRound, IsSound, is_due};
+ghost use Rattle.app_congestion.specs.Congestion.{sender_of};
+ghost use Rattle.app_options.specs.Timestamps.{round_trip, takes};
+ghost use Rattle.app_socket.specs.Resends.{ComesAcross, GoesRound, IsSound, is_due, newly_in};
+ghost use Rattle.app_socket.specs.Undo.{UndoesTo, is_echo_before};
 ghost use Rattle.app_socket.specs.Segments.{text_of};
 ghost use Rattle.app_socket.specs.Times.{is_open, resend_or_probe};
 
@@ -126,6 +128,44 @@ pub fn a_round_is_acknowledged(
         → let there : World = run events (start initial) in Waits there socket.old.connection.sending outgoing.now
         → there.acked < length (stream there.written there.closed) → there.receiver.is_open ≡ true → 0 < room
         → GoesRound there socket.new.connection.sending outgoing.now room answer.now.ack }
+{
+    let _ = socket.step(outgoing, incoming, times.0, Event::Tick);
+    let _ = socket.step(
+        outgoing,
+        incoming,
+        times.1,
+        Event::Arrives(answer, options, 0),
+    );
+}
+
+/// A time-out that was not needed costs nothing: if no segment went again before it, and the next acknowledgement of something new
+/// echoes a timestamp from before it, cwnd and ssthresh are as before it, and cwnd grows by what is acknowledged. All in flight
+/// counts as sent once (RFC 3522, RFC 4015).
+pub fn a_spurious_time_out_is_undone(
+    socket: &mut Socket,
+    outgoing: &[u8],
+    incoming: &mut [u8],
+    times: (u64, u64),
+    answer: &Segment,
+    options: &TcpOptionSummary,
+)
+    requires out { OutFits socket.old.connection.sending (length outgoing.now) }
+    requires rings { InFits socket.old.connection.receiving (length incoming.old) }
+    requires opened { is_open (state_from socket.old.connection) ≡ true }
+    requires waits { 0 < count_of socket.old.connection.sending }
+    requires flight { 0 < socket.old.connection.sending.flight }
+    requires window { 0 < socket.old.connection.wnd }
+    requires due { is_due socket.old.timers.resend_at times.0 ≡ true }
+    requires probed { socket.old.flow.is_probed ≡ true }
+    requires patient { times.0 < socket.old.timers.ends_at }
+    requires once { socket.old.flow.undo.sent_at ≡ 0 }
+    requires text { length answer.now.payload.now < 65536 }
+    requires taken { takes socket.old.agreed.recent options.now.timestamp times.1 ≡ true }
+    requires echo { let a = socket.old.agreed in
+        is_echo_before times.0 (round_trip a.recent a.offset options.now.timestamp times.1) times.1 ≡ true }
+    ensures { is_open (state_from socket.new.connection) ≡ true → 0 < newly_in socket.old socket.new
+        → UndoesTo (sender_of socket.old.flow.congestion) socket.new.flow (newly_in socket.old socket.new)
+        socket.new.connection.sending.flight socket.new.connection.sending.una }
 {
     let _ = socket.step(outgoing, incoming, times.0, Event::Tick);
     let _ = socket.step(

@@ -15,6 +15,7 @@ mod socket;
 mod step;
 mod tick;
 mod timers;
+mod undo;
 mod window;
 
 pub use fields::SocketFields;

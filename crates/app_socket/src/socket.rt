@@ -2,6 +2,7 @@
 
 ghost use Rattle.std.specs.Prelude.{◌≡◌, ◌==◌, ◌&&◌, ◌≤◌, ◌<◌, ◌++◌, [], max, ℕ, List, length, true, false, MatchOption, take, ◌+◌, nat_lt};
 ghost use Rattle.tcp_model.specs.Network.{World, Event, happens, run, start, IsPrefixOf};
+ghost use Rattle.app_tcp.specs.Ranges.{is_none};
 ghost use Rattle.app_tcp.specs.Stands.{Stands, room_of};
 ghost use Rattle.app_connection.specs.SetUp.{In_closed};
 ghost use Rattle.app_connection.specs.Endpoints.{endpoint_of, OutFits, InFits};
@@ -9,7 +10,8 @@ ghost use Rattle.app_connection.specs.States.{state_from, has_peer};
 ghost use Rattle.app_connection.specs.Steps.{Reads, Writes};
 ghost use Rattle.app_tcp.specs.Waits.{count_of, unsent_of};
 ghost use Rattle.app_socket.specs.Resends.{queue_of};
-ghost use Rattle.app_socket.specs.Segments.{GoesAgain, Lowers, header_of, is_in_flight, is_narrower, text_of};
+ghost use Rattle.app_options.specs.Options.{of_segment};
+ghost use Rattle.app_socket.specs.Segments.{GoesAgain, Lowers, header_of, is_in_flight, is_narrower, kept_of, text_of};
 ghost use Rattle.app_socket.specs.Times.{due_in};
 ghost use Rattle.app_socket.specs.Promises.{RemembersFlight};
 
@@ -86,9 +88,32 @@ impl Socket {
             options: if segment.rst {
                 TcpOptionSummary::default()
             } else {
-                self.agreed.of_segment(self.connection.kept(), now)
+                self.options_of(segment.payload, now)
             },
         }
+    }
+
+    // The options of a segment with this text, without SYN and RST: text leaves room for one SACK block.
+    fn options_of(&self, text: &[u8], now: u64) -> TcpOptionSummary
+        ensures { result ≡ of_segment self.now.agreed (kept_of self.now.connection.receiving text.now) now }
+    {
+        if !self.connection.has_gap() {
+            return self.agreed.of_segment(None, now);
+        }
+        self.gap_options(text, now)
+    }
+
+    // The same, if something is kept after a gap.
+    #[inline(never)]
+    fn gap_options(&self, text: &[u8], now: u64) -> TcpOptionSummary
+        requires { is_none self.now.connection.receiving.ranges ≡ false }
+        ensures { result ≡ of_segment self.now.agreed (kept_of self.now.connection.receiving text.now) now }
+    {
+        let blocks = self.connection.blocks();
+        if text.is_empty() {
+            return self.agreed.of_blocks(blocks, now);
+        }
+        self.agreed.of_segment(blocks[0], now)
     }
 
     /// An ICMP error says that a segment of this number was too big, and that the path takes segments with `mss` bytes of text

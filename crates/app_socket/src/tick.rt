@@ -206,7 +206,7 @@ impl Socket {
         ensures expires { (size : ℕ) → OutFits self.old.connection.sending size
             → WhenTimeout self.old now (MatchOption result ⊥ (λ p. p.offset ≡ 0)) }
         ensures times_out { (size : ℕ) → OutFits self.old.connection.sending size
-            → WhenTimeout self.old now (TimesOut self.old.flow self.new.flow (queue_of self.old)) }
+            → WhenTimeout self.old now (TimesOut self.old.flow self.new.flow (queue_of self.old) now) }
         ensures probed { (size : ℕ) → OutFits self.old.connection.sending size
             → WhenDue self.old now (self.new.flow.is_probed ≡ true) }
         ensures again { self.old.flow.resend ≡ true → MatchOption result ⊥ (λ p. p.offset ≡ 0) }
@@ -290,7 +290,7 @@ impl Socket {
         ensures some { is_due self.old.timers.resend_at now ≡ true → self.old.flow.is_probed ≡ true
             → MatchOption result ⊥ (λ p. p.offset ≡ 0) }
         ensures times_out { is_due self.old.timers.resend_at now ≡ true → self.old.flow.is_probed ≡ true
-            → TimesOut self.old.flow self.new.flow queue.now }
+            → TimesOut self.old.flow self.new.flow queue.now now }
         ensures probed { is_due self.old.timers.resend_at now ≡ true → self.new.flow.is_probed ≡ true }
         ensures stays { self.old.flow.is_probed ≡ true → self.new.flow.is_probed ≡ true }
         ensures again { result ≡ None → self.old.flow.resend ≡ true → self.new.flow.resend ≡ true }
@@ -301,11 +301,11 @@ impl Socket {
         }
         if self.flow.is_probing() {
             let rto = self.flow.timeout();
-            self.flow.on_probe(queue);
+            self.flow.on_probe(queue, now);
             self.timers.restart(now, rto, true);
             return None;
         }
-        let piece = self.flow.on_timeout(queue);
+        let piece = self.flow.on_timeout(queue, now);
         self.timers.restart(now, self.flow.timeout(), true);
         Some(piece)
     }
@@ -387,7 +387,8 @@ impl Socket {
         );
         let least = least_growth(incoming, self.options.most());
         let room = self.connection.room(incoming);
-        is_before_end && is_update_due(self.edge, self.next(), room, least)
+        let shift = self.agreed.own_scale(incoming);
+        is_before_end && is_update_due(self.edge, self.next(), room, least, shift)
     }
 
     // An acknowledgement of all that came, with this number.

@@ -1,7 +1,7 @@
 //! The window that is advertised (RFC 9293, section 3.8.6).
 
-ghost use Rattle.std.specs.Prelude.{◌≡◌};
-ghost use Rattle.app_socket.specs.Window.{least_growth, advertised, moved, is_update_due};
+ghost use Rattle.std.specs.Prelude.{◌≡◌, ◌≤◌};
+ghost use Rattle.app_socket.specs.Window.{least_growth, advertised, moved, is_update_due, read_as};
 
 // Half of the sequence numbers.
 const HALF: u32 = 1 << 31;
@@ -36,10 +36,25 @@ pub(crate) fn moved(edge: u32, target: u32) -> u32
     }
 }
 
-// Whether the peer has to hear that the window is open again: the one that it knows is small, and the room is larger.
-pub(crate) fn is_update_due(edge: u32, next: u32, room: u32, least: u32) -> bool
-    ensures { result ≡ is_update_due edge next room least }
+// A window as the peer reads it: windows are scaled by 2^shift.
+fn read_as(window: u32, shift: u8) -> u32
+    requires { shift ≤ 14 }
+    ensures { result ≡ read_as window shift }
+{
+    window >> shift << shift
+}
+
+// Whether the peer has to hear that the window is open again: it would read much more of it, and little of it is left, or at most
+// half of what there is room for (section 3.8.6.2.2).
+pub(crate) fn is_update_due(edge: u32, next: u32, room: u32, least: u32, shift: u8) -> bool
+    requires { shift ≤ 14 }
+    ensures { result ≡ is_update_due edge next room least shift }
 {
     let promised = edge.wrapping_sub(next);
-    promised < least && promised <= room && room - promised >= least
+    if promised > room || room - promised < least {
+        return false;
+    }
+    let told = read_as(promised, shift);
+    read_as(room, shift).saturating_sub(told) >= least
+        && (told < least || room - promised >= promised)
 }

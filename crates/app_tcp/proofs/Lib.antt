@@ -1,8 +1,10 @@
 pub mod Places
 pub mod Pending
+pub mod Spans
 pub mod Received
 pub mod Gaps
 pub mod Standing
 pub mod Keeping
 pub mod Taking
+pub mod Told
 pub mod Rounds

@@ -20,7 +20,7 @@ bytes-append (Byte b ∷ xs) ys = ap (λ (l : List ℕ). b ∷ l) (bytes-append 
 bytes-append (Syn ∷ xs) ys = bytes-append xs ys
 bytes-append (Fin ∷ xs) ys = bytes-append xs ys
 
-ended_more : (xs ys : List Item) → is_ended ys ≡ true → is_ended (xs ++ ys) ≡ true
+pub ended_more : (xs ys : List Item) → is_ended ys ≡ true → is_ended (xs ++ ys) ≡ true
 ended_more [] ys ended = ended
 ended_more (Byte b ∷ xs) ys ended = ended_more xs ys ended
 ended_more (Syn ∷ xs) ys ended = ended_more xs ys ended

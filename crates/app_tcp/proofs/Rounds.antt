@@ -5,12 +5,12 @@ use Rattle.std.proofs.lemmas.Bool.{cond_both, cond-true}
 use Rattle.std.proofs.lemmas.Bool.Decides.{nat_tests}
 use Rattle.std.proofs.lemmas.List.{length-drop, length-append, length-map}
 use Rattle.tcp_model.specs.Endpoint.{Item, Byte, Receiver, accepted, fresh}
-use Rattle.tcp_model.specs.Network.{World, Segment, Ack, Event, Send, Segment_comes, Join, Answer, Ack_comes, happens, segment_comes, keep, merge, ack_comes, run, start, stream, end_of, is_ended, is_alive}
+use Rattle.tcp_model.specs.Network.{World, Segment, Ack, Event, Send, Segment_comes, Answer, Ack_comes, happens, segment_comes, ack_comes, run, start, stream, end_of, is_ended, is_alive}
 use Rattle.tcp_model.proofs.Kept.{Good, good_start, run_good}
 use Rattle.tcp_model.proofs.Parts.{part_first}
 use Rattle.tcp_model.proofs.Streams.{end_all}
 use Rattle.tcp_model.proofs.Round.{Came, brought, answered}
-use Rattle.app_tcp.specs.Stands.{Stands, SegmentComes, Uses, Use, Nothing, Keeping, Merging, Joining, events_of, IsAnswer}
+use Rattle.app_tcp.specs.Stands.{Stands, SegmentComes, Uses, again, IsAnswer}
 use Rattle.app_tcp.specs.Waits.{Waits, AckComes, IsSend, pending}
 use Rattle.app_tcp.specs.Round.{GoesOn}
 use Rattle.app_tcp.proofs.Pending.{short_pending, short_end}
@@ -19,34 +19,30 @@ use Rattle.app_tcp.proofs.Standing.{stands_still}
 use Rattle.app_tcp.specs.declared.receiving.Receiving.{Receiving}
 use Rattle.app_tcp.specs.declared.sending.Sending.{Sending}
 
--- a step of the sender leaves the receiver, and what it keeps
-record Still (w v : World) : Type 0 where
-  receiver : v.receiver ≡ w.receiver
-  later : v.later ≡ w.later
-
-send_still : (w : World) (offset count : ℕ) → Still w (happens w (Send offset count))
+-- a step of the sender leaves the receiver
+send_still : (w : World) (offset count : ℕ) → (happens w (Send offset count)).receiver ≡ w.receiver
 send_still w offset count =
     let items = take count (drop (w.acked + offset) (stream w.written w.closed)) in
-    cond_both (nat_lt (length (stream w.written w.closed)) (w.acked + offset)) _ _ (Still w) (λ past. record { receiver = refl; later = refl })
-    (λ within. cond_both (nat_lt (w.acked + 2147483648) (w.acked + offset + length items)) _ _ (Still w) (λ far. record { receiver = refl; later = refl }) (λ near. record { receiver = refl; later = refl }))
+    cond_both (nat_lt (length (stream w.written w.closed)) (w.acked + offset)) _ _ (λ (v : World). v.receiver ≡ w.receiver) (λ past. refl)
+    (λ within. cond_both (nat_lt (w.acked + 2147483648) (w.acked + offset + length items)) _ _ (λ (v : World). v.receiver ≡ w.receiver) (λ far. refl) (λ near. refl))
 
-answer_still : (w : World) → Still w (happens w Answer)
-answer_still w = cond_both w.receiver.is_open _ _ (Still w) (λ yes. record { receiver = refl; later = refl }) (λ no. record { receiver = refl; later = refl })
+answer_still : (w : World) → (happens w Answer).receiver ≡ w.receiver
+answer_still w = cond_both w.receiver.is_open _ _ (λ (v : World). v.receiver ≡ w.receiver) (λ yes. refl) (λ no. refl)
 
-ack_still : (w : World) (o : Option Ack) → Still w (ack_comes w o)
-ack_still w None = record { receiver = refl; later = refl }
-ack_still w (Some a) = cond_both (is_alive w.acked a.place) _ _ (Still w) (λ yes. record { receiver = refl; later = refl }) (λ no. record { receiver = refl; later = refl })
+ack_still : (w : World) (o : Option Ack) → (ack_comes w o).receiver ≡ w.receiver
+ack_still w None = refl
+ack_still w (Some a) = cond_both (is_alive w.acked a.place) _ _ (λ (v : World). v.receiver ≡ w.receiver) (λ yes. refl) (λ no. refl)
 
 -- a step of the receiver leaves what the sender stands for
-same_sender : (w : World) (receiver : Receiver) (acks : List Ack) (later : Segment) (c : Sending) (b : List ℕ) → Waits w c b → Waits (record w { receiver = receiver; acks = acks; later = later }) c b
-same_sender w receiver acks later c b waits = record { una = waits.una; flight = waits.flight; within = waits.within; closed = waits.closed; still = waits.still; held = waits.held }
+same_sender : (w : World) (receiver : Receiver) (acks : List Ack) (c : Sending) (b : List ℕ) → Waits w c b → Waits (record w { receiver = receiver; acks = acks }) c b
+same_sender w receiver acks c b waits = record { una = waits.una; flight = waits.flight; within = waits.within; closed = waits.closed; still = waits.still; held = waits.held }
 
 pub segment_sender : (w : World) (room : ℕ) (o : Option Segment) (c : Sending) (b : List ℕ) → Waits w c b → Waits (segment_comes w room o) c b
 segment_sender w room None c b waits = waits
-segment_sender w room (Some s) c b waits = cond_both (is_alive (length w.receiver.got) s.place) _ _ (λ (v : World). Waits v c b) (λ yes. same_sender w _ w.acks w.later c b waits) (λ no. waits)
+segment_sender w room (Some s) c b waits = cond_both (is_alive (length w.receiver.got) s.place) _ _ (λ (v : World). Waits v c b) (λ yes. same_sender w _ w.acks c b waits) (λ no. waits)
 
 pub answer_sender : (w : World) (c : Sending) (b : List ℕ) → Waits w c b → Waits (happens w Answer) c b
-answer_sender w c b waits = cond_both w.receiver.is_open _ _ (λ (v : World). Waits v c b) (λ yes. same_sender w w.receiver _ w.later c b waits) (λ no. waits)
+answer_sender w c b waits = cond_both w.receiver.is_open _ _ (λ (v : World). Waits v c b) (λ yes. same_sender w w.receiver _ c b waits) (λ no. waits)
 
 -- what the receiver does with a segment leaves the sender, and takes no less
 record Takes (w v : World) : Type 0 where
@@ -57,39 +53,27 @@ record Takes (w v : World) : Type 0 where
 takes_none : (w : World) → w.receiver.is_open ≡ true → Takes w w
 takes_none w is_open = record { sender = λ c b waits. waits; is_open = is_open; more = omega arith }
 
-takes_later : (w : World) (later : Segment) → w.receiver.is_open ≡ true → Takes w (record w { later = later })
-takes_later w later is_open = record { sender = λ c b. same_sender w w.receiver w.acks later c b; is_open = is_open; more = omega arith }
-
-keep_takes : (w : World) (count : ℕ) (o : Option Segment) → w.receiver.is_open ≡ true → Takes w (keep w count o)
-keep_takes w count None is_open = takes_none w is_open
-keep_takes w count (Some s) is_open = takes_later w _ is_open
-
-merge_takes : (w : World) (count : ℕ) (o : Option Segment) → w.receiver.is_open ≡ true → Takes w (merge w count o)
-merge_takes w count None is_open = takes_none w is_open
-merge_takes w count (Some s) is_open =
-    cond_both (is_alive (length w.receiver.got) s.place) _ _ (Takes w)
-    (λ yes. cond_both (is_alive (length w.receiver.got) w.later.place) _ _ (Takes w) (λ kept. takes_later w _ is_open) (λ dead. takes_none w is_open)) (λ no. takes_none w is_open)
-
-join_takes : (w : World) (count : ℕ) → w.receiver.is_open ≡ true → Takes w (happens w (Join count))
-join_takes w count is_open = cond_both (is_alive (length w.receiver.got) w.later.place) _ _ (Takes w) (λ yes. subst (λ (r : Receiver). Takes w (record w { receiver = r })) (sym (cond-true w.receiver.is_open (accepted w.receiver.next w.receiver.got new) _ is_open)) taken) (λ no. takes_none w is_open)
+comes_takes : (w : World) (room : ℕ) (o : Option Segment) → w.receiver.is_open ≡ true → Takes w (segment_comes w room o)
+comes_takes w room None is_open = takes_none w is_open
+comes_takes w room (Some s) is_open =
+    cond_both (is_alive (length w.receiver.got) s.place) _ _ (Takes w) (λ yes. subst (λ (r : Receiver). Takes w (record w { receiver = r })) (sym (cond-true w.receiver.is_open (accepted w.receiver.next w.receiver.got new) _ is_open)) taken) (λ no. takes_none w is_open)
   where
     new : List Item
-    new = fresh w.receiver.next w.later.number w.later.items count
+    new = fresh w.receiver.next s.number s.items room
 
     taken : Takes w (record w { receiver = accepted w.receiver.next w.receiver.got new })
-    taken = record { sender = λ c b. same_sender w _ w.acks w.later c b; is_open = refl; more = omega (arith, length-append w.receiver.got new) }
+    taken = record { sender = λ c b. same_sender w _ w.acks c b; is_open = refl; more = omega (arith, length-append w.receiver.got new) }
 
-use_takes : (w : World) (which : ℕ) (u : Use) → w.receiver.is_open ≡ true → Takes w (run (events_of which u) w)
-use_takes w which Nothing is_open = takes_none w is_open
-use_takes w which (Keeping count) is_open = keep_takes w count (slice_get w.segments which) is_open
-use_takes w which (Merging count) is_open = merge_takes w count (slice_get w.segments which) is_open
-use_takes w which (Joining count) is_open = join_takes w count is_open
+again_takes : (segments : List ℕ) (w : World) → w.receiver.is_open ≡ true → Takes w (run (again segments) w)
+again_takes [] w is_open = takes_none w is_open
+again_takes (which ∷ more) w is_open =
+    let one = comes_takes w 1 (slice_get w.segments which) is_open in
+    let rest = again_takes more (happens w (Segment_comes which 1)) one.is_open in
+    record { sender = λ c b waits. rest.sender c b (one.sender c b waits); is_open = rest.is_open; more = omega (arith, one.more, rest.more) }
 
-use_first : (w : World) (which : ℕ) (u : Use) (events : List Event) → run (events_of which u ++ events) w ≡ run events (run (events_of which u) w)
-use_first w which Nothing events = refl
-use_first w which (Keeping count) events = refl
-use_first w which (Merging count) events = refl
-use_first w which (Joining count) events = refl
+again_first : (segments : List ℕ) (w : World) (events : List Event) → run (again segments ++ events) w ≡ run events (run (again segments) w)
+again_first [] w events = refl
+again_first (which ∷ more) w events = again_first more (happens w (Segment_comes which 1)) events
 
 send_acked : (w : World) (offset count : ℕ) → (happens w (Send offset count)).acked ≡ w.acked
 send_acked w offset count =
@@ -121,7 +105,7 @@ pub round_goes : (initial : ℕ) (events : List Event) (consumed o i0 i1 : List 
     → r0.is_open ≡ true → (0 < room) ⊎ (r0.has_fin ≡ true) → (run events (start initial)).acked < length (stream (run events (start initial)).written (run events (start initial)).closed)
     → 0 < length items → length items ≤ 2147483648
     → IsSend (run events (start initial)) 0 number items → Waits (happens (run events (start initial)) (Send 0 (length items))) s1 o
-    → ((v : World) → SegmentComes v 0 number items → Stands v consumed r0 i0 → Uses (happens v (Segment_comes 0 room)) 0 consumed r1 i1)
+    → ((v : World) → SegmentComes v 0 number items → Stands v consumed r0 i0 → Uses (happens v (Segment_comes 0 room)) consumed r1 i1)
     → ((v : World) → Stands v consumed r1 i1 → IsAnswer v next)
     → ((v : World) → AckComes v 0 next → Waits v s1 o → Waits (happens v (Ack_comes 0)) s2 o)
     → GoesOn (run events (start initial)) consumed s2 o r1 i1
@@ -131,9 +115,8 @@ round_goes initial events consumed o i0 i1 s0 s1 s2 r0 r1 number next room items
     let n = length items in
     let w1 : World = happens w (Send 0 n) in
     let came : World = happens w1 (Segment_comes 0 room) in
-    let still1 : Still w w1 = send_still w 0 n in
     let left : length (stream w.written w.closed) - w.acked ≡ length (pending s0 o) = sym (length-drop w.acked (stream w.written w.closed)) ∙ ap length waits0.held in
-    let near : length w1.receiver.got < w.acked + 0 + 2147483648 = omega (arith, ap (λ (r : Receiver). length r.got) still1.receiver, good.behind, waits0.within, waits0.flight, left, short_pending s0 o start0 len0) in
+    let near : length w1.receiver.got < w.acked + 0 + 2147483648 = omega (arith, ap (λ (r : Receiver). length r.got) (send_still w 0 n), good.behind, waits0.within, waits0.flight, left, short_pending s0 o start0 len0) in
     let segment : Segment = record { place = w.acked + 0; number = number; items = items } in
     let it : SegmentComes w1 0 number items = record {
       segment = segment;
@@ -142,16 +125,16 @@ round_goes initial events consumed o i0 i1 s0 s1 s2 r0 r1 number next room items
       brings = refl;
       alive = true_test _ _ near;
     } in
-    let used : Uses came 0 consumed r1 i1 = takes w1 it (stands_still w (Send 0 n) consumed r0 i0 still1.receiver still1.later stands0) in
-    let w2 : World = run (events_of 0 used.how) came in
+    let used : Uses came consumed r1 i1 = takes w1 it (stands_still w (Send 0 n) consumed r0 i0 (send_still w 0 n) stands0) in
+    let w2 : World = run (again used.segments) came in
     let w3 : World = happens w2 Answer in
     let ahead : (0 < room) ⊎ (w.acked < length w.receiver.got) = elim space [
       | inl wide ↦ inl wide
       | inr fin ↦ inr (let all = all_got w good (stands0.holds.ended ∙ fin) in omega arith)
     ] in
     let brings : Came w came = brought w n room good (stands0.holds.is_open ∙ is_open) less some few ahead in
-    let good2 : Good w2 = run_good (events_of 0 used.how) came brings.good in
-    let taken : Takes came w2 = use_takes came 0 used.how brings.is_open in
+    let good2 : Good w2 = run_good (again used.segments) came brings.good in
+    let taken : Takes came w2 = again_takes used.segments came brings.is_open in
     let waits2 : Waits w2 s1 o = taken.sender s1 o (segment_sender w1 room (slice_get w1.segments 0) s1 o waits1) in
     let said : IsAnswer w2 next = says w2 used.stands in
     let ack : Ack = record { place = length w2.receiver.got; number = next } in
@@ -162,10 +145,10 @@ round_goes initial events consumed o i0 i1 s0 s1 s2 r0 r1 number next room items
       same = refl;
       alive = true_test _ _ young;
     } in
-    let stands3 : Stands w3 consumed r1 i1 = stands_still w2 Answer consumed r1 i1 (answer_still w2).receiver (answer_still w2).later used.stands in
-    let stands4 : Stands (happens w3 (Ack_comes 0)) consumed r1 i1 = stands_still w3 (Ack_comes 0) consumed r1 i1 (ack_still w3 (slice_get w3.acks 0)).receiver (ack_still w3 (slice_get w3.acks 0)).later stands3 in
+    let stands3 : Stands w3 consumed r1 i1 = stands_still w2 Answer consumed r1 i1 (answer_still w2) used.stands in
+    let stands4 : Stands (happens w3 (Ack_comes 0)) consumed r1 i1 = stands_still w3 (Ack_comes 0) consumed r1 i1 (ack_still w3 (slice_get w3.acks 0)) stands3 in
     let all : (happens w3 (Ack_comes 0)).acked ≡ length w2.receiver.got = answered w2 good2 taken.is_open in
-    finish w consumed s2 o r1 i1 (Send 0 n ∷ Segment_comes 0 room ∷ (events_of 0 used.how ++ (Answer ∷ Ack_comes 0 ∷ []))) (happens w3 (Ack_comes 0)) (sym (use_first came 0 used.how (Answer ∷ Ack_comes 0 ∷ [])))
+    finish w consumed s2 o r1 i1 (Send 0 n ∷ Segment_comes 0 room ∷ (again used.segments ++ (Answer ∷ Ack_comes 0 ∷ []))) (happens w3 (Ack_comes 0)) (sym (again_first used.segments came (Answer ∷ Ack_comes 0 ∷ [])))
     (acks w3 answer (answer_sender w2 s1 o waits2)) stands4 (omega (arith, all, brings.more, taken.more))
 
 pub pending_some : (w : World) (c : Sending) (b : List ℕ) → Waits w c b → w.acked < length (stream w.written w.closed) → 0 < length (pending c b)

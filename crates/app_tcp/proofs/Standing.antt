@@ -1,12 +1,12 @@
 -- What the state of the receiver stands for in a history of the network.
-use Rattle.std.proofs.Common.{◌≡◌, ◌⊎◌, refl, ℕ, ◌+◌, ◌%◌, ◌≤◌, ◌<◌, List, [], ◌∷◌, ◌++◌, Bool, true, false, length, take, sym, ◌∙◌, ap, subst, arith, append_assoc}
-use Rattle.std.specs.Prelude.{Option}
+use Rattle.std.proofs.Common.{◌≡◌, ◌⊎◌, refl, ℕ, suc, nat_lt, ◌+◌, ◌%◌, ◌≤◌, ◌<◌, List, [], ◌∷◌, ◌++◌, Bool, true, false, length, take, sym, ◌∙◌, ap, subst, arith, append_assoc}
+use Rattle.std.specs.Prelude.{Option, Some, None, slice_get}
 use Rattle.std.proofs.lemmas.List.{append-nil}
-use Rattle.std.proofs.lemmas.Bool.{cond-true, false≢true}
+use Rattle.std.proofs.lemmas.Bool.{cond-true, cond_both, false≢true}
 use Rattle.tcp_model.specs.Endpoint.{Item, Syn, Receiver, distance, received}
-use Rattle.tcp_model.specs.Network.{World, Event, Segment, Segment_comes, happens, segment_comes, run, start, is_alive, IsPrefixOf}
+use Rattle.tcp_model.specs.Network.{World, Event, Segment, Ack, Write, Close, Send, Segment_comes, Resegment, Answer, Ack_comes, happens, segment_comes, resegments, sends, ack_comes, run, start, stream, is_alive, IsPrefixOf}
 use Rattle.tcp_model.proofs.Kept.{Good, good_start, run_good, good_delivers}
-use Rattle.app_tcp.specs.Stands.{Stands, Holds, IsReached, SegmentComes, Uses, Nothing, IsAnswer}
+use Rattle.app_tcp.specs.Stands.{Stands, Holds, Keeps, Came, IsReached, SegmentComes, Uses, IsAnswer}
 use Rattle.app_tcp.specs.Items.{items_of}
 use Rattle.app_tcp.specs.Ring.{ring}
 use Rattle.app_tcp.proofs.Received.{early, no_news, opened_stands}
@@ -27,20 +27,67 @@ reached_more w e reached = record {
 pub reached_good : (w : World) → IsReached w → Good w
 reached_good w reached = subst Good (sym reached.is) (run_good reached.events (start reached.initial) (good_start reached.initial))
 
--- an event that leaves the receiver and what it keeps
-pub stands_still : (w : World) (e : Event) (consumed : List ℕ) (c : Receiving) (b : List ℕ) → (happens w e).receiver ≡ w.receiver → (happens w e).later ≡ w.later → Stands w consumed c b → Stands (happens w e) consumed c b
-stands_still w e consumed c b receiver later stands = record {
+-- all segments that were sent before are there
+pub record Has (old new : List Segment) : Type 0 where
+  pub find : (n : ℕ) (s : Segment) → slice_get old n ≡ Some s → (m : ℕ) × (slice_get new m ≡ Some s)
+
+has_same : (l : List Segment) → Has l l
+has_same l = record { find = λ n s is. (n, is) }
+
+has_more : (x : Segment) (l : List Segment) → Has l (x ∷ l)
+has_more x l = record { find = λ n s is. (suc n, is) }
+
+has_comes : (w : World) (room : ℕ) (s : Option Segment) → Has w.segments (segment_comes w room s).segments
+has_comes w room None = has_same w.segments
+has_comes w room (Some s) = cond_both (is_alive (length w.receiver.got) s.place) _ _ (λ (v : World). Has w.segments v.segments) (λ yes. has_same w.segments) (λ no_more. has_same w.segments)
+
+has_resegments : (w : World) (place count : ℕ) → Has w.segments (resegments w place count).segments
+has_resegments w place count = cond_both (nat_lt w.sent (place + count)) _ _ (λ (v : World). Has w.segments v.segments) (λ unsent. has_same w.segments) (λ within. has_more _ w.segments)
+
+has_ack : (w : World) (a : Option Ack) → Has w.segments (ack_comes w a).segments
+has_ack w None = has_same w.segments
+has_ack w (Some a) = cond_both (is_alive w.acked a.place) _ _ (λ (v : World). Has w.segments v.segments) (λ yes. has_same w.segments) (λ no_more. has_same w.segments)
+
+has_sends : (w : World) (place : ℕ) (items : List Item) → Has w.segments (sends w place items).segments
+has_sends w place items = cond_both (nat_lt (w.acked + 2147483648) (place + length items)) _ _ (λ (v : World). Has w.segments v.segments) (λ far. has_same w.segments) (λ near. has_more _ w.segments)
+
+-- no event takes a segment back
+pub has_all : (w : World) (e : Event) → Has w.segments (happens w e).segments
+has_all w (Write bytes) = cond_both w.closed _ _ (λ (v : World). Has w.segments v.segments) (λ shut. has_same w.segments) (λ still. has_same w.segments)
+has_all w Close = has_same w.segments
+has_all w (Send offset count) = cond_both (nat_lt (length (stream w.written w.closed)) (w.acked + offset)) _ _ (λ (v : World). Has w.segments v.segments) (λ past. has_same w.segments) (λ within. has_sends w (w.acked + offset) _)
+has_all w (Segment_comes which room) = has_comes w room (slice_get w.segments which)
+has_all w (Resegment place count) = has_resegments w place count
+has_all w Answer = cond_both w.receiver.is_open _ _ (λ (v : World). Has w.segments v.segments) (λ yes. has_same w.segments) (λ no_more. has_same w.segments)
+has_all w (Ack_comes which) = has_ack w (slice_get w.acks which)
+
+-- what came before came
+pub came_later : (w v : World) (place : ℕ) (item : Item) → Has w.segments v.segments → Came w place item → Came v place item
+came_later w v place item more came =
+    let at = more.find came.which came.segment came.there in
+    record { which = at.0; segment = came.segment; there = at.1; after = came.after; near = came.near; brings = came.brings }
+
+pub came_as : (w : World) (p q : ℕ) (x y : Item) → p ≡ q → x ≡ y → Came w p x → Came w q y
+came_as w p q x y place item came = subst (λ (n : ℕ). Came w n y) place (subst (λ (i : Item). Came w p i) item came)
+
+-- what the state keeps, if the receiver is the same
+pub keeps_still : (w v : World) (c : Receiving) (b : List ℕ) → v.receiver ≡ w.receiver → Has w.segments v.segments → Keeps w c b → Keeps v c b
+keeps_still w v c b receiver more keeps =
+    let got : length w.receiver.got ≡ length v.receiver.got = ap (λ (r : Receiver). length r.got) (sym receiver) in
+    record {
+      gap = keeps.gap;
+      bytes = λ n is. came_as v _ _ _ _ (ap (λ (k : ℕ). k + n) got) refl (came_later w v _ _ more (keeps.bytes n is));
+      fin = λ some. came_as v _ _ _ _ (ap (λ (k : ℕ). k + c.fin_at) got) refl (came_later w v _ _ more (keeps.fin some));
+      opened = keeps.opened;
+      opened_fin = keeps.opened_fin;
+    }
+
+-- an event that leaves the receiver
+pub stands_still : (w : World) (e : Event) (consumed : List ℕ) (c : Receiving) (b : List ℕ) → (happens w e).receiver ≡ w.receiver → Stands w consumed c b → Stands (happens w e) consumed c b
+stands_still w e consumed c b receiver stands = record {
   reached = reached_more w e stands.reached;
   holds = subst (λ (r : Receiver). Holds r consumed c b) (sym receiver) stands.holds;
-  keeps = λ some.
-      let it = stands.keeps some in
-      record {
-        is_open = it.is_open;
-        gap = it.gap;
-        number = ap (λ (s : Segment). s.number) later ∙ it.number;
-        place = ap (λ (s : Segment). s.place) later ∙ it.place ∙ ap (λ (r : Receiver). length r.got + c.gap) (sym receiver);
-        items = ap (λ (s : Segment). s.items) later ∙ it.items;
-      };
+  keeps = keeps_still w (happens w e) c b receiver (has_all w e) stands.keeps;
 }
 
 -- the world after a segment that comes
@@ -64,8 +111,8 @@ comes_in_vain w which number room payload fin consumed c b it stands is_open fit
     ∙ ap (λ (r : Receiver). record w { receiver = r })
     (no_news w.receiver number payload fin room (omega arith) (stands.holds.is_open ∙ is_open) (subst (λ (n : ℕ). (2147483648 ≤ distance n number) ⊎ (length payload < distance n number)) same why))
 
-pub nothing_used : (w v : World) (which : ℕ) (consumed : List ℕ) (c : Receiving) (b : List ℕ) → v ≡ w → Stands w consumed c b → Uses v which consumed c b
-nothing_used w v which consumed c b same stands = record { how = Nothing; stands = subst (λ (u : World). Stands u consumed c b) (sym same) stands }
+pub nothing_used : (w v : World) (consumed : List ℕ) (c : Receiving) (b : List ℕ) → v ≡ w → Stands w consumed c b → Uses v consumed c b
+nothing_used w v consumed c b same stands = record { segments = []; stands = subst (λ (u : World). Stands u consumed c b) (sym same) stands }
 
 -- the SYN that opens
 pub opens : (w : World) (which number : ℕ) (rest : List Item) (consumed : List ℕ) (c d : Receiving) (b : List ℕ) → SegmentComes w which number (Syn ∷ rest) → Stands w consumed c b → c.is_open ≡ false → number < 4294967296
@@ -73,7 +120,13 @@ pub opens : (w : World) (which number : ℕ) (rest : List Item) (consumed : List
 opens w which number rest consumed c d b it stands shut small is = record {
   reached = reached_more w (Segment_comes which 1) stands.reached;
   holds = subst (λ (v : World). Holds v.receiver consumed d b) (sym (comes w which number 1 _ it)) (opened_stands w.receiver consumed c d b number rest small stands.holds shut is);
-  keeps = λ some. absurd (false≢true (sym shut ∙ (stands.keeps (subst (λ (k : ℕ). 0 < k) (ap (λ (e : Receiving). e.kept) is) some)).is_open));
+  keeps = subst (λ (e : Receiving). Keeps (happens w (Segment_comes which 1)) e b) (sym is) (record {
+    gap = stands.keeps.gap;
+    bytes = λ n some. absurd (false≢true (sym shut ∙ stands.keeps.opened n some));
+    fin = λ some. absurd (false≢true (sym shut ∙ stands.keeps.opened_fin some));
+    opened = λ n some. refl;
+    opened_fin = λ some. refl;
+  });
 }
 
 -- what a receiver holds begins what was written

@@ -1,38 +1,209 @@
 -- What the receiver takes in order, and what it kept after a gap that is closed.
-use Rattle.std.proofs.Common.{◌≡◌, ◌⊎◌, inl, inr, refl, ℕ, ◌+◌, ◌-◌, ◌%◌, ◌≤◌, ◌<◌, min, List, [], ◌∷◌, ◌++◌, Bool, true, false, length, map, take, drop, sym, ◌∙◌, ap, subst, arith, nat_lt}
-use Rattle.std.proofs.Math.Seq.{take-add}
-use Rattle.std.specs.List.{drop-map}
-use Rattle.std.proofs.lemmas.Bool.{cond-true, cases_lt}
+use Rattle.std.proofs.Common.{◌≡◌, ◌⊎◌, inl, inr, refl, ℕ, zero, suc, ◌+◌, ◌-◌, ◌%◌, ◌≤◌, ◌<◌, min, List, [], ◌∷◌, ◌++◌, Bool, true, false, length, get_or, take, drop, sym, ◌∙◌, ap, subst, arith, nat_lt}
+use Rattle.std.proofs.lemmas.Bool.{cond-true, cases_lt, false≢true}
 use Rattle.std.proofs.lemmas.Bool.Decides.{nat_tests}
-use Rattle.std.proofs.lemmas.List.{length-map, length-drop, length-take-le, take_all, take_rest, drop-drop}
-use Rattle.tcp_model.specs.Endpoint.{Item, Byte, distance, fresh, received}
-use Rattle.tcp_model.specs.Network.{World, Segment_comes, Join, happens, bytes_of, is_ended, is_alive}
-use Rattle.app_tcp.specs.Stands.{Stands, Holds, Keeps, IsReached, SegmentComes, Uses, Nothing, Joining, kept_of}
+use Rattle.std.proofs.lemmas.List.{length-append, length-drop, length-take-le, take_more, take_rest, append-nil}
+use Rattle.tcp_model.specs.Endpoint.{Item, Byte, Fin, Receiver, distance, fresh, accepted, received}
+use Rattle.tcp_model.specs.Network.{World, Segment, Segment_comes, happens, run, is_alive, number_at}
+use Rattle.tcp_model.proofs.Kept.{Good, each_get, fresh_from}
+use Rattle.tcp_model.proofs.Numbers.{distance_after}
+use Rattle.app_tcp.specs.Stands.{Stands, Holds, Came, IsReached, SegmentComes, Uses, Goes, Ends, Advances, FinStays, StaysKept, again}
 use Rattle.app_tcp.specs.Items.{items_of}
+use Rattle.app_tcp.specs.Ranges.{has, top}
 use Rattle.app_tcp.specs.Ring.{ring, placed}
 use Rattle.app_tcp.proofs.Places.{length-ring}
 use Rattle.app_tcp.proofs.Pending.{placed_front}
-use Rattle.app_tcp.proofs.Received.{step, bytes_stand, bytes_grow, end_stands, ended_same}
-use Rattle.app_tcp.proofs.Standing.{comes, reached_more}
-use Rattle.app_tcp.proofs.Keeping.{stands_at}
-use Rattle.app_tcp.proofs.Gaps.{drop_cut, placed_after}
+use Rattle.app_tcp.proofs.Spans.{below_top, top_taken}
+use Rattle.app_tcp.proofs.Received.{step, bytes_stand, bytes_grow, end_stands, ended_same, ended_more}
+use Rattle.app_tcp.proofs.Standing.{has_all, came_as, came_later, comes, reached_good, reached_more}
+use Rattle.app_tcp.proofs.Gaps.{placed_is}
 use Rattle.app_tcp.specs.declared.receiving.Receiving.{Receiving}
 
 true_test : (a b : ℕ) → a < b → nat_lt a b ≡ true
 true_test a b lt = grind (arith, nat_tests)
 
--- the bytes of items
-bytes_again : (q : List ℕ) → bytes_of (map Byte q) ≡ q
-bytes_again [] = refl
-bytes_again (b ∷ q) = ap (λ (l : List ℕ). b ∷ l) (bytes_again q)
+-- RCV.NXT is n further
+abbrev pub mid : Receiving → ℕ → Receiving
+mid c n = record c { next = (c.next + n) % 4294967296; len = c.len + n }
 
-no_end : (q : List ℕ) → is_ended (map Byte q) ≡ false
-no_end [] = refl
-no_end (b ∷ q) = no_end q
+-- The receiver took n more items in order, of which the ranges do not know yet.
+pub record Passes (w : World) (consumed : List ℕ) (c : Receiving) (n : ℕ) (b : List ℕ) : Type 0 where
+  pub reached : IsReached w
+  pub holds : Holds w.receiver consumed (mid c n) b
+  pub bytes : (k : ℕ) → n ≤ k → has c.ranges k ≡ true → Came w (length w.receiver.got + (k - n)) (Byte (get_or (ring c.start b) (c.len + k) 0))
+  pub fin : 0 < c.fin_at → n ≤ c.fin_at → Came w (length w.receiver.got + (c.fin_at - n)) Fin
+
+-- the next item comes again
+pub record Next (w : World) (item : Item) : Type 0 where
+  pub which : ℕ
+  pub number : ℕ
+  pub items : List Item
+  pub comes_now : happens w (Segment_comes which 1) ≡ record w { receiver = received w.receiver number items 1 }
+  pub new : fresh w.receiver.next number items 1 ≡ item ∷ []
+  pub got : length (received w.receiver number items 1).got ≡ length w.receiver.got + 1
+
+next_item : (w : World) (item : Item) → IsReached w → w.receiver.is_open ≡ true → Came w (length w.receiver.got) item → Next w item
+next_item w item reached is_open came =
+    let good : Good w = reached_good w reached in
+    let fine = each_get _ w.segments came.which came.segment good.segments came.there in
+    let now = length w.receiver.got in
+    let s : Segment = came.segment in
+    let alive : is_alive now s.place ≡ true = true_test _ _ came.near in
+    let it : SegmentComes w came.which s.number s.items = record { segment = s; there = came.there; same = refl; brings = refl; alive = alive } in
+    let d : distance w.receiver.next s.number ≡ now - s.place =
+    ap (λ (n : ℕ). distance n s.number) (good.knows.0 is_open) ∙ ap (λ (n : ℕ). distance (number_at w.initial now) n) fine.number ∙ distance_after w.initial now s.place came.after (omega (arith, came.near)) in
+    let new : fresh w.receiver.next s.number s.items 1 ≡ item ∷ [] = fresh_from _ _ s.items 1 (now - s.place) d (omega (arith, came.near)) ∙ came.brings in
+    record {
+      which = came.which;
+      number = s.number;
+      items = s.items;
+      comes_now = comes w came.which s.number 1 s.items it;
+      new = new;
+      got = ap (λ (r : Receiver). length r.got) (cond-true w.receiver.is_open (accepted w.receiver.next w.receiver.got (fresh w.receiver.next s.number s.items 1)) _ is_open)
+          ∙ length-append w.receiver.got (fresh w.receiver.next s.number s.items 1) ∙ ap (λ (l : List Item). now + length l) new;
+    }
+
+-- what came stays, when the receiver takes more
+came_after : (w : World) (which room p q : ℕ) (x : Item) → p ≡ q → Came w p x → Came (happens w (Segment_comes which room)) q x
+came_after w which room p q x is came = came_as (happens w (Segment_comes which room)) p q x x is refl (came_later w (happens w (Segment_comes which room)) p x (has_all w (Segment_comes which room)) came)
+
+record Steps (w : World) (consumed : List ℕ) (c : Receiving) (n : ℕ) (b : List ℕ) : Type 0 where
+  which : ℕ
+  passes : Passes (happens w (Segment_comes which 1)) consumed c n b
+
+take_one : (w : World) (consumed : List ℕ) (c : Receiving) (n : ℕ) (b : List ℕ) → Passes w consumed c n b → c.is_open ≡ true → has c.ranges n ≡ true → c.start < length b → c.len + n < length b → Steps w consumed c (n + 1) b
+take_one w consumed c n b passes is_open some start fits =
+    let x = get_or (ring c.start b) (c.len + n) 0 in
+    let zero_more : length w.receiver.got + (n - n) ≡ length w.receiver.got = omega arith in
+    let next : Next w (Byte x) = next_item w (Byte x) passes.reached (passes.holds.is_open ∙ is_open) (came_as w _ _ _ _ zero_more refl (passes.bytes n (omega arith) some)) in
+    let v : World = happens w (Segment_comes next.which 1) in
+    let got : length v.receiver.got ≡ length w.receiver.got + 1 = ap (λ (u : World). length u.receiver.got) next.comes_now ∙ next.got in
+    let whole : length (ring c.start b) ≡ length b = length-ring c.start b (omega arith) in
+    let held : take (c.len + (n + 1)) (ring c.start b) ≡ take (c.len + n) (ring c.start b) ++ (x ∷ []) =
+    ap (λ (k : ℕ). take k (ring c.start b)) (let e : c.len + (n + 1) ≡ c.len + n + 1 = omega arith in e) ∙ take_more (ring c.start b) (c.len + n) 0 (omega (arith, whole)) in
+    let holds : Holds (received w.receiver next.number next.items 1) consumed (mid c (n + 1)) b =
+    step w.receiver consumed (mid c n) b passes.holds is_open next.number next.items (Byte x ∷ []) 1 (mid c (n + 1)) b next.new
+    (let e : (c.next + (n + 1)) % 4294967296 ≡ ((c.next + n) % 4294967296 + 1) % 4294967296 = omega arith in e) held (ended_same w.receiver.got (Byte x ∷ []) refl ∙ passes.holds.ended) is_open in
+    record {
+      which = next.which;
+      passes = record {
+        reached = reached_more w (Segment_comes next.which 1) passes.reached;
+        holds = subst (λ (u : World). Holds u.receiver consumed (mid c (n + 1)) b) (sym next.comes_now) holds;
+        bytes = λ k le is. came_after w next.which 1 _ _ _ (let e : length w.receiver.got + (k - n) ≡ length v.receiver.got + (k - (n + 1)) = omega (arith, got) in e) (passes.bytes k (omega arith) is);
+        fin = λ more le. came_after w next.which 1 _ _ _ (let e : length w.receiver.got + (c.fin_at - n) ≡ length v.receiver.got + (c.fin_at - (n + 1)) = omega (arith, got) in e) (passes.fin more (omega arith));
+      };
+    }
+
+record Ran (w : World) (consumed : List ℕ) (c : Receiving) (n : ℕ) (b : List ℕ) : Type 0 where
+  segments : List ℕ
+  passes : Passes (run (again segments) w) consumed c n b
+
+take_all_kept : (m : ℕ) (w : World) (consumed : List ℕ) (c : Receiving) (n : ℕ) (b : List ℕ) → Passes w consumed c n b → c.is_open ≡ true → ((k : ℕ) → n ≤ k → k < n + m → has c.ranges k ≡ true) → c.start < length b → c.len + top c.ranges ≤ length b → Ran w consumed c (n + m) b
+take_all_kept zero w consumed c n b passes is_open kept start fits = record { segments = []; passes = subst (λ (k : ℕ). Passes w consumed c k b) (let e : n ≡ n + 0 = omega arith in e) passes }
+take_all_kept (suc m) w consumed c n b passes is_open kept start fits =
+    let here : has c.ranges n ≡ true = kept n (omega arith) (omega arith) in
+    let below = below_top c.ranges n here in
+    let one = take_one w consumed c n b passes is_open here start (omega arith) in
+    let rest = take_all_kept m (happens w (Segment_comes one.which 1)) consumed c (n + 1) b one.passes is_open (λ k le lt. kept k (omega arith) (omega arith)) start fits in
+    record { segments = one.which ∷ rest.segments; passes = subst (λ (k : ℕ). Passes (run (again rest.segments) (happens w (Segment_comes one.which 1))) consumed c k b) (let e : n + 1 + m ≡ n + suc m = omega arith in e) rest.passes }
+
+again_more : (xs : List ℕ) (which : ℕ) (w : World) → run (again (xs ++ (which ∷ []))) w ≡ happens (run (again xs) w) (Segment_comes which 1)
+again_more [] which w = refl
+again_more (x ∷ xs) which w = again_more xs which (happens w (Segment_comes x 1))
+
+-- the fields that a receiver's state is compared by
+holds_as : (r : Receiver) (consumed : List ℕ) (c d : Receiving) (b : List ℕ) → d.is_open ≡ c.is_open → d.next ≡ c.next → d.start ≡ c.start → d.len ≡ c.len → d.has_fin ≡ c.has_fin → Holds r consumed c b → Holds r consumed d b
+holds_as r consumed c d b is_open next start len has_fin holds = record {
+  is_open = holds.is_open ∙ sym is_open;
+  next = λ now. next ∙ holds.next (sym is_open ∙ now);
+  held = holds.held ∙ ap (λ (n : ℕ). consumed ++ take n (ring c.start b)) (sym len) ∙ ap (λ (n : ℕ). consumed ++ take d.len (ring n b)) (sym start);
+  ended = holds.ended ∙ sym has_fin;
+}
+
+goes_on : (w : World) (consumed : List ℕ) (c d : Receiving) (to : ℕ) (b : List ℕ) → Passes w consumed c to b → c.is_open ≡ true → has c.ranges to ≡ false → d.len ≡ c.len + to → d.start ≡ c.start → d.is_open ≡ c.is_open → Goes c to d → Stands w consumed d b
+goes_on w consumed c d to b passes is_open left len start opened goes = record {
+  reached = passes.reached;
+  holds = holds_as w.receiver consumed (mid c to) d b opened goes.next start len goes.has_fin passes.holds;
+  keeps = record {
+    gap = goes.known 0 ∙ ap (λ (n : ℕ). has c.ranges n) (let e : 0 + to ≡ to = omega arith in e) ∙ left;
+    bytes = λ n is.
+        came_as w _ _ _ _ (let e : length w.receiver.got + (n + to - to) ≡ length w.receiver.got + n = omega arith in e)
+        (ap (λ (k : ℕ). Byte (get_or (ring c.start b) k 0)) (let e : c.len + (n + to) ≡ d.len + n = omega arith in e) ∙ ap (λ (k : ℕ). Byte (get_or (ring k b) (d.len + n) 0)) (sym start))
+        (passes.bytes (n + to) (omega arith) (sym (goes.known n) ∙ is));
+    fin = λ some. let at = goes.fin some in came_as w _ _ _ _ (let e : length w.receiver.got + (c.fin_at - to) ≡ length w.receiver.got + d.fin_at = omega arith in e) refl (passes.fin (omega arith) (omega arith));
+    opened = λ n is. opened ∙ is_open;
+    opened_fin = λ some. opened ∙ is_open;
+  };
+}
+
+ends_here : (w : World) (consumed : List ℕ) (c d : Receiving) (to : ℕ) (b : List ℕ) → Passes w consumed c to b → c.is_open ≡ true → d.len ≡ c.len + to → d.start ≡ c.start → d.is_open ≡ c.is_open → Ends c to d → (which : ℕ) × Stands (happens w (Segment_comes which 1)) consumed d b
+ends_here w consumed c d to b passes is_open len start opened ends =
+    let zero_more : length w.receiver.got + (c.fin_at - to) ≡ length w.receiver.got = omega (arith, ends.here) in
+    let next : Next w Fin = next_item w Fin passes.reached (passes.holds.is_open ∙ is_open) (came_as w _ _ _ _ zero_more refl (passes.fin (omega (arith, ends.here, ends.some)) (omega (arith, ends.here)))) in
+    let e : Receiving = record (mid c to) { next = ((c.next + to) % 4294967296 + 1) % 4294967296; has_fin = true } in
+    let holds : Holds (received w.receiver next.number next.items 1) consumed e b =
+    step w.receiver consumed (mid c to) b passes.holds is_open next.number next.items (Fin ∷ []) 1 e b next.new refl
+    (sym (append-nil (take (c.len + to) (ring c.start b)))) (ended_more w.receiver.got (Fin ∷ []) refl) is_open in (
+      next.which,
+      record {
+        reached = reached_more w (Segment_comes next.which 1) passes.reached;
+        holds = subst (λ (u : World). Holds u.receiver consumed d b) (sym next.comes_now) (holds_as _ consumed e d b opened (ends.next ∙ (let f : (c.next + to + 1) % 4294967296 ≡ ((c.next + to) % 4294967296 + 1) % 4294967296 = omega arith in f)) start len ends.has_fin holds);
+        keeps = record {
+          gap = ends.none 0;
+          bytes = λ n is. absurd (false≢true (sym (ends.none n) ∙ is));
+          fin = λ some. absurd (omega (arith, ends.no_fin));
+          opened = λ n is. absurd (false≢true (sym (ends.none n) ∙ is));
+          opened_fin = λ some. absurd (omega (arith, ends.no_fin));
+        };
+      },
+    )
+
+pub advanced : (w : World) (consumed : List ℕ) (c d : Receiving) (n : ℕ) (b : List ℕ) → Passes w consumed c n b → c.is_open ≡ true → c.start < length b → c.len + top c.ranges ≤ length b → Advances c n d → Uses w consumed d b
+advanced w consumed c d n b passes is_open start fits advances =
+    let m = advances.to - n in
+    let le = advances.least in
+    let at : n + m ≡ advances.to = omega arith in
+    let ran = take_all_kept m w consumed c n b passes is_open (λ k from lt. advances.taken k from (omega arith)) start fits in
+    let there : Passes (run (again ran.segments) w) consumed c advances.to b = subst (λ (k : ℕ). Passes (run (again ran.segments) w) consumed c k b) at ran.passes in
+    elim advances.goes [
+      | inl goes ↦ record { segments = ran.segments; stands = goes_on _ consumed c d advances.to b there is_open advances.left advances.len advances.start advances.opened goes }
+      | inr ends ↦
+          let last = ends_here _ consumed c d advances.to b there is_open advances.len advances.start advances.opened ends in
+          record { segments = ran.segments ++ (last.0 ∷ []); stands = subst (λ (u : World). Stands u consumed d b) (sym (again_more ran.segments last.0 w)) last.1 }
+    ]
+
+-- what was kept is taken or stays
+pub stays : (c d : Receiving) (n : ℕ) → c.next < 4294967296 → n < 4294967296 → c.len + top c.ranges < 4294967296 → Advances c n d → StaysKept c d
+stays c d n fits few small advances = λ still k some.
+    let to = advances.to in
+    let most = top_taken c.ranges n to advances.taken in
+    elim advances.goes [
+      | inl goes ↦
+          let moved : distance d.next c.next ≡ to = omega (arith, goes.next) in
+          subst (λ (m : ℕ). (k < m) ⊎ ((m ≤ k) × (has d.ranges (k - m) ≡ true))) (sym moved) (elim (cases_lt k to) [
+            | inl lt ↦ inl lt
+            | inr ge ↦ inr (ge, goes.known (k - to) ∙ ap (λ (j : ℕ). has c.ranges j) (let e : k - to + to ≡ k = omega arith in e) ∙ some)
+          ])
+      | inr ends ↦ absurd (false≢true (sym still ∙ ends.has_fin))
+    ]
+
+pub fin_stays : (c d : Receiving) (n : ℕ) → c.next < 4294967296 → n < 4294967296 → c.len + top c.ranges < 4294967296 → Advances c n d → FinStays c d
+fin_stays c d n fits few small advances = λ still kept within.
+    let to = advances.to in
+    let most = top_taken c.ranges n to advances.taken in
+    elim advances.goes [
+      | inl goes ↦
+          let moved : distance d.next c.next ≡ to = omega (arith, goes.next) in
+          elim (cases_lt to c.fin_at) [
+            | inl lt ↦ (let e = goes.later lt in (omega arith, omega arith))
+            | inr ge ↦ absurd (goes.before (omega arith) (omega arith))
+          ]
+      | inr ends ↦ absurd (false≢true (sym still ∙ ends.has_fin))
+    ]
 
 -- bytes that come next are taken
 module _ (w : World) (which number room : ℕ) (payload : List ℕ) (fin : Bool) (consumed : List ℕ) (c : Receiving) (old new : List ℕ) (it : SegmentComes w which number (items_of false payload fin)) (stands : Stands w consumed c old)
-    (is_open : c.is_open ≡ true) (skip n : ℕ) (is : distance c.next number ≡ skip) (near : skip < 2147483648) (le : skip ≤ length payload) (start : c.start < length old) (fits : c.len + c.gap + c.kept ≤ length old) (small : length old < 1073741824)
+    (is_open : c.is_open ≡ true) (skip n : ℕ) (is : distance c.next number ≡ skip) (near : skip < 2147483648) (le : skip ≤ length payload) (start : c.start < length old) (fits : c.len + top c.ranges ≤ length old) (small : length old < 1073741824)
     (size : n ≡ min (length payload - skip) room) (space : c.len + n ≤ length old) (put : ring c.start new ≡ placed c.len (take n (take (length payload - skip) (drop skip payload))) (ring c.start old)) where
   abbrev ys : List ℕ
   ys = take n (drop skip payload)
@@ -62,98 +233,46 @@ module _ (w : World) (which number room : ℕ) (payload : List ℕ) (fin : Bool)
   reached = subst IsReached come (reached_more w (Segment_comes which room) stands.reached)
 
   -- the FIN too
-  pub ended : fin ≡ true → n ≡ length payload - skip → n < room
-      → Uses (happens w (Segment_comes which room)) which consumed (record c { next = ((c.next + n) % 4294967296 + 1) % 4294967296; len = c.len + n; gap = 0; kept = 0; has_fin = true }) new
-  ended with_fin all_of more =
-      let d : Receiving = record c { next = ((c.next + n) % 4294967296 + 1) % 4294967296; len = c.len + n; gap = 0; kept = 0; has_fin = true } in
+  pub ended : fin ≡ true → n ≡ length payload - skip → n < room → (d : Receiving) → d.next ≡ ((c.next + n) % 4294967296 + 1) % 4294967296 → d.len ≡ c.len + n → d.start ≡ c.start → d.has_fin ≡ true → d.is_open ≡ c.is_open → d.fin_at ≡ 0 → ((k : ℕ) → has d.ranges k ≡ false)
+      → Uses (happens w (Segment_comes which room)) consumed d new
+  ended with_fin all_of more d next len same_start flag opened no_fin none =
       let step_is : ((c.next + n) % 4294967296 + 1) % 4294967296 ≡ (c.next + n + 1) % 4294967296 = omega arith in
       let holds : Holds v.receiver consumed d new = subst (λ (f : Bool). Holds (received w.receiver number (items_of false payload f) room) consumed d new) (sym with_fin)
-      (end_stands w.receiver consumed c old stands.holds is_open number payload skip room n d new is near le all_of more step_is held refl is_open) in
-      record { how = Nothing; stands = subst (λ (u : World). Stands u consumed d new) (sym come) (record { reached = reached; holds = holds; keeps = λ some. absurd (omega arith) }) }
+      (end_stands w.receiver consumed c old stands.holds is_open number payload skip room n d new is near le all_of more (next ∙ step_is) (ap (λ (k : ℕ). take d.len (ring k new)) same_start ∙ ap (λ (k : ℕ). take k (ring c.start new)) len ∙ held) flag (opened ∙ is_open)) in
+      record {
+        segments = [];
+        stands = subst (λ (u : World). Stands u consumed d new) (sym come) (record {
+          reached = reached;
+          holds = holds;
+          keeps = record {
+            gap = none 0;
+            bytes = λ k some. absurd (false≢true (sym (none k) ∙ some));
+            fin = λ some. absurd (omega arith);
+            opened = λ k some. absurd (false≢true (sym (none k) ∙ some));
+            opened_fin = λ some. absurd (omega arith);
+          };
+        });
+      }
 
   module _ (why : (fin ≡ false) ⊎ (room ≤ length payload - skip)) where
     grown : length v.receiver.got ≡ length w.receiver.got + n
     grown = bytes_grow w.receiver consumed c old stands.holds is_open number payload fin skip room n is near le size why
 
-    in_order : (d : Receiving) → d.next ≡ (c.next + n) % 4294967296 → take d.len (ring d.start new) ≡ take c.len all ++ ys → d.has_fin ≡ c.has_fin → d.is_open ≡ true → Holds v.receiver consumed d new
-    in_order d next same flag still = bytes_stand w.receiver consumed c old stands.holds is_open number payload fin skip room n d new is near le size why next same flag still
+    passes : Passes v consumed c n new
+    passes = record {
+      reached = reached;
+      holds = bytes_stand w.receiver consumed c old stands.holds is_open number payload fin skip room n (mid c n) new is near le size why refl held refl is_open;
+      bytes = λ k after some.
+          let below = below_top c.ranges k some in
+          let same : get_or all (c.len + k) 0 ≡ get_or (ring c.start new) (c.len + k) 0 =
+          sym (ap (λ (l : List ℕ). get_or l (c.len + k) 0) placed_ys ∙ (placed_is c.len ys all (omega (arith, whole, long))).above (c.len + k) (omega (arith, long)) (omega (arith, whole))) in
+          came_as v _ _ _ _ (let e : length w.receiver.got + k ≡ length v.receiver.got + (k - n) = omega (arith, grown) in e) (ap (λ (x : ℕ). Byte x) same) (came_in (stands.keeps.bytes k some));
+      fin = λ more after. came_as v _ _ _ _ (let e : length w.receiver.got + c.fin_at ≡ length v.receiver.got + (c.fin_at - n) = omega (arith, grown) in e) refl (came_in (stands.keeps.fin more));
+    }
+      where
+        came_in : {place : ℕ} {item : Item} → Came w place item → Came v place item
+        came_in came = record { which = came.which; segment = came.segment; there = came.there; after = came.after; near = came.near; brings = came.brings }
 
-    -- a gap is left
-    pub gap_left : n < c.gap → Uses (happens w (Segment_comes which room)) which consumed (record c { next = (c.next + n) % 4294967296; len = c.len + n; gap = c.gap - n }) new
-    gap_left lt =
-        let d : Receiving = record c { next = (c.next + n) % 4294967296; len = c.len + n; gap = c.gap - n } in
-        let at : c.len + n + (c.gap - n) ≡ c.len + c.gap = omega arith in
-        record {
-          how = Nothing;
-          stands = subst (λ (u : World). Stands u consumed d new) (sym come) (record {
-            reached = reached;
-            holds = in_order d refl held refl is_open;
-            keeps = λ some.
-                let kept = stands.keeps some in
-                record {
-                  is_open = is_open;
-                  gap = omega arith;
-                  number = kept.number ∙ (let e : (c.next + c.gap) % 4294967296 ≡ ((c.next + n) % 4294967296 + (c.gap - n)) % 4294967296 = omega arith in e);
-                  place = omega (arith, kept.place, grown);
-                  items = kept.items ∙ ap (λ (l : List ℕ). map Byte (take c.kept l)) (sym (ap (λ (k : ℕ). drop k (ring c.start new)) at ∙ ap (λ (l : List ℕ). drop (c.len + c.gap) l) placed_ys ∙ placed_after c.len (c.len + c.gap) ys all (omega (arith, long)) (omega (arith, whole))));
-                };
-          });
-        }
-
-    -- the gap is closed
-    module _ (closed : c.gap ≤ n) where
-      abbrev more : ℕ
-      more = c.kept - (n - c.gap)
-
-      abbrev d : Receiving
-      d = record c { next = ((c.next + n) % 4294967296 + more) % 4294967296; len = c.len + n + more; gap = 0; kept = 0 }
-
-      nothing_more : c.kept ≡ 0 → Holds v.receiver consumed d new
-      nothing_more none =
-          let e : more ≡ 0 = omega arith in
-          in_order d (let f : ((c.next + n) % 4294967296 + more) % 4294967296 ≡ (c.next + n) % 4294967296 = omega arith in f) (ap (λ (k : ℕ). take k (ring c.start new)) (let f : c.len + n + more ≡ c.len + n = omega arith in f) ∙ held) refl is_open
-
-      module _ (kept : Keeps w c old) where
-        abbrev xs : List ℕ
-        xs = drop (n - c.gap) (kept_of c old)
-
-        abbrev mid : Receiving
-        mid = record c { next = (c.next + n) % 4294967296; len = c.len + n }
-
-        mid_holds : Holds v.receiver consumed mid new
-        mid_holds = in_order mid refl held refl is_open
-
-        kept_long : length (kept_of c old) ≡ c.kept
-        kept_long = length-take-le c.kept (drop (c.len + c.gap) all) (omega (arith, whole, length-drop (c.len + c.gap) all))
-
-        xs_long : length (map Byte xs) ≡ more
-        xs_long = length-map xs Byte ∙ length-drop (n - c.gap) (kept_of c old) ∙ ap (λ (k : ℕ). k - (n - c.gap)) kept_long
-
-        new_items : fresh v.receiver.next w.later.number w.later.items c.kept ≡ map Byte xs
-        new_items =
-            let next : mid.next ≡ v.receiver.next = mid_holds.next is_open in
-            let far : distance v.receiver.next w.later.number ≡ n - c.gap = ap (λ (k : ℕ). distance k w.later.number) (sym next) ∙ ap (λ (k : ℕ). distance ((c.next + n) % 4294967296) k) kept.number ∙ (let e : distance ((c.next + n) % 4294967296) ((c.next + c.gap) % 4294967296) ≡ n - c.gap = omega arith in e) in
-            let close : nat_lt (distance v.receiver.next w.later.number) 2147483648 ≡ true = true_test _ _ (omega (arith, far)) in
-            cond-true _ _ _ close ∙ ap (λ (k : ℕ). take c.kept (drop k w.later.items)) far ∙ ap (λ (l : List Item). take c.kept (drop (n - c.gap) l)) kept.items ∙ ap (λ (l : List Item). take c.kept l) (drop-map Byte (n - c.gap) (kept_of c old))
-            ∙ take_all c.kept (map Byte xs) (omega (arith, xs_long))
-
-        joins : happens v (Join c.kept) ≡ record v { receiver = received v.receiver w.later.number w.later.items c.kept }
-        joins = cond-true (is_alive (length v.receiver.got) w.later.place) _ _ (true_test _ _ (omega (arith, grown, kept.place)))
-
-        there : take more (drop (c.len + n) (ring c.start new)) ≡ xs
-        there =
-            let at : c.len + c.gap + (n - c.gap) ≡ c.len + n = omega arith in
-            ap (λ (l : List ℕ). take more (drop (c.len + n) l)) placed_ys ∙ ap (λ (l : List ℕ). take more l) (placed_after c.len (c.len + n) ys all (omega (arith, long)) (omega (arith, whole)))
-            ∙ sym (drop_cut (n - c.gap) c.kept (drop (c.len + c.gap) all) ∙ ap (λ (l : List ℕ). take more l) (drop-drop (n - c.gap) (c.len + c.gap) all ∙ ap (λ (k : ℕ). drop k all) at))
-
-        all_holds : Holds (received v.receiver w.later.number w.later.items c.kept) consumed d new
-        all_holds = step v.receiver consumed mid new mid_holds is_open w.later.number w.later.items (map Byte xs) c.kept d new new_items
-            (ap (λ (k : ℕ). ((c.next + n) % 4294967296 + k) % 4294967296) (sym xs_long))
-            (take-add (c.len + n) more (ring c.start new) ∙ ap (λ (l : List ℕ). take (c.len + n) (ring c.start new) ++ l) (there ∙ sym (bytes_again xs)))
-            (ended_same v.receiver.got (map Byte xs) (no_end xs) ∙ mid_holds.ended) is_open
-
-      pub joined : Uses (happens w (Segment_comes which room)) which consumed d new
-      joined = subst (λ (u : World). Uses u which consumed d new) (sym come) (elim (cases_lt 0 c.kept) [
-        | inl some ↦ record { how = Joining c.kept; stands = stands_at v _ (Join c.kept) consumed d new (joins (stands.keeps some)) reached (all_holds (stands.keeps some)) (λ more. absurd (omega arith)) }
-        | inr none ↦ record { how = Nothing; stands = record { reached = reached; holds = nothing_more (omega arith); keeps = λ more. absurd (omega arith) } }
-      ])
+    -- the ring has its old size
+    pub taken : length new ≡ length old → (d : Receiving) → Advances c n d → Uses (happens w (Segment_comes which room)) consumed d new
+    taken same d advances = subst (λ (u : World). Uses u consumed d new) (sym come) (advanced v consumed c d n new passes is_open (omega arith) (omega arith) advances)

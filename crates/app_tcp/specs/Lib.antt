@@ -1,4 +1,6 @@
 pub mod Ring
+pub mod Order
+pub mod Ranges
 pub mod Items
 pub mod Waits
 pub mod Stands

@@ -3,9 +3,11 @@
 #![tactic(auto)]
 
 pub mod laws;
+mod ranges;
 mod receiving;
 mod ring;
 mod sending;
 
+pub use ranges::Blocks;
 pub use receiving::Receiving;
 pub use sending::{Segment, Sending};

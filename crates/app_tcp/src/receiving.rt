@@ -1,12 +1,14 @@
-//! The receiving half: what came in order and the application did not read yet, and a piece that came after a gap (RFC 9293,
+//! The receiving half: what came in order and the application did not read yet, and what came after gaps (RFC 9293,
 //! sections 3.3.1 and 3.10.7.4).
 
-ghost use Rattle.std.specs.Prelude.{◌≡◌, ◌+◌, ◌-◌, ◌%◌, [], ◌≤◌, ◌<◌, ◌++◌, ◌∷◌, ◌==◌, ◌&&◌, if◌then◌else◌, nat_lt, IfSome, Some, None, ℕ, List, length, take, true, false};
-ghost use Rattle.tcp_model.specs.Endpoint.{Item, Syn, distance};
+ghost use Rattle.std.specs.Prelude.{◌≡◌, ◌+◌, ◌-◌, ◌%◌, [], ◌≤◌, ◌<◌, ◌++◌, ◌∷◌, ◌==◌, ◌&&◌, if◌then◌else◌, not, IfSome, Some, None, ℕ, List, length, map, max, take, true, false};
+ghost use Rattle.tcp_model.specs.Endpoint.{Item, Byte, Syn, distance};
 ghost use Rattle.tcp_model.specs.Network.{World, Event, Segment_comes, happens, run, start, IsPrefixOf};
 ghost use Rattle.app_tcp.specs.Items.{items_of};
-ghost use Rattle.app_tcp.specs.Stands.{Stands, SegmentComes, ComesAhead, Uses, StaysKept, IsAnswer, room_of, reach};
+ghost use Rattle.app_tcp.specs.Ranges.{has, top, is_none, ranges_of, blocks_of};
+ghost use Rattle.app_tcp.specs.Stands.{Advances, AreTold, FinStays, Stands, SegmentComes, ComesAhead, Uses, StaysKept, IsAnswer, room_of, reach};
 
+use crate::ranges::{Blocks, Ranges};
 use crate::ring::{RING_LIMIT, put, wrapped};
 
 // Half of the sequence numbers: a number that is less after another one is newer.
@@ -18,12 +20,14 @@ const HALF: usize = 1 << 31;
 pub struct Receiving {
     // RCV.NXT
     next: u32,
+    // Where the newest of what is kept after gaps began, in offsets from RCV.NXT.
+    newest: u32,
     // Where the bytes begin in the ring, and how many they are.
     start: usize,
     len: usize,
-    // How many bytes are missing after them, and how many are kept after the gap.
-    gap: usize,
-    kept: usize,
+    // What is kept after gaps, and where a FIN is (0: it did not come); in offsets from RCV.NXT.
+    ranges: Ranges,
+    fin_at: u32,
     // Whether the SYN and the FIN came.
     is_open: bool,
     has_fin: bool,
@@ -34,14 +38,16 @@ impl Receiving {
     pub fn new() -> Receiving
         ensures begin { result.start ≡ 0 }
         ensures len { reach result ≡ 0 }
+        ensures none { (n : ℕ) → has result.ranges n ≡ false }
         ensures stands { (initial : ℕ) (buffer : List ℕ) → Stands (start initial) [] result buffer }
     {
         Receiving {
             next: 0,
             start: 0,
             len: 0,
-            gap: 0,
-            kept: 0,
+            ranges: Ranges::new(),
+            newest: 0,
+            fin_at: 0,
             is_open: false,
             has_fin: false,
         }
@@ -64,11 +70,11 @@ impl Receiving {
         }
     }
 
-    /// Takes what is new of a segment and in order, as far as there is room. `number` is that of its first byte (SEG.SEQ, or
-    /// the next number if it has a SYN). A FIN is taken after all bytes before it.
+    /// Takes what is new of a segment and in order, as far as there is room. `number` is that of its first byte
+    /// (SEG.SEQ, or the next number if it has a SYN). A FIN is taken after all bytes before it.
     ///
-    /// After a gap it keeps the bytes if nothing is kept yet, or if they adjoin what is kept or overlap it. It takes them when
-    /// the gap is closed. Other segments after a gap are dropped, and a FIN there.
+    /// After a gap it keeps the bytes and a FIN, and takes them when the gap is closed. It drops bytes there if they
+    /// would be a ninth range apart from the others.
     pub fn on_segment(&mut self, ring: &mut [u8], number: u32, payload: &[u8], fin: bool)
         requires begin { self.old.start < length ring.old }
         requires len { reach self.old ≤ length ring.old }
@@ -78,14 +84,19 @@ impl Receiving {
         ensures opened { self.new.is_open ≡ self.old.is_open }
         ensures edge { self.new.has_fin ≡ false → (self.new.next + (length ring.old - self.new.len)) % 4294967296
             ≡ (self.old.next + (length ring.old - self.old.len)) % 4294967296 }
-        ensures keeps { self.old.is_open ≡ true → self.old.kept ≡ 0 → 0 < length payload.now
+        ensures keeps { self.old.is_open ≡ true → ranges_of self.old.ranges < 8 → 0 < distance number self.old.next
+            → distance number self.old.next + length payload.now ≤ room_of self.old (length ring.old) → (n : ℕ)
+            → n < length payload.now → has self.new.ranges (distance number self.old.next + n) ≡ true }
+        ensures gap { has self.old.ranges 0 ≡ false → has self.new.ranges 0 ≡ false }
+        ensures keeps_fin { self.old.is_open ≡ true → ranges_of self.old.ranges < 8 → fin ≡ true
             → 0 < distance number self.old.next
-            → distance number self.old.next + length payload.now ≤ room_of self.old (length ring.old)
-            → (self.new.gap ≡ distance number self.old.next) × (self.new.kept ≡ length payload.now) }
+            → distance number self.old.next + length payload.now < room_of self.old (length ring.old)
+            → self.new.fin_at ≡ distance number self.old.next + length payload.now }
         ensures stays { StaysKept self.old self.new }
+        ensures stays_fin { fin ≡ false → FinStays self.old self.new }
         ensures stands { (w : World) (consumed : List ℕ) (which : ℕ)
             → SegmentComes w which number (items_of false payload.now fin) → Stands w consumed self.old ring.old → Uses
-            (happens w (Segment_comes which (room_of self.old (length ring.old)))) which consumed self.new ring.new }
+            (happens w (Segment_comes which (room_of self.old (length ring.old)))) consumed self.new ring.new }
     {
         if !self.is_open {
             return;
@@ -93,7 +104,7 @@ impl Receiving {
         let skip = self.next.wrapping_sub(number) as usize;
         if skip >= HALF {
             let ahead = number.wrapping_sub(self.next) as usize;
-            self.keep(ring, ahead, payload);
+            self.keep(ring, ahead, payload, fin);
             return;
         }
         if skip > payload.len() {
@@ -103,70 +114,139 @@ impl Receiving {
         let room = self.room(ring.len());
         let n = fresh.len().min(room);
         put(ring, self.start, self.len, &fresh[..n]);
-        self.len += n;
-        self.next = self.next.wrapping_add(n as u32);
         if fin && n < room {
-            self.next = self.next.wrapping_add(1);
-            self.has_fin = true;
-            self.gap = 0;
-            self.kept = 0;
-        } else if n < self.gap {
-            self.gap -= n;
+            self.len += n;
+            self.next = self.next.wrapping_add(n as u32);
+            self.end();
         } else {
-            self.join(n - self.gap);
+            self.advance(n as u32);
         }
     }
 
-    // Keeps bytes that begin so many after RCV.NXT, if they adjoin what is kept or overlap it, as far as there is room.
-    fn keep(&mut self, ring: &mut [u8], ahead: usize, bytes: &[u8])
+    // The FIN is next.
+    fn end(&mut self)
+        ensures same { self.new ≡ record self.old {
+          next = (self.old.next + 1) % 4294967296;
+          ranges = self.new.ranges;
+          newest = 0;
+          fin_at = 0;
+          has_fin = true;
+        } }
+        ensures none { (n : ℕ) → has self.new.ranges n ≡ false }
+        ensures top { top self.new.ranges ≡ 0 }
+    {
+        self.next = self.next.wrapping_add(1);
+        self.has_fin = true;
+        self.ranges = Ranges::new();
+        self.newest = 0;
+        self.fin_at = 0;
+    }
+
+    // RCV.NXT advances over n bytes that came in order, the bytes that are kept after them, and a FIN there.
+    fn advance(&mut self, n: u32)
+        requires reach { reach self.old < 1073741824 }
+        requires room { self.old.len + n < 1073741824 }
+        ensures advances { Advances self.old n self.new }
+        ensures reach { reach self.new ≤ max (self.old.len + n) (reach self.old) }
+    {
+        if self.ranges.is_empty() && self.fin_at == 0 {
+            self.len += n as usize;
+            self.next = self.next.wrapping_add(n);
+            return;
+        }
+        self.close_gap(n);
+    }
+
+    // The same, if something is kept.
+    #[inline(never)]
+    fn close_gap(&mut self, n: u32)
+        requires reach { reach self.old < 1073741824 }
+        requires room { self.old.len + n < 1073741824 }
+        ensures advances { Advances self.old n self.new }
+        ensures reach { reach self.new ≤ max (self.old.len + n) (reach self.old) }
+    {
+        let to = self.ranges.gap(n);
+        self.len += to as usize;
+        self.next = self.next.wrapping_add(to);
+        if to > 0 && self.fin_at == to {
+            self.end();
+            return;
+        }
+        self.ranges.advance(to);
+        self.newest = self.newest.saturating_sub(to);
+        self.fin_at = self.fin_at.saturating_sub(to);
+    }
+
+    // Keeps bytes that begin so many after RCV.NXT, as far as there is room, and a FIN after them.
+    #[inline(never)]
+    fn keep(&mut self, ring: &mut [u8], ahead: usize, bytes: &[u8], fin: bool)
         requires begin { self.old.start < length ring.old }
         requires len { reach self.old ≤ length ring.old }
         requires small { length ring.old < 1073741824 }
         requires ahead { 0 < ahead }
         requires is_open { self.old.is_open ≡ true }
-        ensures same { self.new ≡ record self.old { gap = self.new.gap; kept = self.new.kept } }
+        ensures same { self.new ≡ record self.old {
+          ranges = self.new.ranges;
+          newest = self.new.newest;
+          fin_at = self.new.fin_at;
+        } }
         ensures len { reach self.new ≤ length ring.old }
-        ensures first { self.old.kept ≡ 0 → 0 < length bytes.now
-            → ahead + length bytes.now ≤ room_of self.old (length ring.old)
-            → (self.new.gap ≡ ahead) × (self.new.kept ≡ length bytes.now) }
-        ensures wider { 0 < self.old.kept
-            → (self.new.gap ≤ self.old.gap) × (self.old.gap + self.old.kept ≤ self.new.gap + self.new.kept) }
-        ensures stands { (w : World) (consumed : List ℕ) (which : ℕ) → ComesAhead w self.old.next which ahead bytes.now
-            → Stands w consumed self.old ring.old → Uses w which consumed self.new ring.new }
+        ensures gap { has self.old.ranges 0 ≡ false → has self.new.ranges 0 ≡ false }
+        ensures wider { (n : ℕ) → has self.old.ranges n ≡ true → has self.new.ranges n ≡ true }
+        ensures all { ranges_of self.old.ranges < 8 → ahead + length bytes.now ≤ room_of self.old (length ring.old)
+            → (n : ℕ) → n < length bytes.now → has self.new.ranges (ahead + n) ≡ true }
+        ensures fin { ranges_of self.old.ranges < 8 → fin ≡ true
+            → ahead + length bytes.now < room_of self.old (length ring.old)
+            → self.new.fin_at ≡ ahead + length bytes.now }
+        ensures none { fin ≡ false → self.new.fin_at ≡ self.old.fin_at }
+        ensures stands { (w : World) (consumed : List ℕ) (which : ℕ)
+            → ComesAhead w which ahead (items_of false bytes.now fin) → Stands w consumed self.old ring.old
+            → Stands w consumed self.new ring.new }
     {
         let room = self.room(ring.len());
         if ahead >= room {
             return;
         }
         let n = bytes.len().min(room - ahead);
-        let gap = if self.kept == 0 { ahead } else { self.gap };
-        if ahead > gap + self.kept || gap > ahead + n {
+        if !self.keep_bytes(ring, ahead, &bytes[..n]) {
             return;
         }
-        put(ring, self.start, self.len + ahead, &bytes[..n]);
-        let end = (gap + self.kept).max(ahead + n);
-        self.gap = gap.min(ahead);
-        self.kept = end - self.gap;
+        if fin && n == bytes.len() && ahead + n < room {
+            self.fin_at = (ahead + n) as u32;
+        }
     }
 
-    // Takes what is kept, without its first bytes.
-    fn join(&mut self, skip: usize)
-        requires small { self.old.len + (self.old.kept - skip) < 1073741824 }
-        ensures value { self.new ≡ record self.old {
-          next = (self.old.next + (self.old.kept - skip)) % 4294967296;
-          len = self.old.len + (self.old.kept - skip);
-          gap = 0;
-          kept = 0;
-        } }
+    // Keeps bytes that begin so many after RCV.NXT. Returns false if it drops them.
+    fn keep_bytes(&mut self, ring: &mut [u8], ahead: usize, bytes: &[u8]) -> bool
+        requires begin { self.old.start < length ring.old }
+        requires len { reach self.old ≤ length ring.old }
+        requires small { length ring.old < 1073741824 }
+        requires ahead { 0 < ahead }
+        requires fits { self.old.len + ahead + length bytes.now ≤ length ring.old }
+        requires is_open { self.old.is_open ≡ true }
+        ensures same { self.new ≡ record self.old { ranges = self.new.ranges; newest = self.new.newest } }
+        ensures len { reach self.new ≤ length ring.old }
+        ensures gap { has self.old.ranges 0 ≡ false → has self.new.ranges 0 ≡ false }
+        ensures wider { (n : ℕ) → has self.old.ranges n ≡ true → has self.new.ranges n ≡ true }
+        ensures room { ranges_of self.old.ranges < 8 → result ≡ true }
+        ensures all { result ≡ true → (n : ℕ) → n < length bytes.now → has self.new.ranges (ahead + n) ≡ true }
+        ensures stands { (w : World) (consumed : List ℕ) (which : ℕ) (rest : List Item)
+            → ComesAhead w which ahead (map Byte bytes.now ++ rest) → Stands w consumed self.old ring.old
+            → Stands w consumed self.new ring.new }
     {
-        let more = self.kept.saturating_sub(skip);
-        self.len += more;
-        self.next = self.next.wrapping_add(more as u32);
-        self.gap = 0;
-        self.kept = 0;
+        if bytes.is_empty() {
+            return true;
+        }
+        if !self.ranges.add(ahead as u32, (ahead + bytes.len()) as u32) {
+            return false;
+        }
+        put(ring, self.start, self.len + ahead, bytes);
+        self.newest = ahead as u32;
+        true
     }
 
-    /// The next bytes for the application, at most `count`. They end at the end of the ring: then the next call has the others.
+    /// The next bytes for the application, at most `count`. They end at the end of the ring: then the next call has the
+    /// others.
     pub fn read<'a>(&mut self, ring: &'a [u8], count: usize) -> &'a [u8]
         requires begin { self.old.start < length ring.now }
         requires len { reach self.old ≤ length ring.now }
@@ -209,29 +289,23 @@ impl Receiving {
         if self.is_open { Some(self.next) } else { None }
     }
 
-    /// The numbers of the bytes that are kept after a gap: the first, and the one after the last, as in a SACK block (RFC 2018,
-    /// section 3).
-    pub fn kept(&self) -> Option<(u32, u32)>
-        requires { reach self.now < 1073741824 }
-        ensures some { 0 < self.now.kept → result ≡ Some
-            ((self.now.next + self.now.gap) % 4294967296, (self.now.next + self.now.gap + self.now.kept) % 4294967296) }
-        ensures none { self.now.kept ≡ 0 → result ≡ None }
-        ensures legal { (w : World) (consumed buffer : List ℕ) → self.now.start < length buffer
-            → reach self.now ≤ length buffer → Stands w consumed self.now buffer → IfSome result
-            (λ range. (range.0 ≡ w.later.number) × (range.1 ≡ (w.later.number + length w.later.items) % 4294967296)) }
+    /// The SACK blocks of what is kept after gaps: the numbers of the first byte, and after the last one (RFC 2018,
+    /// section 3). The first one has the newest bytes, and the others are the lowest (section 4). There are at most
+    /// three.
+    pub fn blocks(&self) -> Blocks
+        ensures value { result ≡ blocks_of self.now.ranges self.now.next self.now.newest }
+        ensures legal { (w : World) (consumed buffer : List ℕ) → Stands w consumed self.now buffer → AreTold w result }
     {
-        if self.kept == 0 {
-            return None;
-        }
-        let first = self.next.wrapping_add(self.gap as u32);
-        Some((first, first.wrapping_add(self.kept as u32)))
+        self.ranges.blocks(self.next, self.newest)
     }
 
     /// Whether bytes are kept after a gap.
     pub fn has_gap(&self) -> bool
-        ensures { result ≡ nat_lt 0 self.now.kept }
+        ensures value { result ≡ not (is_none self.now.ranges) }
+        ensures none { result ≡ false → (n : ℕ) → has self.now.ranges n ≡ false }
+        ensures some { result ≡ true → (n : ℕ) × (has self.now.ranges n ≡ true) }
     {
-        self.kept > 0
+        !self.ranges.is_empty()
     }
 
     /// How many bytes there is room for in a ring of this size (RCV.WND): 0 after a FIN.
@@ -252,8 +326,7 @@ impl Receiving {
         self.start < size
             && size < RING_LIMIT
             && self.len <= size
-            && self.gap <= size - self.len
-            && self.kept <= size - self.len - self.gap
+            && self.ranges.top() as usize <= size - self.len
     }
 }
 

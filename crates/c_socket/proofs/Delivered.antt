@@ -6,7 +6,6 @@ use Rattle.tcp_model.specs.Network.{run, start, IsPrefixOf}
 use Rattle.app_tcp.specs.Stands.{Stands}
 use Rattle.app_connection.specs.Steps.{Reads}
 use Rattle.app_connection.specs.declared.connection.Connection.{Connection}
-use Rattle.app_socket.specs.declared.socket.Socket.{Socket}
 use Rattle.c_socket.specs.Calls.{Delivers}
 
 -- what two calls wrote, one after the other
@@ -26,19 +25,19 @@ reads_twice s t u incoming xs ys first second = record {
 }
 
 -- two calls deliver what both deliver
-pub delivers_twice : (s t u : Socket) (incoming before middle rest after : List ℕ) (n m : ℕ) → Delivers s t incoming before middle n
+pub delivers_twice : (s t u : Connection) (incoming before middle rest after : List ℕ) (n m : ℕ) → Delivers s t incoming before middle n
     → Delivers t u incoming (drop n middle) rest m → after ≡ take n middle ++ rest → Delivers s u incoming before after (n + m)
 delivers_twice s t u incoming before middle rest after n m first second all = record {
   bytes = first.bytes ++ second.bytes;
   are = ap (λ (k : ℕ). k + m) first.are ∙ ap (λ (k : ℕ). length first.bytes + k) second.are ∙ sym (length-append first.bytes second.bytes);
   written = joined first.bytes second.bytes before middle rest after n m first.are first.written second.written all;
-  reads = reads_twice s.connection t.connection u.connection incoming first.bytes second.bytes first.reads second.reads;
+  reads = reads_twice s t u incoming first.bytes second.bytes first.reads second.reads;
   delivers = λ initial events consumed stands. subst (λ (l : List ℕ). IsPrefixOf l (run events (start initial)).written) (append_assoc consumed first.bytes second.bytes)
       (second.delivers initial events (consumed ++ first.bytes) (first.reads.stands (run events (start initial)) consumed stands));
 }
 
 -- a call delivers to the front of an output what it delivers to that front alone
-pub delivers_front : (s t : Socket) (incoming before front after : List ℕ) (len n : ℕ) → Delivers s t incoming (take len before) front n
+pub delivers_front : (s t : Connection) (incoming before front after : List ℕ) (len n : ℕ) → Delivers s t incoming (take len before) front n
     → n ≤ length (take len before) → after ≡ front ++ drop len before → Delivers s t incoming before after n
 delivers_front s t incoming before front after len n part few all =
     let rest : drop n (take len before) ++ drop len before ≡ drop n before =

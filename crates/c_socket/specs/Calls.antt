@@ -4,6 +4,7 @@ use Rattle.std.specs.Prelude.{ℕ, ℤ, pos, negsuc, ◌≡◌, ◌≤◌, ◌�
 use Rattle.tcp_model.specs.Network.{World, run, start, IsPrefixOf}
 use Rattle.tcp_model.specs.Network.{Event as Move}
 use Rattle.app_tcp.specs.Stands.{Stands}
+use Rattle.app_connection.specs.declared.connection.Connection.{Connection}
 use Rattle.app_connection.specs.declared.segment.Segment.{Segment}
 use Rattle.app_connection.specs.Endpoints.{InFits, OutFits}
 use Rattle.app_connection.specs.Promises.{HasNoText}
@@ -103,32 +104,34 @@ IsArrival segment options fresh event.Tick = ⊥
 -- ---- bytes
 
 -- The ring took the first bytes of these, as far as it has room (section 3.10.2).
-pub record Written (old new : Socket) (before after bytes : List ℕ) (count : ℕ) : Type 0 where
-  pub fits : OutFits old.connection.sending (length before)
+pub record Written (old new : Connection) (before after bytes : List ℕ) (count : ℕ) : Type 0 where
+  pub fits : OutFits old.sending (length before)
   pub few : count ≤ length bytes
-  pub writes : connection.Writes old.connection new.connection before after (take count bytes)
-  pub none : has_peer (state_from old.connection) ≡ false → count ≡ 0
+  pub writes : connection.Writes old new before after (take count bytes)
+  pub none : has_peer (state_from old) ≡ false → count ≡ 0
 
 -- -1 is returned if the ring does not fit, and nothing is changed; or how many bytes it took
 abbrev pub Writes : SocketFields → SocketFields → List ℕ → List ℕ → List ℕ → ℤ → Type 0
 Writes old new before after bytes code =
     ((OutFits (socket_of old).connection.sending (length before) → ⊥) × (code ≡ negsuc 0) × (new ≡ old)
     × (after ≡ before))
-    ⊎ ((count : ℕ) × (code ≡ pos count) × Written (socket_of old) (socket_of new) before after (within bytes) count)
+    ⊎ ((count : ℕ) × (code ≡ pos count)
+    × Written (socket_of old).connection (socket_of new).connection before after (within bytes) count)
 
 -- The next bytes of the peer are at the beginning of the output (section 3.10.3): they go on with what was read before.
-pub record Delivers (old new : Socket) (incoming before after : List ℕ) (count : ℕ) : Type 0 where
+pub record Delivers (old new : Connection) (incoming before after : List ℕ) (count : ℕ) : Type 0 where
   pub bytes : List ℕ
   pub are : count ≡ length bytes
   pub written : after ≡ bytes ++ drop count before
-  pub reads : connection.Reads old.connection new.connection incoming bytes
+  pub reads : connection.Reads old new incoming bytes
   pub delivers : (initial : ℕ) (events : List Move) (consumed : List ℕ)
       → let back : World = run events (start initial)
-      in Stands back consumed old.connection.receiving incoming → IsPrefixOf (consumed ++ bytes) back.written
+      in Stands back consumed old.receiving incoming → IsPrefixOf (consumed ++ bytes) back.written
 
 -- -1 is returned if the ring does not fit, and nothing is changed; or how many bytes were read
 abbrev pub Reads : SocketFields → SocketFields → List ℕ → List ℕ → List ℕ → ℤ → Type 0
 Reads old new incoming before after code =
     ((InFits (socket_of old).connection.receiving (length incoming) → ⊥) × (code ≡ negsuc 0) × (new ≡ old)
     × (after ≡ before))
-    ⊎ ((count : ℕ) × (code ≡ pos count) × Delivers (socket_of old) (socket_of new) incoming before after count)
+    ⊎ ((count : ℕ) × (code ≡ pos count)
+    × Delivers (socket_of old).connection (socket_of new).connection incoming before after count)

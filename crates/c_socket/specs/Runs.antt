@@ -58,9 +58,10 @@ stepped a b new incoming result = record a {
 pub data Calls (a b : End) : End → Type 0 where
   meets : (e : Event) (now : ℕ) (new : SocketFields) (incoming : List ℕ) (out out' : SegmentFields) (code : ℤ) → MayCome (taken_of (socket_of a.fields) now e) (connection_of a) (connection_of b)
       → OpensOnce (connection_of a) (socket_of new).connection → Met (λ f. f ≡ e) a.fields new a.outgoing a.incoming incoming now out out' code → Calls a b (stepped a b new incoming (stored code out'))
-  writes : (new : SocketFields) (outgoing bytes : List ℕ) (count : ℕ) → OutFits (socket_of new).connection.sending (length outgoing) → Written (socket_of a.fields) (socket_of new) a.outgoing outgoing bytes count
+  writes : (new : SocketFields) (outgoing bytes : List ℕ) (count : ℕ) → OutFits (socket_of new).connection.sending (length outgoing) → Written (socket_of a.fields).connection (socket_of new).connection a.outgoing outgoing bytes count
       → Calls a b (record a { fields = new; outgoing = outgoing; wrote = a.wrote ++ take count bytes })
-  reads : (new : SocketFields) (before after : List ℕ) (count : ℕ) → Delivers (socket_of a.fields) (socket_of new) a.incoming before after count → Calls a b (record a { fields = new; read = a.read ++ take count after })
+  reads : (new : SocketFields) (before after : List ℕ) (count : ℕ) → Delivers (socket_of a.fields).connection (socket_of new).connection a.incoming before after count
+      → Calls a b (record a { fields = new; read = a.read ++ take count after })
   listens : (new : SocketFields) → OutFits (socket_of new).connection.sending (length a.outgoing) → Listens (socket_of a.fields) (socket_of new) → Calls a b (stepped a b new a.incoming None)
   closes : (new : SocketFields) → OutFits (socket_of new).connection.sending (length a.outgoing) → Closes (socket_of a.fields) (socket_of new) → Calls a b (stepped a b new a.incoming None)
   aborts : (new : SocketFields) (out out' : SegmentFields) (code : ℤ) → OutFits (socket_of new).connection.sending (length a.outgoing) → Aborts (socket_of a.fields) (socket_of new) out out' code

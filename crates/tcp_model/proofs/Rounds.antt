@@ -3,7 +3,7 @@ use Rattle.std.proofs.Common.{◌≡◌, inl, inr, refl, ℕ, ◌+◌, ◌≤◌
 use Rattle.std.specs.Prelude.{Option, Some, None, slice_get}
 use Rattle.std.proofs.lemmas.Bool.{cond_both, cond-true, cases_lt}
 use Rattle.tcp_model.specs.Endpoint.{Item, Receiver, accepted, fresh}
-use Rattle.tcp_model.specs.Network.{World, Segment, Ack, Event, Write, Close, Send, Segment_comes, Resegment, Keep, Merge, Join, Answer, Ack_comes, ack_comes, happens, is_alive, keep, merge, resegments, round, run, segment_comes, sends, start, stream}
+use Rattle.tcp_model.specs.Network.{World, Segment, Ack, Event, Write, Close, Send, Segment_comes, Resegment, Answer, Ack_comes, ack_comes, happens, is_alive, resegments, round, run, segment_comes, sends, start, stream}
 use Rattle.tcp_model.specs.Rounds.{Round, AreOthers, AreRounds, IsOther, events_of, rounds_of}
 use Rattle.tcp_model.proofs.Kept.{Good, good_start, run_good}
 use Rattle.tcp_model.proofs.Round.{goes_further}
@@ -17,12 +17,12 @@ record Onward (w v : World) : Type 0 where
 here : (w : World) → Onward w w
 here w = record { acked = omega arith; is_open = λ is. is; same = refl }
 
--- only the network and what is kept after a gap change
-beside : (w : World) (sent : ℕ) (segments : List Segment) (acks : List Ack) (later : Segment) → Onward w (record w { sent = sent; segments = segments; acks = acks; later = later })
-beside w sent segments acks later = record { acked = omega arith; is_open = λ is. is; same = refl }
+-- only the network changes
+beside : (w : World) (sent : ℕ) (segments : List Segment) (acks : List Ack) → Onward w (record w { sent = sent; segments = segments; acks = acks })
+beside w sent segments acks = record { acked = omega arith; is_open = λ is. is; same = refl }
 
 sends_on : (w : World) (place : ℕ) (items : List Item) → Onward w (sends w place items)
-sends_on w place items = cond_both (nat_lt (w.acked + 2147483648) (place + length items)) _ _ (Onward w) (λ far. here w) (λ near. beside w _ _ w.acks w.later)
+sends_on w place items = cond_both (nat_lt (w.acked + 2147483648) (place + length items)) _ _ (Onward w) (λ far. here w) (λ near. beside w _ _ w.acks)
 
 segment_on : (w : World) (room : ℕ) (o : Option Segment) → Onward w (segment_comes w room o)
 segment_on w room None = here w
@@ -36,17 +36,7 @@ segment_on w room (Some s) =
     (λ dead. here w)
 
 resegments_on : (w : World) (place count : ℕ) → Onward w (resegments w place count)
-resegments_on w place count = cond_both (nat_lt w.sent (place + count)) _ _ (Onward w) (λ unsent. here w) (λ within. beside w w.sent _ w.acks w.later)
-
-keep_on : (w : World) (count : ℕ) (o : Option Segment) → Onward w (keep w count o)
-keep_on w count None = here w
-keep_on w count (Some s) = beside w w.sent w.segments w.acks _
-
-merge_on : (w : World) (count : ℕ) (o : Option Segment) → Onward w (merge w count o)
-merge_on w count None = here w
-merge_on w count (Some s) =
-    cond_both (is_alive (length w.receiver.got) s.place) _ _ (Onward w)
-    (λ yes. cond_both (is_alive (length w.receiver.got) w.later.place) _ _ (Onward w) (λ kept. beside w w.sent w.segments w.acks _) (λ dead. here w)) (λ no. here w)
+resegments_on w place count = cond_both (nat_lt w.sent (place + count)) _ _ (Onward w) (λ unsent. here w) (λ within. beside w w.sent _ w.acks)
 
 ack_on : (w : World) (o : Option Ack) → Onward w (ack_comes w o)
 ack_on w None = here w
@@ -58,10 +48,7 @@ happens_on w Close other = absurd other
 happens_on w (Send offset count) other = cond_both (nat_lt (length (stream w.written w.closed)) (w.acked + offset)) _ _ (Onward w) (λ past. here w) (λ within. sends_on w _ _)
 happens_on w (Segment_comes which room) other = segment_on w room (slice_get w.segments which)
 happens_on w (Resegment place count) other = resegments_on w place count
-happens_on w (Keep which count) other = keep_on w count (slice_get w.segments which)
-happens_on w (Merge which count) other = merge_on w count (slice_get w.segments which)
-happens_on w (Join room) other = segment_on w room (Some w.later)
-happens_on w Answer other = cond_both w.receiver.is_open _ _ (Onward w) (λ yes. beside w w.sent w.segments _ w.later) (λ no. here w)
+happens_on w Answer other = cond_both w.receiver.is_open _ _ (Onward w) (λ yes. beside w w.sent w.segments _) (λ no. here w)
 happens_on w (Ack_comes which) other = ack_on w (slice_get w.acks which)
 
 then_on : (u v w : World) → Onward u v → Onward v w → Onward u w

@@ -1,7 +1,7 @@
 -- Rounds of a network that loses, repeats and reorders, in each of which the segment at SND.UNA and its acknowledgement come once.
 -- Pinned by: `tcp/stream`
 use Rattle.std.specs.Prelude.{ℕ, ◌<◌, ◌≤◌, List, [], ◌∷◌, ◌++◌}
-use Rattle.tcp_model.specs.Network.{Event, Write, Close, Send, Segment_comes, Resegment, Keep, Merge, Join, Answer, Ack_comes, round}
+use Rattle.tcp_model.specs.Network.{Event, Write, Close, Send, Segment_comes, Resegment, Answer, Ack_comes, round}
 
 -- One round: what else happens, and then how many items go from SND.UNA on, to a receiver with how much room.
 pub record Round : Type 0 where
@@ -16,9 +16,6 @@ IsOther Close = ⊥
 IsOther (Send offset count) = Unit {0}
 IsOther (Segment_comes which room) = Unit {0}
 IsOther (Resegment place count) = Unit {0}
-IsOther (Keep which count) = Unit {0}
-IsOther (Merge which count) = Unit {0}
-IsOther (Join room) = Unit {0}
 IsOther Answer = Unit {0}
 IsOther (Ack_comes which) = Unit {0}
 

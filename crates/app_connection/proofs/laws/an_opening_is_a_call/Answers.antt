@@ -1,4 +1,4 @@
-use Rattle.std.proofs.Common.{◌≡◌, sym, ◌∙◌, ap, subst, refl, ℕ, List, length}
+use Rattle.std.proofs.Common.{sym, ◌∙◌, ap, subst, refl, ℕ, List, length}
 use Rattle.std.specs.Prelude.{option_map}
 use Rattle.app_connection.specs.declared.connection.Connection.{Connection}
 use Rattle.app_connection.specs.declared.step.Event.TheVariants as event

@@ -22,7 +22,7 @@ returns-clause-further c = λ by end taken waiting a stands.
     let outgoing = c.args.outgoing.now in
     let before = c.args.incoming.now in
     let rejected : rejects old c.args.now c.args.answer.now c.args.options.now ≡ false = none_rejected _ _ _ c.requires.taken in
-    further old new outgoing before c.step.new.incoming (length before) c.args.now by end taken 0 c.args.answer _ c.requires.out c.step.ensures.out waiting a (c.step.ensures.stays waiting.opened a.rst)
+    further old new outgoing before c.step.new.incoming (length before) c.args.now by end taken 0 c.args.answer c.args.options.now.timestamp _ c.requires.out c.step.ensures.out waiting a (c.step.ensures.stays waiting.opened a.rst)
     (steps_by old.connection new.connection outgoing before c.step.new.incoming _ (move.Arrives c.args.answer 0) _ (sym (choice_false _ (move.Send 0 0) (move.Arrives c.args.answer 0) rejected)) c.step.ensures.steps)
     (λ after. c.step.ensures.learns waiting.opened after rejected) stands
 

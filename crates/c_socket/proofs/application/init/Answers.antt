@@ -2,6 +2,7 @@ use Rattle.std.proofs.Common.{rules, ◌≡◌, ◌∙◌, SFits, ap, sym, subst
 use Rattle.std.proofs.lemmas.Int.{to_z-of_z}
 use Rattle.tcp_model.specs.Network.{start}
 use Rattle.app_tcp.specs.Stands.{Stands}
+use Rattle.app_connection.specs.Endpoints.{OutFits}
 use Rattle.app_socket.specs.declared.options.Options.{Options}
 use Rattle.app_socket.specs.declared.socket.Socket.{Socket}
 use Rattle.c_structs.specs.Written.{is_set}
@@ -16,3 +17,6 @@ returns-clause-options c =
 
 pub returns-clause-stands : goal.returns-clause-stands
 returns-clause-stands c = λ buffer. subst (λ (s : Socket). Stands (start 0) [] s.connection.receiving buffer) (sym c.fields.ensures) (c.new.ensures.stands buffer)
+
+pub returns-clause-out : goal.returns-clause-out
+returns-clause-out c = λ size some small. subst (λ (s : Socket). OutFits s.connection.sending size) (sym c.fields.ensures) (c.new.ensures.out size some small)

@@ -1,11 +1,12 @@
 use Rattle.std.proofs.Common.{rules, arith, ◌≡◌, ◌≤◌, ◌<◌, ◌^◌, inr, sym, ap, subst, ℕ, List, ◌++◌, length, w64}
 use Rattle.std.specs.Prelude.{take, drop}
 use Rattle.std.proofs.lemmas.Int.{to_z_pos}
+use Rattle.app_connection.specs.declared.connection.Connection.{Connection}
 use Rattle.app_socket.specs.Fields.{socket_of}
 use Rattle.app_socket.specs.declared.socket.Socket.{Socket}
 use Rattle.c_socket.specs.Calls.{Delivers}
 use Rattle.c_socket.proofs.Delivered.{delivers_front}
-use Rattle.c_socket.proofs.Kept.{carried}
+use Rattle.c_socket.proofs.Kept.{handed}
 use Rattle.c_socket.proofs.bytes.read.Goals as goal
 
 pub returns : goal.returns
@@ -15,8 +16,8 @@ returns c =
     let filled = c.read_twice-count.new.out in
     let after = filled ++ c.split_at_mut-front.result.1.now in
     let len = c.usable.result in
-    let old = c.value-socket.result in
-    let new = c.read_twice-count.new.socket in
+    let old = c.connection-streams.result in
+    let new = c.read_twice-count.new.streams in
     let count = c.read_twice-count.result in
     let front : c.split_at_mut-front.result.0.now ≡ take len before = search rules in
     let rest : c.split_at_mut-front.result.1.now ≡ drop len before = search rules in
@@ -30,6 +31,7 @@ returns c =
     inr (
       count,
       to_z_pos w64 count (omega (arith, few, short)),
-      carried (λ (s t : Socket). Delivers s t incoming before after count)
-          old (socket_of c.args.connection.now) new (socket_of c.fields.result) c.value-socket.ensures (sym c.fields.ensures) whole,
+      handed (λ (s t : Connection). Delivers s t incoming before after count)
+          old (socket_of c.args.connection.now).connection new (socket_of c.set_connection.new.self).connection c.connection-streams.ensures
+          (sym (ap (λ (s : Socket). s.connection) c.set_connection.ensures)) whole,
     )

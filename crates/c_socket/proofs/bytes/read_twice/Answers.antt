@@ -14,7 +14,7 @@ returns-clause-delivers c =
     let m = c.read_part.result in
     let front : c.split_at_mut-rest.result.0.now ≡ take n middle = search rules in
     let rest : c.split_at_mut-rest.result.1.now ≡ drop n middle = search rules in
-    let second : Delivers first.new.socket c.read_part.new.socket incoming (drop n middle) last m =
-    subst (λ (l : List ℕ). Delivers first.new.socket c.read_part.new.socket incoming l last m) rest c.read_part.ensures.delivers in
-    delivers_twice c.args.socket.now first.new.socket c.read_part.new.socket incoming c.args.out.now middle last _ n m
+    let second : Delivers first.new.streams c.read_part.new.streams incoming (drop n middle) last m =
+    subst (λ (l : List ℕ). Delivers first.new.streams c.read_part.new.streams incoming l last m) rest c.read_part.ensures.delivers in
+    delivers_twice c.args.streams.now first.new.streams c.read_part.new.streams incoming c.args.out.now middle last _ n m
     first.ensures.delivers second (ap (λ (l : List ℕ). l ++ last) front)

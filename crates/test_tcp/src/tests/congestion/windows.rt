@@ -1,7 +1,7 @@
 //! Events of a sender with cwnd and ssthresh after each, by hand from RFC 3042, RFC 5681, RFC 6582,
-//! RFC 6928 and RFC 8985.
+//! RFC 4015, RFC 6928 and RFC 8985.
 
-use Turn::{Ack, Duplicate, Probe, Timeout};
+use Turn::{Ack, Duplicate, Probe, Timeout, Undo};
 use app_congestion::{Congestion, MAX_CWND};
 use std::process::Abort;
 
@@ -14,6 +14,8 @@ enum Turn {
     /// The bytes in flight, and the next number.
     Probe(u32, u32),
     Timeout(u32, u32),
+    /// cwnd and ssthresh of before.
+    Undo(u32, u32),
 }
 
 /// What happens, cwnd and ssthresh then, and whether the first segment is sent again.
@@ -32,6 +34,10 @@ fn check(rt: &impl Abort, name: &str, rows: &[Row]) {
             }
             Timeout(flight, next) => {
                 c.on_timeout(flight, next);
+                false
+            }
+            Undo(cwnd, ssthresh) => {
+                c.undo(cwnd, ssthresh);
                 false
             }
         };
@@ -88,6 +94,26 @@ fn fast_recovery(rt: HostRuntime) {
         (Duplicate(5_001, 17_501, 22_502), 5_500, 2_500, true),
     ];
     check(&rt, "fast recovery", &rows);
+}
+
+// RFC 4015: after a spurious time-out cwnd and ssthresh are as before, and slow start goes on. The next loss is one of its own:
+// the next time-out sets ssthresh again, and duplicates of what was in flight count.
+#[test]
+fn an_undo(rt: HostRuntime) {
+    let rows = [
+        (Timeout(10_000, 10_001), 1_000, 5_000, false),
+        (Undo(10_000, MAX_CWND), 10_000, MAX_CWND, false),
+        (Timeout(9_000, 10_001), 1_000, 4_500, false),
+        (Undo(10_000, MAX_CWND), 10_000, MAX_CWND, false),
+        (Ack(1_000, 9_000, 1_001), 11_000, MAX_CWND, false),
+        (Duplicate(9_000, 1_001, 10_001), 12_000, MAX_CWND, false),
+        (Duplicate(9_000, 1_001, 10_001), 13_000, MAX_CWND, false),
+        (Duplicate(9_000, 1_001, 10_001), 7_500, 4_500, true),
+        (Undo(11_000, 8_000), 11_000, 8_000, false),
+        // At least a segment, and two.
+        (Undo(0, 0), 1_000, 2_000, false),
+    ];
+    check(&rt, "an undo", &rows);
 }
 
 // RFC 3042, section 2: each of the first two duplicates allows a segment; cwnd is not changed by them. RFC 5681, section 3.2,

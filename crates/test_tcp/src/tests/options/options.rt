@@ -68,20 +68,22 @@ fn syns(rt: HostRuntime) {
     check(&rt, all, (Some(1), true, Some((1_020, 77))));
 }
 
-// One SACK block while bytes are kept after a gap (RFC 2018, section 4). A timestamp in each segment (RFC 7323, section 3.2).
+// SACK blocks while bytes are kept after gaps (RFC 2018, section 4). A timestamp in each segment (RFC 7323, section 3.2).
 #[test]
 fn segments(rt: HostRuntime) {
-    let kept = Some((5_000, 6_000));
+    let kept = [Some((5_000, 6_000)), Some((1_000, 2_000)), None, None];
     let all = agreed((Some(9), true, Some((77, 0))));
     let mut wanted = options(None, (None, false, Some((1_030, 77))));
     assert!(rt; all.has_sack());
     assert_eq!(rt; all.of_segment(None, 30), wanted);
-    wanted.sack_ranges[0] = kept;
-    assert_eq!(rt; all.of_segment(kept, 30), wanted);
+    wanted.sack_ranges = kept;
+    assert_eq!(rt; all.of_blocks(kept, 30), wanted);
+    wanted.sack_ranges = [kept[0], None, None, None];
+    assert_eq!(rt; all.of_segment(kept[0], 30), wanted);
     let none = agreed((Some(9), false, None));
     assert!(rt; !none.has_sack());
     assert_eq!(rt;
-        none.of_segment(kept, 30),
+        none.of_blocks(kept, 30),
         options(None, (None, false, None))
     );
 }

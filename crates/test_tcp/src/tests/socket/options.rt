@@ -160,3 +160,60 @@ fn take_text() -> [RowWithOptions; 6] {
         ),
     ]
 }
+
+// A loss probe and the time-out send the first of four segments again. Then all are acknowledged. If the acknowledgement echoes the
+// timestamp of the first transmission, nothing was lost (RFC 3522), and cwnd has the ten segments of before (RFC 4015). If it
+// echoes that of the probe, slow start goes on with two segments.
+#[test]
+fn a_spurious_time_out(rt: HostRuntime) {
+    check_undo(&rt, "spurious", 159, &after_undo());
+    check_undo(&rt, "lost", 359, &after_loss());
+}
+
+fn check_undo(rt: &impl Abort, name: &str, tsecr: u32, rows: &[RowWithOptions]) {
+    let none = TcpOptionSummary::default();
+    let mut end = End::new();
+    let mut incoming = [0; WIDE];
+    check_options(rt, name, &mut end, &mut incoming, &agree());
+    let late = [
+        (
+            260,
+            Tick,
+            none,
+            goes(wide(100, 300, 988), stamped(359, 7000)),
+        ),
+        (260, Tick, none, None),
+        (
+            510,
+            Tick,
+            none,
+            goes(wide(100, 300, 988), stamped(609, 7000)),
+        ),
+        (520, Gets(tells(300, 4052, 200)), stamped(7050, tsecr), None),
+        (520, Write(3952), none, None),
+    ];
+    check_options(rt, name, &mut end, &mut incoming, &late);
+    check_options(rt, name, &mut end, &mut incoming, rows);
+}
+
+fn after_undo() -> [RowWithOptions; 5] {
+    let none = TcpOptionSummary::default();
+    let stamp = stamped(619, 7050);
+    [
+        (520, Tick, none, goes(wide(4052, 300, 988), stamp)),
+        (520, Tick, none, goes(wide(5040, 300, 988), stamp)),
+        (520, Tick, none, goes(wide(6028, 300, 988), stamp)),
+        (520, Tick, none, goes(wide(7016, 300, 988), stamp)),
+        (520, Tick, none, None),
+    ]
+}
+
+fn after_loss() -> [RowWithOptions; 3] {
+    let none = TcpOptionSummary::default();
+    let stamp = stamped(619, 7050);
+    [
+        (520, Tick, none, goes(wide(4052, 300, 988), stamp)),
+        (520, Tick, none, goes(wide(5040, 300, 988), stamp)),
+        (520, Tick, none, None),
+    ]
+}

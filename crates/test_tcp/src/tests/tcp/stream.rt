@@ -1,7 +1,7 @@
 //! Two hosts over a network that loses, repeats and reorders: what one wrote the other one reads, over the end of the
 //! sequence numbers.
 
-use app_tcp::{Receiving, Sending};
+use app_tcp::{Blocks, Receiving, Sending};
 
 /// The size of a ring, the segments and acknowledgements that the network keeps, and the longest segment.
 const SIZE: usize = 16;
@@ -195,8 +195,8 @@ fn bytes_come_in_order(rt: HostRuntime) {
     }
 }
 
-/// Four segments come with the first as the last one. What is kept after the gap, and how much is acknowledged at the end.
-fn first_comes_last(initial: u32, order: [usize; 3]) -> (Option<(u32, u32)>, Option<u32>, usize) {
+/// Four segments come with the first as the last one. What is kept after gaps, and how much is acknowledged at the end.
+fn first_comes_last(initial: u32, order: [usize; 3]) -> (Blocks, Option<u32>, usize) {
     let mut direction = Direction::new(initial);
     direction.send(0, 0, 1);
     direction.deliver(0);
@@ -211,11 +211,7 @@ fn first_comes_last(initial: u32, order: [usize; 3]) -> (Option<(u32, u32)>, Opt
     for slot in order {
         direction.deliver(slot);
     }
-    let kept = if direction.receiving.fits(SIZE) {
-        direction.receiving.kept()
-    } else {
-        None
-    };
+    let kept = direction.receiving.blocks();
     direction.deliver(0);
     direction.read(SIZE);
     direction.read(SIZE);
@@ -228,19 +224,78 @@ fn first_comes_last(initial: u32, order: [usize; 3]) -> (Option<(u32, u32)>, Opt
 }
 
 #[test]
-fn a_piece_after_a_gap_is_kept(rt: HostRuntime) {
+fn what_comes_after_a_gap_is_kept(rt: HostRuntime) {
     // The SYN and 5 bytes have the numbers before 0.
     let initial = 0u32.wrapping_sub(6);
     let all = Some(11);
-    for order in [[1, 2, 3], [2, 1, 3], [3, 2, 1], [2, 3, 1]] {
+    for order in [[1, 2, 3], [2, 1, 3], [3, 2, 1], [2, 3, 1], [3, 1, 2]] {
         let (kept, next, read) = first_comes_last(initial, order);
-        assert_eq!(rt; kept, Some((u32::MAX, 11)), "{order:?}");
+        assert_eq!(rt; kept, [Some((u32::MAX, 11)), None, None, None], "{order:?}");
         assert_eq!(rt; next, all, "{order:?}");
         assert_eq!(rt; read, SIZE, "{order:?}");
     }
-    // One that does not adjoin what is kept is dropped.
-    let (kept, next, read) = first_comes_last(initial, [3, 1, 3]);
-    assert_eq!(rt; kept, Some((7, 11)));
-    assert_eq!(rt; next, Some(u32::MAX));
-    assert_eq!(rt; read, 4);
+    // Of two pieces apart, the one that came last is told first.
+    let low = Some((u32::MAX, 3));
+    let high = Some((7, 11));
+    let (kept, next, read) = first_comes_last(initial, [3, 1, 1]);
+    assert_eq!(rt; kept, [low, high, None, None]);
+    assert_eq!(rt; next, Some(3));
+    assert_eq!(rt; read, 8);
+    assert_eq!(rt;
+        first_comes_last(initial, [1, 3, 3]).0,
+        [high, low, None, None]
+    );
+}
+
+/// A receiver whose SYN came, in a ring of 64 bytes. RCV.NXT is 0.
+fn receiver() -> (Receiving, [u8; 64]) {
+    let mut receiving = Receiving::new();
+    receiving.on_syn(u32::MAX);
+    (receiving, [0; 64])
+}
+
+// Eight pieces of one byte, with a byte between them. A ninth one is dropped, the eighth of them grows.
+#[test]
+fn eight_pieces(rt: HostRuntime) {
+    let (mut receiving, mut ring) = receiver();
+    for place in (1..17).step_by(2) {
+        receiving.on_segment(&mut ring, place, &[place as u8], false);
+    }
+    assert_eq!(rt;
+        receiving.blocks(),
+        [Some((15, 16)), Some((1, 2)), Some((3, 4)), None]
+    );
+    receiving.on_segment(&mut ring, 17, &[17], false);
+    assert_eq!(rt; receiving.blocks()[0], Some((15, 16)));
+    receiving.on_segment(&mut ring, 16, &[16], false);
+    assert_eq!(rt; receiving.blocks()[0], Some((15, 17)));
+    for place in (0..16).step_by(2) {
+        assert_eq!(rt; receiving.next(), Some(place));
+        receiving.on_segment(&mut ring, place, &[place as u8], false);
+    }
+    assert_eq!(rt; receiving.next(), Some(17));
+    assert!(rt; !receiving.has_gap());
+    let bytes = receiving.read(&ring, 64);
+    assert_eq!(rt; bytes.len(), 17);
+    for (place, byte) in bytes.iter().enumerate() {
+        assert_eq!(rt; *byte as usize, place);
+    }
+}
+
+// A FIN comes before the bytes that it follows, with some of them and alone.
+#[test]
+fn an_early_fin(rt: HostRuntime) {
+    for payload in [&[2u8, 3][..], &[][..]] {
+        let (mut receiving, mut ring) = receiver();
+        receiving.on_segment(&mut ring, 4 - payload.len() as u32, payload, true);
+        assert!(rt; !receiving.has_fin());
+        receiving.on_segment(&mut ring, 0, &[0, 1], false);
+        if payload.is_empty() {
+            receiving.on_segment(&mut ring, 2, &[2, 3], false);
+        }
+        assert!(rt; receiving.has_fin());
+        assert_eq!(rt; receiving.next(), Some(5));
+        assert_eq!(rt; receiving.read(&ring, 64).len(), 4);
+        assert!(rt; receiving.is_ended());
+    }
 }

@@ -1,15 +1,15 @@
 use Rattle.std.proofs.Common.{◌∷◌, length}
 use Rattle.tcp_model.specs.Network.{Segment_comes}
-use Rattle.app_tcp.specs.Stands.{events_of, room_of}
-use Rattle.app_connection.proofs.Going.{used}
+use Rattle.app_tcp.specs.Stands.{again, room_of}
+use Rattle.app_connection.proofs.Going.{comings}
 use Rattle.app_connection.proofs.connection.Connection.take_text.Goals as goal
 
 pub returns-clause-stands : goal.returns-clause-stands
 returns-clause-stands c = λ back which consumed comes stands.
     let uses = c.on_segment.ensures.stands back consumed which comes stands in
     record {
-      events = Segment_comes which (room_of c.args.self.now.receiving (length c.args.incoming.now)) ∷ events_of which uses.how;
-      own = used which uses.how;
+      events = Segment_comes which (room_of c.args.self.now.receiving (length c.args.incoming.now)) ∷ again uses.segments;
+      own = comings uses.segments;
       stands = uses.stands;
     }
 

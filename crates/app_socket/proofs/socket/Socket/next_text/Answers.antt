@@ -25,6 +25,10 @@ returns-in_default-clause-goes c = λ there back consumed buffer stand.
     let new = c.piece.new.self.connection in
     goes_at there back consumed new c.args.outgoing.now buffer None (stand_as there back consumed old new c.args.outgoing.now buffer (ap (λ (x : Socket). x.connection) c.piece.ensures.same) stand) tt
 
+pub returns-clause-goes : goal.returns-clause-goes
+returns-clause-goes c =
+    subst (λ (x : Connection). GoesFrom x c.cut.new.self.connection c.args.outgoing.now (option_map said c.cut.result)) (ap (λ (x : Socket). x.connection) c.piece.ensures.same) c.cut.ensures.goes
+
 -- a connection that is the same
 only_same : (c d : Connection) → d ≡ c → d ≡ record c { sending = record c.sending { flight = d.sending.flight } }
 only_same c d is = subst (λ (x : Connection). x ≡ record c { sending = record c.sending { flight = x.sending.flight } }) (sym is) refl
@@ -39,6 +43,7 @@ returns-in_default-clause-resends c = λ opened has.
       expires = λ some due probed. c.in_default.ensures.expires _ fits some due probed;
       backs_off = λ flight some due probed. absurd (c.in_default.ensures.expires _ fits some due probed);
       slows = λ window flight some due probed. absurd (c.in_default.ensures.expires _ fits some due probed);
+      saves = λ window flight some due probed. absurd (c.in_default.ensures.expires _ fits some due probed);
       probed = λ some due. c.piece.ensures.probed _ fits some due;
       still = λ small due. c.piece.ensures.rto small due;
       calm = c.piece.ensures.calm;
@@ -57,10 +62,6 @@ returns-in_default-clause-resends c = λ opened has.
 
 pub returns-clause-short : goal.returns-clause-short
 returns-clause-short c = λ opened. c.cut.ensures.short (ap (λ (x : Socket). x.connection.phase) c.piece.ensures.same ∙ opened) _ _ c.in-Some.ensures.within
-
-pub returns-clause-goes : goal.returns-clause-goes
-returns-clause-goes c =
-    subst (λ (x : Connection). GoesFrom x c.cut.new.self.connection c.args.outgoing.now (option_map said c.cut.result)) (ap (λ (x : Socket). x.connection) c.piece.ensures.same) c.cut.ensures.goes
 
 -- a segment with items goes
 goes_some : (o : Option Segment) → MatchOption o ⊥ (λ s. 0 < len_of s) → SendsNone o → ⊥
@@ -97,6 +98,7 @@ returns-clause-resends c = λ opened has.
       backs_off = λ flight some due probed.
           subst (λ (r : Rto). BacksOff old.flow.rto r) (sym (ap (λ (f : Flow). f.rto) c.cut.ensures.flow)) ((c.piece.ensures.times_out _ fits some due probed).backs_off flight);
       slows = λ window flight some due probed. ap (λ (f : Flow). sender_of f.congestion) c.cut.ensures.flow ∙ (c.piece.ensures.times_out _ fits some due probed).slows flight window;
+      saves = λ window flight some due probed. ap (λ (f : Flow). f.undo) c.cut.ensures.flow ∙ (c.piece.ensures.times_out _ fits some due probed).saves flight window;
       probed = λ some due. ap (λ (f : Flow). f.is_probed) c.cut.ensures.flow ∙ c.piece.ensures.probed _ fits some due;
       still = λ small due. ap (λ (f : Flow). f.rto) c.cut.ensures.flow ∙ c.piece.ensures.rto small due;
       calm = λ small due.

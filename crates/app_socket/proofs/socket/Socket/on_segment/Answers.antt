@@ -12,7 +12,9 @@ use Rattle.tcp_model.specs.Endpoint.{distance}
 use Rattle.app_congestion.specs.Congestion.{is_partial, is_past}
 use Rattle.app_connection.specs.Worlds.{HearsAck}
 use Rattle.app_connection.specs.Sequence.{is_of_sent}
+use Rattle.app_socket.specs.declared.flow.Flow.{Flow}
 use Rattle.app_socket.specs.declared.socket.Socket.{Socket}
+use Rattle.app_socket.specs.Undo.{Undoes}
 use Rattle.app_socket.specs.Resends.{IsArmed, IsDuplicate, IsSound, newly_in, restarted_at}
 use Rattle.app_socket.specs.Replies.{IsAcknowledgement}
 use Rattle.app_socket.specs.Times.{is_open, later}
@@ -118,11 +120,21 @@ returns-in_default-clause-learns c = λ opened after.
           (c.learn.ensures.near is (λ e. lasts (ap state_from same ∙ e)) rst
           (subst (λ (n : ℕ). distance s.number n ≤ b.room + 1) (sym (c.before-before.ensures.next synced))
           (subst (λ (n : ℕ). distance s.number old.connection.receiving.next ≤ n + 1) (sym c.before-before.ensures.room) close)));
-      partial = λ some part rescued.
+      partial = λ needed some part rescued.
           ap (λ (x : Socket). x.flow.resend) c.answer.ensures.same
-          ∙ c.learn.ensures.partial is (subst (λ (n : ℕ). 0 < n) (sym newly) some)
+          ∙ c.learn.ensures.partial is needed (subst (λ (n : ℕ). 0 < n) (sym newly) some)
           (subst (λ (x : Connection). is_partial old.flow.congestion.phase x.sending.una ≡ true) same part)
           (subst (λ (n : ℕ). old.flow.rescued ≤ n) (sym newly) rescued);
+      undoes = λ some needless.
+          let undone = c.learn.ensures.undoes is (subst (λ (n : ℕ). 0 < n) (sym newly) some) needless in
+          let there : Undoes old.flow c.learn.new.self.flow (newly_in old new) taken.sending.flight taken.sending.una =
+          subst (λ (n : ℕ). Undoes old.flow c.learn.new.self.flow n taken.sending.flight taken.sending.una) newly undone
+          in
+          let moved : Undoes old.flow c.learn.new.self.flow (newly_in old new) new.connection.sending.flight new.connection.sending.una =
+          subst (λ (x : Connection). Undoes old.flow c.learn.new.self.flow (newly_in old new) x.sending.flight x.sending.una) (sym same) there
+          in
+          subst (λ (f : Flow). Undoes old.flow f (newly_in old new) new.connection.sending.flight new.connection.sending.una)
+          (sym (ap (λ (x : Socket). x.flow) c.answer.ensures.same)) moved;
       counted = λ none duplicate synced calm past few.
           let twin : IsDuplicate b.una b.flight b.window b.next b.room s = record {
             waits = subst (λ (n : ℕ). 0 < n) (sym c.before-before.ensures.flight) duplicate.waits;

@@ -13,9 +13,9 @@ use Rattle.app_socket.proofs.socket.Socket.piece.Goals as goal
 pub returns-in-Some-clause-times_out : goal.returns-in-Some-clause-times_out
 returns-in-Some-clause-times_out c = λ size fits some due probed.
     let same = c.run_timer.ensures.due size fits some due in
-    let P : Socket → Type 0 = λ (x : Socket). is_due x.timers.resend_at c.args.now ≡ true → x.flow.is_probed ≡ true → TimesOut x.flow c.expire.new.self.flow c.queue-queue.result in
-    let out : TimesOut c.args.self.now.flow c.expire.new.self.flow c.queue-queue.result = subst P same c.expire.ensures.times_out due probed in
-    subst (λ (q : Queue). TimesOut c.args.self.now.flow c.expire.new.self.flow q) (c.queue-queue.ensures.value size fits) out
+    let P : Socket → Type 0 = λ (x : Socket). is_due x.timers.resend_at c.args.now ≡ true → x.flow.is_probed ≡ true → TimesOut x.flow c.expire.new.self.flow c.queue-queue.result c.args.now in
+    let out : TimesOut c.args.self.now.flow c.expire.new.self.flow c.queue-queue.result c.args.now = subst P same c.expire.ensures.times_out due probed in
+    subst (λ (q : Queue). TimesOut c.args.self.now.flow c.expire.new.self.flow q c.args.now) (c.queue-queue.ensures.value size fits) out
 
 pub returns-clause-armed : goal.returns-clause-armed
 returns-clause-armed c = λ size fits some. c.expire.ensures.armed c.args.self.now.timers.resend_at (c.run_timer.ensures.armed size fits some)

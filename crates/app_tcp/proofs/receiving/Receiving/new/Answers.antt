@@ -1,4 +1,4 @@
-use Rattle.std.proofs.Common.{refl, arith, []}
+use Rattle.std.proofs.Common.{refl, arith, sym, ◌∙◌, []}
 use Rattle.std.proofs.lemmas.Bool.{false≢true}
 use Rattle.app_tcp.proofs.receiving.Receiving.new.Goals as goal
 
@@ -6,5 +6,11 @@ pub returns-clause-stands : goal.returns-clause-stands
 returns-clause-stands c = λ initial buffer. record {
   reached = record { initial = initial; events = []; is = refl };
   holds = record { is_open = refl; next = λ is. absurd (false≢true is); held = refl; ended = refl };
-  keeps = λ some. absurd (omega arith);
+  keeps = record {
+    gap = c.new.ensures.none 0;
+    bytes = λ n some. absurd (false≢true (sym (c.new.ensures.none n) ∙ some));
+    fin = λ some. absurd (omega arith);
+    opened = λ n some. absurd (false≢true (sym (c.new.ensures.none n) ∙ some));
+    opened_fin = λ some. absurd (omega arith);
+  };
 }

@@ -17,7 +17,7 @@ returns-clause-stands c = λ w consumed stands.
     subst (λ (k : ℕ). Stands w (consumed ++ take k (drop self.start b)) d b) (sym size) (record {
       reached = stands.reached;
       holds = read_stands w.receiver consumed self d b n c.wrapped-self.result stands.holds c.requires.begin (omega (arith, c.requires.len)) c.wrapped-self.ensures.inside c.wrapped-self.ensures.same (omega (arith, c.min-n.ensures, c.min.ensures)) (omega (arith, c.min-n.ensures)) refl;
-      keeps = λ some. keeps_read w self b n c.wrapped-self.result (stands.keeps some) c.requires.begin c.requires.len c.wrapped-self.ensures.inside c.wrapped-self.ensures.same (omega (arith, c.min-n.ensures, c.min.ensures));
+      keeps = keeps_read w self b n c.wrapped-self.result stands.keeps c.requires.begin c.requires.len c.wrapped-self.ensures.inside c.wrapped-self.ensures.same (omega (arith, c.min-n.ensures, c.min.ensures));
     })
 
 pub returns-clause-delivers : goal.returns-clause-delivers
