@@ -22,6 +22,17 @@ finds() {
     grep "$@" > /dev/null
 }
 
+# fails_with MESSAGE COMMAND..: the command fails and prints this
+fails_with() {
+    local message=$1
+    shift
+    if "$@" > "$room/failure" 2>&1 || ! grep -qF -e "$message" "$room/failure"; then
+        echo "does not fail with '$message', but prints"
+        cat "$room/failure"
+        return 1
+    fi
+}
+
 # check_with TEST NAME COMMAND..: a check that needs tools. TEST is one command, or several with && between them. If one of
 # them fails, the check is skipped, because a tool is missing, or what it looks for. But a tool that is there and cannot
 # print its version is a failed check.
