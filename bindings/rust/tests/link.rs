@@ -15,9 +15,7 @@ const IPV6: &str = concat!(
 const ADDRESSES: &str = "020000000002020000000001";
 
 const RAW: u32 = 101;
-const LOOP: u32 = 108;
 const SLL: u32 = 113;
-const SLL2: u32 = 276;
 
 /// The offset of the packet, its EtherType, and the tags.
 type Found = (usize, Option<u16>, &'static [u16]);
@@ -25,62 +23,18 @@ type Found = (usize, Option<u16>, &'static [u16]);
 /// A link type, bytes in hex, how many of them are captured (0: all), and what is found.
 type Row = (u32, &'static [&'static str], usize, Result<Found, Reason>);
 
-/// The first two rows are captures of tcpdump on the loopback device. The other headers are written by hand from
-/// <https://www.tcpdump.org/linktypes.html>. They are those of the worked calls of the C library.
+/// By hand from <https://www.tcpdump.org/linktypes.html>. The worked calls of the C library have more rows.
 const ROWS: &[Row] = &[
     (SLL, &["00000304000600000000000000000800", IPV4], 0, Ok((16, Some(0x0800), &[]))),
-    (SLL2, &["0800000000000001030400060000000000000000", IPV4], 0, Ok((20, Some(0x0800), &[]))),
-    // an address family: of any system, in either byte order
-    (0, &["02000000", IPV4], 0, Ok((4, Some(0x0800), &[]))),
-    (0, &["00000002", IPV4], 0, Ok((4, Some(0x0800), &[]))),
-    (0, &["0a000000", IPV6], 0, Ok((4, Some(0x86dd), &[]))),
-    (0, &["18000000", IPV6], 0, Ok((4, Some(0x86dd), &[]))),
-    (0, &["0000001c", IPV6], 0, Ok((4, Some(0x86dd), &[]))),
-    (0, &["1e000000", IPV6], 0, Ok((4, Some(0x86dd), &[]))),
     (0, &["07000000", IPV4], 0, Ok((4, None, &[]))),
-    (0, &["00020000", IPV4], 0, Ok((4, None, &[]))),
     (0, &["02000000"], 3, Err(Reason::TooShort)),
-    (LOOP, &["00000002", IPV4], 0, Ok((4, Some(0x0800), &[]))),
-    (LOOP, &["00000018", IPV6], 0, Ok((4, Some(0x86dd), &[]))),
-    (LOOP, &["02000000", IPV4], 0, Ok((4, None, &[]))),
-    // no header
-    (RAW, &[IPV4], 0, Ok((0, Some(0x0800), &[]))),
     (RAW, &[IPV6], 0, Ok((0, Some(0x86dd), &[]))),
-    (12, &[IPV4], 0, Ok((0, Some(0x0800), &[]))),
-    (14, &[IPV6], 0, Ok((0, Some(0x86dd), &[]))),
-    (RAW, &["55000020"], 0, Err(Reason::BadVersion)),
     (RAW, &[], 0, Err(Reason::TooShort)),
-    (228, &[IPV4], 0, Ok((0, Some(0x0800), &[]))),
-    (229, &[IPV6], 0, Ok((0, Some(0x86dd), &[]))),
-    (228, &[IPV6], 0, Err(Reason::BadVersion)),
-    (229, &[IPV4], 0, Err(Reason::BadVersion)),
     (228, &[IPV6], 1, Err(Reason::BadVersion)),
-    (228, &[], 0, Err(Reason::TooShort)),
-    (229, &[], 0, Err(Reason::TooShort)),
-    // tags
     (1, &[ADDRESSES, "0800", IPV4], 0, Ok((14, Some(0x0800), &[]))),
     (1, &[ADDRESSES, "810000640800", IPV4], 0, Ok((18, Some(0x0800), &[100]))),
     (1, &[ADDRESSES, "88a8e0c88100006486dd", IPV6], 0, Ok((22, Some(0x86dd), &[0xe0c8, 100]))),
-    (1, &[ADDRESSES, "91000001810000020800", IPV4], 0, Ok((22, Some(0x0800), &[1, 2]))),
-    (1, &[ADDRESSES, "8100000181000002810000030800", IPV4], 0, Ok((22, Some(0x8100), &[1, 2]))),
-    (1, &[ADDRESSES, "810000640800", IPV4], 17, Err(Reason::TooShort)),
-    (1, &[ADDRESSES, "88a800c8810000640800", IPV4], 21, Err(Reason::TooShort)),
-    (1, &[ADDRESSES, "0800"], 13, Err(Reason::TooShort)),
     (1, &[ADDRESSES, "0026424203000000"], 0, Ok((14, Some(0x0026), &[]))),
-    (SLL, &["00000001000602000000000100008100", "00640800", IPV4], 0, Ok((20, Some(0x0800), &[100]))),
-    (
-        SLL2,
-        &["8100000000000001000100060200000000010000", "00640800", IPV4],
-        0,
-        Ok((24, Some(0x0800), &[100])),
-    ),
-    // cooked headers without an EtherType: netlink, radiotap, frame relay; but GRE has one
-    (SLL, &["00000338000000000000000000000800", IPV4], 0, Ok((16, None, &[]))),
-    (SLL, &["00000323000000000000000000000800", IPV4], 0, Ok((16, None, &[]))),
-    (SLL2, &["0800000000000001030200000000000000000000", IPV4], 0, Ok((20, None, &[]))),
-    (SLL2, &["0800000000000001030a00000000000000000000", IPV4], 0, Ok((20, Some(0x0800), &[]))),
-    (SLL2, &["0800000000000001030400060000000000000000", IPV4], 19, Err(Reason::TooShort)),
-    (105, &[ADDRESSES, "0800", IPV4], 0, Err(Reason::UnknownLink)),
     (u32::MAX, &[IPV4], 0, Err(Reason::UnknownLink)),
 ];
 
@@ -175,12 +129,9 @@ const ZEROS: &str = "0000000000000000";
 /// Bytes in hex, how many of them are captured, each header as number@offset+length:next, and the error after them.
 type Packet = (&'static [&'static str], usize, &'static str, Option<Reason>);
 
-/// By hand, from RFC 8200, sections 4.3 to 4.6, and RFC 6564 for a length of more than one unit.
+/// By hand, from RFC 8200, sections 4.3 to 4.6. The worked calls of the C library have more packets.
 const PACKETS: &[Packet] = &[
     (&[IPV6], 52, "41@0+40:17", None),
-    (&["6000000000000040", ENDS], 40, "41@0+40:0", Some(Reason::BadLength)),
-    (&["6000000000083b40", ENDS, ZEROS], 48, "41@0+40:59", None),
-    (&["6000000000100040", ENDS, "1100050200000100", UDP], 56, "41@0+40:0 0@40+8:17", None),
     (
         &[
             "6000000000280040",
@@ -194,17 +145,7 @@ const PACKETS: &[Packet] = &[
         None,
     ),
     (&["6000000000102c40", ENDS, "1100000800000001", UDP], 56, "41@0+40:44 44@40+8:59", None),
-    (&["6000000000103c40", ENDS, "1101000000000000", ZEROS], 56, "41@0+40:60 60@40+16:17", None),
     (&["6000000000103c40", ENDS, "1101000000000000", ZEROS], 55, "41@0+40:60", Some(Reason::BadLength)),
-    (
-        &["6000000000103c40", ENDS, "1102000000000000", ZEROS, ZEROS],
-        64,
-        "41@0+40:60",
-        Some(Reason::BadLength),
-    ),
-    (&["6000000000073c40", ENDS, "1100000000000000"], 48, "41@0+40:60", Some(Reason::BadLength)),
-    (&["6000000000103340", ENDS, "1101000000000000", ZEROS], 56, "41@0+40:51 51@40+12:17", None),
-    (&["6000000000103240", ENDS, "1100000000000000", ZEROS], 56, "41@0+40:50", None),
     (&["4000000000103c40", ENDS, "1100000000000000", ZEROS], 56, "", Some(Reason::BadVersion)),
     (&[IPV6], 39, "", Some(Reason::TooShort)),
 ];
