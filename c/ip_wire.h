@@ -194,15 +194,106 @@ int lk_is_unicast(const struct lk_addr *addr);
 
 /* ---- headers: stored by lk_read_.., and written by the calls lk_emit_.. ---- */
 
+/* Lengths of headers without options, and of an ARP packet, in bytes. */
+enum lk_header_len {
+    LK_UDP_HEADER_LEN = 8,
+    LK_ICMP_HEADER_LEN = 8,
+    LK_ETHERNET_HEADER_LEN = 14,
+    LK_IPV4_HEADER_LEN = 20,
+    LK_TCP_HEADER_LEN = 20,
+    LK_ARP_LEN = 28,
+    LK_IPV6_HEADER_LEN = 40
+};
+
+/* EtherTypes (IANA, IEEE 802 numbers). The last three are those of VLAN tags. */
+enum lk_ethertype {
+    LK_ETHERTYPE_IPV4 = 0x0800,
+    LK_ETHERTYPE_ARP = 0x0806,
+    LK_ETHERTYPE_IPV6 = 0x86dd,
+    LK_ETHERTYPE_VLAN = 0x8100,
+    LK_ETHERTYPE_SERVICE_VLAN = 0x88a8,
+    LK_ETHERTYPE_QINQ = 0x9100
+};
+
+/* IP protocols (IANA, protocol numbers). */
+enum lk_protocol {
+    LK_PROTOCOL_HOP_BY_HOP = 0,
+    LK_PROTOCOL_ICMP = 1,
+    LK_PROTOCOL_IGMP = 2,
+    LK_PROTOCOL_TCP = 6,
+    LK_PROTOCOL_UDP = 17,
+    LK_PROTOCOL_IPV6 = 41,
+    LK_PROTOCOL_IPV6_ROUTE = 43,
+    LK_PROTOCOL_IPV6_FRAGMENT = 44,
+    LK_PROTOCOL_ESP = 50,
+    LK_PROTOCOL_AH = 51,
+    LK_PROTOCOL_ICMPV6 = 58,
+    LK_PROTOCOL_IPV6_NO_NEXT = 59,
+    LK_PROTOCOL_IPV6_OPTIONS = 60,
+    LK_PROTOCOL_SCTP = 132
+};
+
+/* Operations of ARP (RFC 826). */
+enum lk_arp_operation {
+    LK_ARP_REQUEST = 1,
+    LK_ARP_REPLY = 2
+};
+
+/* Types of ICMP messages over IPv4 (RFC 792). */
+enum lk_icmp_type {
+    LK_ICMP_ECHO_REPLY = 0,
+    LK_ICMP_UNREACHABLE = 3,
+    LK_ICMP_SOURCE_QUENCH = 4,
+    LK_ICMP_REDIRECT = 5,
+    LK_ICMP_ECHO_REQUEST = 8,
+    LK_ICMP_TIME_EXCEEDED = 11,
+    LK_ICMP_PARAMETER_PROBLEM = 12
+};
+
+/* Codes of an ICMP error of the type unreachable over IPv4 (RFC 792; RFC 1812, section 5.2.7.1). */
+enum lk_icmp_code {
+    LK_ICMP_CODE_NET = 0,
+    LK_ICMP_CODE_HOST = 1,
+    LK_ICMP_CODE_PROTOCOL = 2,
+    LK_ICMP_CODE_PORT = 3,
+    LK_ICMP_CODE_FRAGMENTATION_NEEDED = 4,
+    LK_ICMP_CODE_PROHIBITED = 13
+};
+
+/* Types of ICMP messages over IPv6 (RFC 4443; RFC 2710; RFC 4861). Those of errors are below 128. */
+enum lk_icmpv6_type {
+    LK_ICMPV6_UNREACHABLE = 1,
+    LK_ICMPV6_PACKET_TOO_BIG = 2,
+    LK_ICMPV6_TIME_EXCEEDED = 3,
+    LK_ICMPV6_PARAMETER_PROBLEM = 4,
+    LK_ICMPV6_ECHO_REQUEST = 128,
+    LK_ICMPV6_ECHO_REPLY = 129,
+    LK_ICMPV6_MLD_QUERY = 130,
+    LK_ICMPV6_MLD_REPORT = 131,
+    LK_ICMPV6_ROUTER_SOLICITATION = 133,
+    LK_ICMPV6_ROUTER_ADVERTISEMENT = 134,
+    LK_ICMPV6_NEIGHBOUR_SOLICITATION = 135,
+    LK_ICMPV6_NEIGHBOUR_ADVERTISEMENT = 136,
+    LK_ICMPV6_REDIRECT = 137
+};
+
+/* Codes of an ICMP error of the type unreachable over IPv6 (RFC 4443, section 3.1). */
+enum lk_icmpv6_code {
+    LK_ICMPV6_CODE_NO_ROUTE = 0,
+    LK_ICMPV6_CODE_PROHIBITED = 1,
+    LK_ICMPV6_CODE_ADDRESS = 3,
+    LK_ICMPV6_CODE_PORT = 4
+};
+
 struct lk_ethernet {
     uint8_t src[6];
     uint8_t dst[6];
-    uint16_t type; /* 0x0800 IPv4, 0x0806 ARP, 0x86dd IPv6; up to 1500 it is the length of an IEEE 802.3 frame */
+    uint16_t type; /* an `lk_ethertype`; up to 1500 it is the length of an IEEE 802.3 frame */
 };
 
 /* An ARP packet for Ethernet and IPv4 (RFC 826), without its IPv4 addresses. */
 struct lk_arp {
-    uint16_t operation; /* 1: request, 2: reply */
+    uint16_t operation; /* an `lk_arp_operation` */
     uint8_t src_hardware[6];
     uint8_t dst_hardware[6];
 };
@@ -212,8 +303,7 @@ struct lk_ip {
     uint32_t ident;           /* IPv4: 16 bits; IPv6: of the fragment header */
     uint32_t flow_label;      /* IPv6: 20 bits */
     uint16_t fragment_offset; /* in bytes, a multiple of 8 */
-    uint8_t protocol;         /* 1: ICMP, 6: TCP, 17: UDP, 44: an IPv6 fragment header, 58: ICMPv6; of IPv6 the number of
-                               * the header that follows directly */
+    uint8_t protocol;         /* an `lk_protocol`; of IPv6 that of the header that follows directly */
     uint8_t hop_limit;        /* 64 is usual; 0 is read, and cannot be written */
     uint8_t dscp;             /* 6 bits; of IPv6 those of the traffic class */
     uint8_t ecn;              /* 2 bits */
@@ -269,8 +359,8 @@ struct lk_tcp_options {
  * or the beginning of the packet that an error is about. */
 struct lk_icmp {
     uint32_t word; /* bytes 4 to 7: of an echo, identifier * 65536 + sequence number; of errors, an MTU or a pointer */
-    uint8_t type;
-    uint8_t code;
+    uint8_t type;  /* an `lk_icmp_type`, over IPv6 an `lk_icmpv6_type` */
+    uint8_t code;  /* an `lk_icmp_code` or `lk_icmpv6_code` if the type is unreachable */
 };
 
 /* A neighbour solicitation or advertisement (RFC 4861, sections 4.3 and 4.4). */
@@ -344,7 +434,8 @@ struct lk_frame {
     uint8_t is_fragment;        /* 1: a part of an IP packet, so only ports of its payload are stored */
     uint8_t ipv4_checksum;      /* an `lk_verdict` */
     uint8_t transport_checksum; /* an `lk_verdict` */
-    uint8_t protocol;           /* the number of the transport header or the payload, after IPv6 extension headers */
+    uint8_t protocol;           /* an `lk_protocol`: that of the transport header or the payload, after IPv6 extension
+                                 * headers */
     uint8_t unused[4];          /* 0 */
     struct lk_icmp icmp;
 };
@@ -414,6 +505,18 @@ int lk_read_packet(const uint8_t *ptr, size_t len, struct lk_frame *frame);
 int lk_read_captured(const uint8_t *ptr, size_t captured, size_t len, struct lk_frame *frame);
 int lk_read_captured_packet(const uint8_t *ptr, size_t captured, size_t len, struct lk_frame *frame);
 
+/* Link types of capture files (www.tcpdump.org/linktypes.html). */
+enum lk_linktype {
+    LK_LINKTYPE_NULL = 0,
+    LK_LINKTYPE_ETHERNET = 1,
+    LK_LINKTYPE_RAW = 101,
+    LK_LINKTYPE_LOOP = 108,
+    LK_LINKTYPE_LINUX_SLL = 113,
+    LK_LINKTYPE_IPV4 = 228,
+    LK_LINKTYPE_IPV6 = 229,
+    LK_LINKTYPE_LINUX_SLL2 = 276
+};
+
 /* A link-layer header. */
 struct lk_link {
     size_t offset;     /* where the packet begins: the length of the header and its VLAN tags, in bytes */
@@ -424,7 +527,7 @@ struct lk_link {
 };
 
 /* Parses the link-layer header of a packet of which `captured` bytes are at `ptr`, stores it and returns LK_READ.
- * `link_type` is the number in a capture file, or from `pcap_datalink` of libpcap (www.tcpdump.org/linktypes.html):
+ * `link_type` is an `lk_linktype`, from a capture file or from `pcap_datalink` of libpcap:
  *
  *   link type    name        header
  *   0            NULL        an address family, in either byte order
@@ -435,12 +538,13 @@ struct lk_link {
  *   228, 229     IPV4, IPV6  none: the packet must have this version
  *   276          LINUX_SLL2  the second version of LINUX_SLL, 20 bytes
  *
- * - `type` is 0x0800 for the address family 2, 0x86dd for 10, 24, 28 and 30, and 0 for others. Without a header it is
- *   that of the version in the first byte of the packet.
+ * - `type` is LK_ETHERTYPE_IPV4 for the address family 2, LK_ETHERTYPE_IPV6 for 10, 24, 28 and 30, and 0 for others.
+ *   Without a header it is that of the version in the first byte of the packet.
  * - Of a cooked header it is the protocol field. It is 0 if the packet comes from a device for frame relay, radiotap
  *   or netlink (ARPHRD 770, 803 and 824), whose protocol field has another meaning.
- * - Up to two VLAN tags are skipped, of the types 0x8100, 0x88a8 and 0x9100 (IEEE 802.1Q). Before a third tag `type` is
- *   one of these, and the packet begins at the control information of that tag.
+ * - Up to two VLAN tags are skipped, of the types LK_ETHERTYPE_VLAN, LK_ETHERTYPE_SERVICE_VLAN and LK_ETHERTYPE_QINQ
+ *   (IEEE 802.1Q). Before a third tag `type` is one of these, and the packet begins at the control information of that
+ *   tag.
  *
  * Returns LK_UNKNOWN_LINK; LK_TOO_SHORT if the header or a tag is not there as a whole, or without a header if no byte is
  * there; or LK_BAD_VERSION if a packet without a header has no version of its link type. Then nothing is stored. */
@@ -508,8 +612,8 @@ const char *lk_tcp_flag_name(int flag);
 struct lk_ipv6_header {
     uint32_t offset;  /* of its first byte in the packet */
     uint16_t len;     /* of the whole header, in bytes; 0: before the first header */
-    uint8_t protocol; /* its own number; 41: the IPv6 header */
-    uint8_t next;     /* the number of what follows it; 59: nothing */
+    uint8_t protocol; /* its own number, an `lk_protocol`; LK_PROTOCOL_IPV6: the IPv6 header */
+    uint8_t next;     /* the number of what follows it; LK_PROTOCOL_IPV6_NO_NEXT: nothing */
 };
 
 /* Steps to the next header of an IPv6 packet, and returns 1: first to the IPv6 header, then to its extension headers
@@ -519,15 +623,15 @@ struct lk_ipv6_header {
  * within the packet and its `len` captured bytes; then `header` is unchanged.
  *
  * After 0 the packet of protocol `next` begins at `offset + len`. After the header of a fragment that is not the first
- * `next` is 59, because there the payload begins in the middle of the packet. Hop-by-hop options that do not follow the
- * IPv6 header directly are a header as the others, and so is a routing header with segments left: lk_read_packet rejects
- * both.
+ * `next` is LK_PROTOCOL_IPV6_NO_NEXT, because there the payload begins in the middle of the packet. Hop-by-hop options
+ * that do not follow the IPv6 header directly are a header as the others, and so is a routing header with segments
+ * left: lk_read_packet rejects both.
  *
  *     struct lk_ipv6_header header = {0, 0, 0, 0};
  *     int found;
  *     while ((found = lk_next_ipv6_header(ptr, len, &header)) == 1)
  *         ... ptr[header.offset] ...
- *     if (found == 0 && header.next == 17)
+ *     if (found == 0 && header.next == LK_PROTOCOL_UDP)
  *         ... ptr[header.offset + header.len] ... */
 int lk_next_ipv6_header(const uint8_t *ptr, size_t len, struct lk_ipv6_header *header);
 
@@ -1228,8 +1332,9 @@ size_t lk_expire(struct lk_partial *partials, size_t count, const uint8_t *memor
  * - Of the Ethernet header only the EtherType is used. For a frame with VLAN tags give `frame + link.offset - 14`, where
  *   `link` is that of lk_read_link. lk_clamp_mss takes these too.
  * - A packet without an Ethernet header needs no copy if at least 14 bytes of the same buffer are before it: write the
- *   EtherType, 0x0800 or 0x86DD, to the two bytes before the packet, and give `packet - 14` and 14 bytes more as `len`. So
- *   read a TUN device to `buffer + 14`. In a Linux cooked capture (LINKTYPE_LINUX_SLL) these two bytes have the EtherType.
+ *   EtherType, LK_ETHERTYPE_IPV4 or LK_ETHERTYPE_IPV6, in network byte order to the two bytes before the packet, and
+ *   give `packet - 14` and 14 bytes more as `len`. So read a TUN device to `buffer + 14`. In a Linux cooked capture
+ *   (LINKTYPE_LINUX_SLL) these two bytes have the EtherType.
  * - The checksum of TCP or UDP is updated as one that covers the destination in the header. If an IPv4 source route has
  *   hops left, it covers the last address of the route: a new destination then makes a valid one wrong.
  * - Any `side` but LK_SOURCE is the destination.

@@ -170,7 +170,7 @@ static inline unsigned long on_conflict(struct addresses *all, int64_t now, stru
 static inline unsigned long hear_addresses(struct addresses *all, int64_t now, const struct lk_frame *in, const uint8_t *frame,
                                            size_t len)
 {
-    int is_query = in->network == LK_IPV6 && in->transport == LK_ICMP && in->icmp.type == MLD_QUERY;
+    int is_query = in->network == LK_IPV6 && in->transport == LK_ICMP && in->icmp.type == LK_ICMPV6_MLD_QUERY;
     uint8_t other[6];
     unsigned long count = 0;
     for (struct address *one = all->list; one < all->list + all->count; one++) {

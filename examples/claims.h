@@ -5,7 +5,8 @@
 
 #include "listener.h"
 
-enum { ARP_REQUEST = 1, LONGEST_REQUEST = 14 + 72 };
+/* that with a neighbour solicitation of 32 bytes */
+enum { LONGEST_REQUEST = LK_ETHERNET_HEADER_LEN + LK_IPV6_HEADER_LEN + 32 };
 /* An address is used if nobody else has said PROBE_TIME after the question that he has it. One that is used is announced
  * again at a conflict, at most once in BETWEEN_CONFLICTS (RFC 5227, section 2.4 c). In milliseconds. */
 enum { PROBE_TIME = 1000, BETWEEN_CONFLICTS = 10000 };
@@ -28,7 +29,7 @@ static inline size_t write_request(const uint8_t *own, const struct lk_addr *src
                                    const uint8_t *hardware, uint8_t out[LONGEST_REQUEST])
 {
     struct lk_ndisc solicitation = {.target = *target, .has_hardware = (uint8_t)lk_is_unicast(src)};
-    struct lk_frame request = {.src = {.addr = *src}, .dst = {.addr = *target}, .arp = {.operation = ARP_REQUEST}};
+    struct lk_frame request = {.src = {.addr = *src}, .dst = {.addr = *target}, .arp = {.operation = LK_ARP_REQUEST}};
     memcpy(request.ethernet.src, own, 6);
     memcpy(request.arp.src_hardware, own, 6);
     memcpy(solicitation.hardware, own, 6);

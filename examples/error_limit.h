@@ -19,17 +19,30 @@ struct error_limit {
     uint64_t key[2];              /* random, so that nobody can choose an address with the hash of another */
 };
 
+/* Whether a packet is the ICMP error "packet too big" (RFC 4443, section 3.2), over IPv4 "fragmentation needed" (RFC
+ * 1191). */
+static inline int is_too_big(const struct lk_frame *in)
+{
+    if (in->network == LK_IPV6)
+        return in->transport == LK_ICMP && in->icmp.type == LK_ICMPV6_PACKET_TOO_BIG;
+    return in->transport == LK_ICMP && in->icmp.type == LK_ICMP_UNREACHABLE
+           && in->icmp.code == LK_ICMP_CODE_FRAGMENTATION_NEEDED;
+}
+
 /* Which ICMP error a frame that this program wrote is, and to whom. */
 static inline enum error_kind error_kind_of(const uint8_t *frame, size_t len, struct lk_addr *receiver)
 {
-    enum { LONGEST_HEADERS = 14 + 40 + 8 }; /* nothing after them is parsed, so no payload is summed */
+    /* nothing after them is parsed, so no payload is summed */
+    enum { LONGEST_HEADERS = LK_ETHERNET_HEADER_LEN + LK_IPV6_HEADER_LEN + LK_ICMP_HEADER_LEN };
     struct lk_frame f;
     lk_read_captured(frame, len < LONGEST_HEADERS ? len : LONGEST_HEADERS, len, &f);
     *receiver = f.dst.addr;
+    const struct lk_icmp *icmp = &f.icmp;
     int is_ipv4 = f.network == LK_IPV4;
-    if (f.transport != LK_ICMP || (is_ipv4 ? f.icmp.type == 0 || f.icmp.type == 8 : f.icmp.type >= 128))
+    if (f.transport != LK_ICMP || (is_ipv4 ? icmp->type == LK_ICMP_ECHO_REPLY || icmp->type == LK_ICMP_ECHO_REQUEST
+                                           : icmp->type >= LK_ICMPV6_ECHO_REQUEST))
         return NO_ERROR;
-    return (is_ipv4 ? f.icmp.type == 3 && f.icmp.code == 4 : f.icmp.type == 2) ? TOO_BIG : OTHER_ERROR;
+    return is_too_big(&f) ? TOO_BIG : OTHER_ERROR;
 }
 
 /* The bucket of a receiver. */

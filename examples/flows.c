@@ -239,7 +239,7 @@ static void print_flow(const struct flow *flow, int allowed)
     const struct lk_endpoint *ends = flow->key.ends;
     const struct side *sides = flow->sides;
     int protocol = flow->key.protocol;
-    printf(protocol == 6 ? "TCP" : protocol == 17 ? "UDP" : "protocol %d", protocol);
+    printf(protocol == LK_PROTOCOL_TCP ? "TCP" : protocol == LK_PROTOCOL_UDP ? "UDP" : "protocol %d", protocol);
     for (int i = 0; i < 2; i++) {
         char text[LK_ENDPOINT_TEXT];
         if (ends[0].port != 0 || ends[1].port != 0)

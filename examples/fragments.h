@@ -8,7 +8,7 @@
 #include <sys/random.h>
 
 /* How many packets are put together at a time, and the longest frame with a packet, which is of IPv6. */
-enum { MOST_PARTIALS = 64, LONGEST_WHOLE = 14 + 40 + 65535 };
+enum { MOST_PARTIALS = 64, LONGEST_WHOLE = LK_ETHERNET_HEADER_LEN + LK_IPV6_HEADER_LEN + 65535 };
 enum { PARTIALS_MEMORY = MOST_PARTIALS * LK_PARTIAL_MEMORY };
 /* Of these one sender has at most so many. One more takes the place of its oldest one, so that a sender neither takes the place
  * of others (RFC 4787, REQ-14; RFC 6888, REQ-4), nor is silent for a minute after it has lost some fragments. */
@@ -34,7 +34,7 @@ static inline int make_fragments(struct fragments *fragments)
 /* Whether a frame has a fragment, also an atomic one (RFC 6946). */
 static inline int is_fragment(const struct lk_frame *in)
 {
-    return in->is_fragment || (in->network == LK_IPV6 && in->ip.protocol == 44);
+    return in->is_fragment || (in->network == LK_IPV6 && in->ip.protocol == LK_PROTOCOL_IPV6_FRAGMENT);
 }
 
 static inline int is_fragment_for(const struct lk_host *host, const struct lk_frame *in)
@@ -47,7 +47,8 @@ static inline int is_fragment_for(const struct lk_host *host, const struct lk_fr
 /* Neighbour discovery must not come in fragments (RFC 6980, section 5), not even in atomic ones. */
 static inline int is_ndisc(const uint8_t *frame, size_t len)
 {
-    enum { LONGEST_HEADERS = 14 + 40 + 8, FIRST = 133, LAST = 137 };
+    enum { LONGEST_HEADERS = LK_ETHERNET_HEADER_LEN + LK_IPV6_HEADER_LEN + LK_ICMP_HEADER_LEN };
+    enum { FIRST = LK_ICMPV6_ROUTER_SOLICITATION, LAST = LK_ICMPV6_REDIRECT };
     struct lk_frame f;
     lk_read_captured(frame, len < LONGEST_HEADERS ? len : LONGEST_HEADERS, len, &f);
     return f.network == LK_IPV6 && f.transport == LK_ICMP && f.icmp.type >= FIRST && f.icmp.type <= LAST;
@@ -115,7 +116,7 @@ static inline int until_expire(const struct fragments *fragments)
 static inline int64_t next_ident(struct fragments *fragments, const uint8_t *frame)
 {
     const uint32_t ident = fragments->ident++;
-    return frame[14] >> 4 == 4 ? ident % 65536 : ident;
+    return frame[LK_ETHERNET_HEADER_LEN] >> 4 == 4 ? ident % 65536 : ident;
 }
 
 #endif

@@ -7,7 +7,7 @@
 #include <string.h>
 #include <sys/random.h>
 
-enum { REPORT_LEN = 86, MLD_QUERY = 130 };
+enum { REPORT_LEN = 86 };
 
 struct listener {
     int64_t report_at; /* when the groups of an interface are reported next, in milliseconds; 0: not before a query */

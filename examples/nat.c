@@ -14,7 +14,7 @@
 #include <sys/random.h>
 
 enum { OUTSIDE = 0, FIRST_PORT = 1024, PORTS = 65536 - FIRST_PORT, MAPPINGS = LK_MAPPINGS(PORTS), MOST_OF_ONE = PORTS / 4 };
-enum { UDP = 17, TCP = 6, ICMP = 1, ECHO_REQUEST = 8, PROTOCOLS = 3 };
+enum { PROTOCOLS = 3 };
 enum { MOST_FORWARDS = 64, MINUTE = 60000, BETWEEN_SEARCHES = 20 }; /* the times in milliseconds */
 
 static const char help[] =
@@ -67,25 +67,25 @@ static int translated(translate *call, const struct router *router, struct packe
 /* The place of the mapping that gave a packet its outside port. MAPPINGS: the packet is an ICMP error. */
 static size_t place_of(const uint8_t *frame)
 {
-    const uint8_t *header = frame + ETHERNET_LEN, *transport = header + header[0] % 16 * 4;
-    size_t part = header[9] == UDP ? 0 : header[9] == TCP ? 1 : 2;
+    const uint8_t *header = frame + LK_ETHERNET_HEADER_LEN, *transport = header + header[0] % 16 * 4;
+    size_t part = header[9] == LK_PROTOCOL_UDP ? 0 : header[9] == LK_PROTOCOL_TCP ? 1 : 2;
     const uint8_t *place = part < 2 ? transport : transport + 4;
     size_t port = (size_t)place[0] << 8 | place[1];
-    int is_error = part == 2 && transport[0] != ECHO_REQUEST;
+    int is_error = part == 2 && transport[0] != LK_ICMP_ECHO_REQUEST;
     return is_error || port < FIRST_PORT ? MAPPINGS : part * PORTS + port - FIRST_PORT;
 }
 
 /* Reads the inside endpoint of a packet that leaves. Returns its protocol as for `full_until`, or PROTOCOLS: it has none. */
 static size_t read_endpoint(const struct packet *packet, struct lk_mapping *endpoint)
 {
-    const uint8_t *header = packet->frame + ETHERNET_LEN, *transport = header + header[0] % 16 * 4;
+    const uint8_t *header = packet->frame + LK_ETHERNET_HEADER_LEN, *transport = header + header[0] % 16 * 4;
     if (transport + 8 > packet->frame + packet->len)
         return PROTOCOLS;
-    int is_echo = header[9] == ICMP && transport[0] == ECHO_REQUEST;
+    int is_echo = header[9] == LK_PROTOCOL_ICMP && transport[0] == LK_ICMP_ECHO_REQUEST;
     const uint8_t *port = is_echo ? transport + 4 : transport;
     memcpy(endpoint->inside, header + 12, 4);
     endpoint->inside_port = (uint16_t)(port[0] << 8 | port[1]);
-    return header[9] == UDP ? 0 : header[9] == TCP ? 1 : is_echo ? 2 : PROTOCOLS;
+    return header[9] == LK_PROTOCOL_UDP ? 0 : header[9] == LK_PROTOCOL_TCP ? 1 : is_echo ? 2 : PROTOCOLS;
 }
 
 /* The time before which no port of a protocol gets free: none has a mapping that ends earlier, or can get one that does. One
@@ -145,7 +145,7 @@ static void each_minute(struct router *router)
 static void store_dst(const struct packet *packet, struct lk_addr *dst)
 {
     *dst = (struct lk_addr){.version = 4};
-    memcpy(dst->octets, packet->frame + ETHERNET_LEN + 16, 4);
+    memcpy(dst->octets, packet->frame + LK_ETHERNET_HEADER_LEN + 16, 4);
 }
 
 static int is_outside_address(const struct lk_addr *addr)
@@ -160,7 +160,7 @@ static int before_route(struct router *router, uint16_t from, const struct lk_fr
 {
     int is_to_outside = is_outside_address(dst), rejection = LK_NOT_REJECTED;
     each_minute(router);
-    if (is_to_outside ? in->transport == LK_ICMP && in->icmp.type == ECHO_REQUEST : from != OUTSIDE)
+    if (is_to_outside ? in->transport == LK_ICMP && in->icmp.type == LK_ICMP_ECHO_REQUEST : from != OUTSIDE)
         return LK_NOT_REJECTED;
     if (from != OUTSIDE)
         rejection = translated_out(router, packet);

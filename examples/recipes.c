@@ -29,7 +29,10 @@ static int is_usable(void)
     return lk_cpu_supported() && lk_version() >> 8 == (LK_VERSION_MAJOR << 8 | LK_VERSION_MINOR);
 }
 
-/* Writes a UDP packet whose payload was put at byte 42 of `out`, as by `read`. */
+/* Where the payload of a UDP packet over IPv4 begins in its frame. */
+enum { UDP_PAYLOAD = LK_ETHERNET_HEADER_LEN + LK_IPV4_HEADER_LEN + LK_UDP_HEADER_LEN };
+
+/* Writes a UDP packet whose payload was put at UDP_PAYLOAD of `out`, as by `read`. */
 static ptrdiff_t write_around(size_t payload_len, uint8_t *out, size_t cap)
 {
     struct lk_frame headers = {.ethernet = {{2, 0, 0, 0, 0, 1}, {2, 0, 0, 0, 0, 2}, 0},
@@ -68,14 +71,17 @@ static int redirect_virtio(uint8_t *frame, size_t len, unsigned flags)
            lk_set_bytes_as(frame, len, len - 1, (const uint8_t *)"!", 1, offload);
 }
 
-/* Lowers the hop limit of a packet of a TUN device, read to `buffer + 14`. Edits need the EtherType before the packet. */
+/* Lowers the hop limit of a packet of a TUN device, which was read to `buffer + LK_ETHERNET_HEADER_LEN`. Edits need the
+ * EtherType before the packet. */
 static int lower_hop_limit(uint8_t *buffer, size_t len)
 {
     struct lk_frame f;
-    if (lk_read_packet(buffer + 14, len, &f) != LK_READ || f.ip.hop_limit < 2)
+    uint8_t *packet = buffer + LK_ETHERNET_HEADER_LEN;
+    if (lk_read_packet(packet, len, &f) != LK_READ || f.ip.hop_limit < 2)
         return 0;
-    memcpy(buffer + 12, f.network == LK_IPV4 ? "\x08\x00" : "\x86\xdd", 2);
-    return lk_set_hop_limit(buffer, len + 14, (uint8_t)(f.ip.hop_limit - 1));
+    const unsigned type = f.network == LK_IPV4 ? LK_ETHERTYPE_IPV4 : LK_ETHERTYPE_IPV6;
+    memcpy(packet - 2, (uint8_t[]){(uint8_t)(type >> 8), (uint8_t)type}, 2);
+    return lk_set_hop_limit(buffer, LK_ETHERNET_HEADER_LEN + len, (uint8_t)(f.ip.hop_limit - 1));
 }
 
 /* Source NAT of one packet, without a table. */
@@ -91,7 +97,7 @@ static void update(uint16_t *ipv4_checksum, uint16_t *udp_checksum, const struct
 {
     *ipv4_checksum = lk_update_checksum_addr(*ipv4_checksum, &before->addr, &after->addr);
     /* the word of hop limit and protocol */
-    *ipv4_checksum = lk_update_checksum(*ipv4_checksum, 64 << 8 | 17, 63 << 8 | 17);
+    *ipv4_checksum = lk_update_checksum(*ipv4_checksum, 64 << 8 | LK_PROTOCOL_UDP, 63 << 8 | LK_PROTOCOL_UDP);
     *udp_checksum = lk_update_udp_checksum_addr(*udp_checksum, &before->addr, &after->addr);
     *udp_checksum = lk_update_udp_checksum(*udp_checksum, before->port, after->port);
 }
@@ -108,10 +114,10 @@ static int replace(uint8_t *frame, size_t len, const char *text)
 /* Adds a VLAN tag (IEEE 802.1Q). `frame` has room for 4 bytes more. Returns the new length. */
 static size_t add_tag(uint8_t *frame, size_t len, unsigned vlan)
 {
-    if (len < 14)
+    if (len < LK_ETHERNET_HEADER_LEN)
         return len;
     memmove(frame + 16, frame + 12, len - 12);
-    memcpy(frame + 12, (uint8_t[]){0x81, 0, (uint8_t)(vlan >> 8 & 15), (uint8_t)vlan}, 4);
+    memcpy(frame + 12, (uint8_t[]){LK_ETHERTYPE_VLAN >> 8, 0, (uint8_t)(vlan >> 8 & 15), (uint8_t)vlan}, 4);
     return len + 4;
 }
 
@@ -119,23 +125,23 @@ static size_t add_tag(uint8_t *frame, size_t len, unsigned vlan)
 static size_t remove_tags(uint8_t *frame, size_t len)
 {
     struct lk_link link;
-    if (lk_read_link(1, frame, len, &link) != LK_READ)
+    if (lk_read_link(LK_LINKTYPE_ETHERNET, frame, len, &link) != LK_READ)
         return len;
     memmove(frame + 12, frame + link.offset - 2, len - link.offset + 2);
-    return len - (link.offset - 14);
+    return len - (link.offset - LK_ETHERNET_HEADER_LEN);
 }
 
 /* Replies to an echo request for `own`, if the checksums are right. */
 static ptrdiff_t pong(const struct lk_addr *own, const uint8_t *frame, size_t len, uint8_t *out, size_t cap)
 {
     struct lk_frame f;
-    if (lk_read_frame(frame, len, &f) != LK_READ || f.transport != LK_ICMP || f.icmp.type != 8 ||
+    if (lk_read_frame(frame, len, &f) != LK_READ || f.transport != LK_ICMP || f.icmp.type != LK_ICMP_ECHO_REQUEST ||
         f.ipv4_checksum != LK_RIGHT || f.transport_checksum != LK_RIGHT)
         return 0;
     if (memcmp(&f.dst.addr, own, sizeof *own) != 0 || !lk_is_unicast(&f.src.addr))
         return 0;
     lk_reply(&f);
-    f.icmp.type = 0;
+    f.icmp.type = LK_ICMP_ECHO_REPLY;
     return lk_emit_icmp_frame(&f, frame + f.payload_offset, f.payload_len, out, cap);
 }
 
@@ -146,7 +152,7 @@ static ptrdiff_t write_syn(size_t payload_len, uint8_t *out, size_t cap)
     struct lk_frame headers = {.ip = {.hop_limit = 64}, .tcp = {1, 2, 64240, 0, LK_SYN | LK_ACK, 0}};
     headers.src = (struct lk_endpoint){addr_of("192.0.2.1"), 80};
     headers.dst = (struct lk_endpoint){addr_of("192.0.2.2"), 4000};
-    /* the payload begins at out[34 + lk_tcp_header_len(&options)] */
+    /* the payload begins at out[LK_ETHERNET_HEADER_LEN + LK_IPV4_HEADER_LEN + lk_tcp_header_len(&options)] */
     return lk_wrap_tcp_frame(&headers, &options, payload_len, out, cap);
 }
 
@@ -177,7 +183,7 @@ static void print_flags(const uint8_t *frame, size_t len)
 /* Writes an echo request for a raw socket (IPPROTO_ICMP), without an IP header. Over IPv4 no address is summed. */
 static ptrdiff_t ping_message(uint16_t ident, uint16_t number, uint8_t *out, size_t cap)
 {
-    const struct lk_icmp echo = {(uint32_t)ident << 16 | number, 8, 0};
+    const struct lk_icmp echo = {(uint32_t)ident << 16 | number, LK_ICMP_ECHO_REQUEST, 0};
     const struct lk_addr any = addr_of("0.0.0.0");
     return lk_emit_icmp(&echo, &any, &any, (const uint8_t *)"data", 4, 1, out, cap);
 }
@@ -209,13 +215,13 @@ int main(void)
     uint8_t frame[128], out[128];
     const struct lk_frame echo = {.ethernet = {{2, 0, 0, 0, 0, 1}, {2, 0, 0, 0, 0, 2}, 0},
                                   .src = {addr_of("192.0.2.1"), 0}, .dst = {addr_of("192.0.2.2"), 0},
-                                  .ip = {.hop_limit = 64}, .icmp = {7u << 16 | 1, 8, 0}};
+                                  .ip = {.hop_limit = 64}, .icmp = {7u << 16 | 1, LK_ICMP_ECHO_REQUEST, 0}};
     const struct lk_endpoint before = {addr_of("192.0.2.2"), 53}, after = {addr_of("198.51.100.7"), 5353};
     uint16_t ipv4_checksum, udp = 0;
     ptrdiff_t len;
     if (!is_usable())
         return 1;
-    memcpy(frame + 42, "hello", 5);
+    memcpy(frame + UDP_PAYLOAD, "hello", 5);
     len = write_around(5, frame, sizeof frame);
     print("written", frame, len);
     printf("UDP checksum: 0x%04x\n", udp_checksum(frame, (size_t)len));
@@ -233,11 +239,11 @@ int main(void)
     print("without it", frame, len);
     redirect_virtio(frame, (size_t)len, 0);
     hide_source(frame, (size_t)len);
-    lower_hop_limit(frame, (size_t)len - 14);
+    lower_hop_limit(frame, (size_t)len - LK_ETHERNET_HEADER_LEN);
     print("translated", frame, len);
-    print_captured(1, frame, 45, (size_t)len);
+    print_captured(LK_LINKTYPE_ETHERNET, frame, UDP_PAYLOAD + 3, (size_t)len);
     judge(frame, (size_t)len);
-    frame[44] ^= 1;
+    frame[UDP_PAYLOAD + 2] ^= 1;
     judge(frame, (size_t)len);
     judge(frame, 30);
     len = lk_emit_icmp_frame(&echo, (const uint8_t *)"ping", 4, frame, sizeof frame);

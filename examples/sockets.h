@@ -5,6 +5,7 @@
 #ifndef SOCKETS_H
 #define SOCKETS_H
 
+#include "error_limit.h"
 #include "process.h"
 #include "tap.h"
 #include <sys/random.h>
@@ -208,14 +209,6 @@ static inline int is_for_us(const struct lk_host *host, const struct lk_frame *i
     int is_to_us = memcmp(in->ethernet.dst, host->hardware, 6) == 0 && memcmp(&in->dst.addr, own, sizeof *own) == 0;
     return is_to_us && lk_is_unicast(own) && (in->ethernet.src[0] & 1) == 0 && memcmp(src, own, sizeof *own) != 0
            && lk_check_source(NULL, 0, NULL, 0, src, 0) != LK_MARTIAN;
-}
-
-/* Whether a packet is the ICMP error "packet too big" (RFC 4443, section 3.2), over IPv4 "fragmentation needed" (RFC
- * 1191). */
-static inline int is_too_big(const struct lk_frame *in)
-{
-    const struct lk_icmp *icmp = &in->icmp;
-    return in->transport == LK_ICMP && (in->network == LK_IPV4 ? icmp->type == 3 && icmp->code == 4 : icmp->type == 2);
 }
 
 /* A packet that was sent is longer than this MTU of its path. lk_connection_too_big returns 0 if no such packet is on its

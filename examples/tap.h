@@ -51,12 +51,12 @@ static inline size_t mtu_of(int device)
  * that the device took. */
 static inline unsigned long write_packet(int device, struct fragments *fragments, const uint8_t *frame, size_t len)
 {
-    enum { FITS = 14 + 576 };
+    enum { FITS = LK_ETHERNET_HEADER_LEN + 576 };
     static uint8_t out[LONGEST_WHOLE];
     size_t mtu = len <= FITS ? 0 : mtu_of(device);
     unsigned long count = 0;
     ptrdiff_t n;
-    if (mtu == 0 || len <= 14 + mtu)
+    if (mtu == 0 || len <= LK_ETHERNET_HEADER_LEN + mtu)
         return write(device, frame, len) == (ssize_t)len;
     const int64_t ident = next_ident(fragments, frame);
     for (size_t i = 0; (n = lk_fragment(frame, len, mtu, ident, i, out, sizeof out)) > 0; i++)

@@ -31,6 +31,11 @@ NOT_IN_PYTHON = {
 RUST = {"uint8_t": "u8", "uint16_t": "u16", "uint32_t": "u32", "uint64_t": "u64", "int32_t": "i32", "int64_t": "i64", "size_t": "usize",
         "ptrdiff_t": "isize", "int": "c_int", "char": "c_char"}
 PYTHON = {"void": "None", "ptrdiff_t": "c_ssize_t", "size_t": "c_size_t", "int": "c_int"}
+# The enums of numbers that others give, as IANA, with the type of their fields in Rust.
+NUMBERS = {
+    "lk_header_len": "usize", "lk_ethertype": "u16", "lk_protocol": "u8", "lk_arp_operation": "u16", "lk_icmp_type": "u8",
+    "lk_icmp_code": "u8", "lk_icmpv6_type": "u8", "lk_icmpv6_code": "u8", "lk_linktype": "u32",
+}
 WIDTH = 120
 # What files say of the version. {next} is the minor version after it.
 VERSIONS = [
@@ -81,6 +86,15 @@ def calls_of(text):
 def inline_calls_of(text):
     """The names of the calls that the header itself defines."""
     return re.findall(r"^static inline [^({]*?(lk_\w+)\(", without_comments(text), re.M)
+
+
+def numbers_of(text):
+    """Each enum of NUMBERS as a name with its comment, and its names with their numbers. A name has no beginning that all share."""
+    for comment, name, body in re.findall(r"^/\* ((?:(?!\*/).)*) \*/\nenum (lk_\w+) {(.*?)};", text, re.S | re.M):
+        if name in NUMBERS:
+            found = re.findall(r"(LK_\w+) = (\w+)", body)
+            shared = os.path.commonprefix([word for word, _ in found]).rpartition("_")[0] + "_"
+            yield name, re.sub(r"\n \* ", " ", comment), [(word.removeprefix(shared), number) for word, number in found]
 
 
 def version_of(text):
@@ -155,6 +169,18 @@ def rust(header):
     yield "}"
 
 
+def rust_numbers(header):
+    yield "//! The numbers of header fields, written by tools/from_header.py: EtherTypes, protocols, ICMP types and others."
+    yield '#![allow(missing_docs, reason = "their names say it")]\n'
+    for name, comment, numbers in numbers_of(header):
+        kind = NUMBERS[name]
+        constants = [f"pub const {word}: {kind} = {number};" for word, number in numbers]
+        if name == "lk_header_len":
+            yield from constants
+        else:
+            yield from [f"\n/// {comment}", f"pub mod {name.removeprefix('lk_')} {{", *("    " + one for one in constants), "}"]
+
+
 # ---- Python
 
 
@@ -212,7 +238,21 @@ def python(header):
     yield "}"
 
 
-FILES = {"bindings/rust/src/declarations.rs": rust, "bindings/python/ip_wire/_declarations.py": python}
+def python_numbers(header):
+    yield '"""The numbers of header fields, written by tools/from_header.py."""'
+    yield "from ._convert import NamedInt\n"
+    for name, comment, numbers in numbers_of(header):
+        constants = [f"{word} = {re.sub('(?<=x).*', lambda digits: digits[0].upper(), number)}" for word, number in numbers]
+        if name == "lk_header_len":
+            yield from constants
+        else:
+            yield from [f"\n\nclass {camel(name)}(NamedInt):", f'    """{comment}"""\n', *("    " + one for one in constants)]
+
+
+FILES = {
+    "bindings/rust/src/declarations.rs": rust, "bindings/rust/src/numbers.rs": rust_numbers,
+    "bindings/python/ip_wire/_declarations.py": python, "bindings/python/ip_wire/numbers.py": python_numbers,
+}
 
 
 def with_version(text, said, header):

@@ -188,10 +188,10 @@ func (f *Frame) isICMPError() bool {
 		return false
 	}
 	if f.Network == NetworkIPv6 {
-		return f.ICMP.Type < 128
+		return f.ICMP.Type < ICMPv6EchoRequest
 	}
 	switch f.ICMP.Type {
-	case 3, 4, 5, 11, 12:
+	case ICMPUnreachable, ICMPSourceQuench, ICMPRedirect, ICMPTimeExceeded, ICMPParameterProblem:
 		return true
 	}
 	return false

@@ -13,12 +13,12 @@ import (
 // Ethernet is an Ethernet header. The calls Emit.. fill in Type.
 type Ethernet struct {
 	Src, Dst HardwareAddr
-	Type     uint16 // 0x0800 IPv4, 0x0806 ARP, 0x86dd IPv6
+	Type     uint16 // such as EtherTypeIPv4
 }
 
 // ARP is an ARP packet for Ethernet and IPv4 (RFC 826), without its IPv4 addresses.
 type ARP struct {
-	Operation                uint16 // 1: request, 2: reply
+	Operation                uint16 // ARPRequest or ARPReply
 	SrcHardware, DstHardware HardwareAddr
 }
 
@@ -27,7 +27,7 @@ type IP struct {
 	Ident          uint32 // IPv4: 16 bits; IPv6: of the fragment header
 	FlowLabel      uint32 // IPv6: 20 bits
 	FragmentOffset uint16 // in bytes, a multiple of 8
-	Protocol       uint8  // the calls Emit.. fill it in
+	Protocol       uint8  // such as ProtocolUDP; the calls Emit.. fill it in
 	HopLimit       uint8  // 64 is usual
 	DSCP           uint8  // 6 bits; of IPv6 those of the traffic class
 	ECN            uint8  // 2 bits
@@ -59,7 +59,7 @@ type TCP struct {
 // ICMP is the header of an ICMP message (RFC 792; over IPv6 RFC 4443) without its checksum.
 type ICMP struct {
 	Word uint32 // bytes 4 to 7: of an echo, identifier * 65536 + sequence number
-	Type uint8
+	Type uint8  // such as ICMPEchoRequest, over IPv6 ICMPv6EchoRequest
 	Code uint8
 }
 

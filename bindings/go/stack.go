@@ -253,15 +253,15 @@ func (s *Stack) learnMTU(data []byte) {
 	if header == nil {
 		header = sent.Payload
 	}
-	if !ok || sent.Protocol != 6 || len(header) < 8 || sent.Network != frame.Network {
+	if !ok || sent.Protocol != ProtocolTCP || len(header) < 8 || sent.Network != frame.Network {
 		return
 	}
 	mtu, least, headersLen := frame.ICMP.Word, uint32(1280), uint32(60)
 	if frame.Network == NetworkIPv4 {
 		mtu, least, headersLen = mtu&0xffff, 576, 40
 	}
-	isIPv4 := frame.Network == NetworkIPv4 && frame.ICMP.Type == 3 && frame.ICMP.Code == 4
-	isIPv6 := frame.Network == NetworkIPv6 && frame.ICMP.Type == 2 && mtu >= least && mtu <= 65535
+	isIPv4 := frame.Network == NetworkIPv4 && frame.ICMP.Type == ICMPUnreachable && frame.ICMP.Code == ICMPCodeFragmentationNeeded
+	isIPv6 := frame.Network == NetworkIPv6 && frame.ICMP.Type == ICMPv6PacketTooBig && mtu >= least && mtu <= 65535
 	if !isIPv4 && !isIPv6 {
 		return
 	}

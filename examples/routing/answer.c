@@ -9,7 +9,7 @@ void send_own(struct router *router, uint16_t to, uint8_t *frame, size_t len)
     struct interface *interface = &router->interfaces[to];
     if (!may_send(&interface->limit, router->now, frame, len))
         router->withheld++;
-    else if (len <= ETHERNET_LEN + interface->mtu)
+    else if (len <= LK_ETHERNET_HEADER_LEN + interface->mtu)
         send_now(interface, &no_offload, frame, interface->is_tap ? len : pad(frame, len));
     else if (send_fragments(interface, frame, len, 1) == 0)
         drop(router, TOO_LONG);

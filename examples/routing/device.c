@@ -338,7 +338,7 @@ void uncomplete_checksum(struct packet *packet)
  * only the device's flag tells. */
 void clamp(const struct interface *interface, struct packet *packet)
 {
-    size_t headers = packet->frame[ETHERNET_LEN] >> 4 == 4 ? 40 : 60; /* of IP and TCP, without options */
+    size_t headers = packet->frame[LK_ETHERNET_HEADER_LEN] >> 4 == 4 ? 40 : 60; /* of IP and TCP, without options */
     uint8_t kept[2], *place = open_checksum(packet);
     if (!interface->clamps || interface->mtu < headers || interface->mtu - headers > 65535)
         return;

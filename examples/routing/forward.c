@@ -5,7 +5,7 @@
 
 /* The longest IP header and 8 bytes, with the Ethernet header before them. Nothing after them is parsed, so no
  * payload is summed. */
-enum { LONGEST_HEADERS = ETHERNET_LEN + 60 + 8 };
+enum { LONGEST_HEADERS = LK_ETHERNET_HEADER_LEN + 60 + 8 };
 
 static const uint8_t no_hardware[6];
 
@@ -16,7 +16,7 @@ void drop(struct router *router, int why)
 
 int is_over_ipv4(const struct packet *packet)
 {
-    return packet->frame[ETHERNET_LEN] >> 4 == 4;
+    return packet->frame[LK_ETHERNET_HEADER_LEN] >> 4 == 4;
 }
 
 int is_link_local(const struct lk_addr *addr)
@@ -94,18 +94,18 @@ static size_t longest_len(const struct packet *packet)
 {
     const struct virtio_net_hdr *offload = &packet->offload;
     size_t start = offload->csum_start;
-    if (offload->gso_type == VIRTIO_NET_HDR_GSO_NONE || start < ETHERNET_LEN || start + 20 > packet->len)
-        return packet->len - ETHERNET_LEN;
+    if (offload->gso_type == VIRTIO_NET_HDR_GSO_NONE || start < LK_ETHERNET_HEADER_LEN || start + 20 > packet->len)
+        return packet->len - LK_ETHERNET_HEADER_LEN;
     int kind = offload->gso_type & ~VIRTIO_NET_HDR_GSO_ECN;
     int is_tcp = kind == VIRTIO_NET_HDR_GSO_TCPV4 || kind == VIRTIO_NET_HDR_GSO_TCPV6;
     size_t header_len = is_tcp ? packet->frame[start + 12] / 16 * 4u : 8;
-    return start - ETHERNET_LEN + header_len + offload->gso_size;
+    return start - LK_ETHERNET_HEADER_LEN + header_len + offload->gso_size;
 }
 
 /* Whether routers may fragment a packet: DF is not set (RFC 791). Over IPv6 none may. */
 static int is_divisible(const struct packet *packet)
 {
-    return is_over_ipv4(packet) && (packet->frame[ETHERNET_LEN + 6] & 0x40) == 0;
+    return is_over_ipv4(packet) && (packet->frame[LK_ETHERNET_HEADER_LEN + 6] & 0x40) == 0;
 }
 
 /* Whether this router may. A frame that becomes many is not cut here. */
@@ -124,7 +124,7 @@ static void send_cut(struct router *router, struct interface *interface, struct 
 
 static int hop_limit(const struct packet *packet)
 {
-    return packet->frame[ETHERNET_LEN + (is_over_ipv4(packet) ? 8 : 7)];
+    return packet->frame[LK_ETHERNET_HEADER_LEN + (is_over_ipv4(packet) ? 8 : 7)];
 }
 
 /* Sends a packet by a route. A packet whose hop limit has expired waits for no neighbour. */
@@ -187,7 +187,7 @@ void send_on(struct router *router, uint16_t from, struct packet *packet, const 
 
 static int is_ip_type(uint16_t type)
 {
-    return type == 0x0800 || type == 0x86dd;
+    return type == LK_ETHERTYPE_IPV4 || type == LK_ETHERTYPE_IPV6;
 }
 
 static int read_headers(const struct packet *packet, struct lk_frame *in)
@@ -213,7 +213,7 @@ static void on_packet(struct router *router, uint16_t from, struct lk_frame *in,
     struct lk_addr dst = in->dst.addr;
     enum table table = table_of(router, from, in);
     int rejection = LK_NOT_REJECTED;
-    packet->len = ETHERNET_LEN + packet_len(packet->frame + ETHERNET_LEN);
+    packet->len = LK_ETHERNET_HEADER_LEN + packet_len(packet->frame + LK_ETHERNET_HEADER_LEN);
     if (table == FOR_OWN && in->is_fragment && is_used(router, &dst) && answer(router, from, &dst, packet)) {
         router->answered++; /* by an error about a fault: the fragment is discarded */
         return;
@@ -246,7 +246,7 @@ void on_frame(struct router *router, uint16_t from, struct packet *packet)
         drop(router, LK_WRONG_CHECKSUM);
     } else if (in.network == LK_IPV6 && in.transport == LK_ICMP && on_ndisc(router, from, &in, packet)) {
         router->ndisc++;
-    } else if (in.transport == LK_ICMP && in.icmp.type == MLD_QUERY && on_query(router, from, packet)) {
+    } else if (in.transport == LK_ICMP && in.icmp.type == LK_ICMPV6_MLD_QUERY && on_query(router, from, packet)) {
         router->mld++;
     } else if (may_pass(router, from, &in)) {
         on_packet(router, from, &in, packet);

@@ -79,7 +79,7 @@ static void store_word(uint8_t *place, uint16_t word)
 
 void renumber(struct packet *packet)
 {
-    uint8_t *header = packet->frame + ETHERNET_LEN;
+    uint8_t *header = packet->frame + LK_ETHERNET_HEADER_LEN;
     store_word(header + 4, (uint16_t)next_ident(&tables[FOR_OWN], packet->frame));
     if (packet->offload.gso_type != VIRTIO_NET_HDR_GSO_NONE && packet->offload.gso_size > 0)
         tables[FOR_OWN].ident += (uint32_t)(packet->len / packet->offload.gso_size); /* the device counts on */

@@ -10,7 +10,7 @@
 #include <linux/virtio_net.h>
 #include <net/if.h>
 
-enum { ETHERNET_LEN = 14, LONGEST_FRAME = ETHERNET_LEN + 40 + 65535, SHORTEST_FRAME = 60, FRAMES_AT_ONCE = 64 };
+enum { LONGEST_FRAME = LK_ETHERNET_HEADER_LEN + LK_IPV6_HEADER_LEN + 65535, SHORTEST_FRAME = 60, FRAMES_AT_ONCE = 64 };
 
 /* A frame from a device, with what its sender left to the device. A frame with an `offload.gso_type` becomes many
  * frames on its way. One with VIRTIO_NET_HDR_F_NEEDS_CSUM has no UDP or TCP checksum yet. */

@@ -6,7 +6,7 @@
 
 Each call of the header must be a function of c_exports, c/cpu.c or c/names.c with the same types, and the other way round.
 Each struct with `repr(C)` must have the same fields in the same order, and each enum and each failure the same names and
-numbers. A constant such as LK_REASON_COUNT must be the number of names of its enum, and no example and no source of c/ has
+numbers; tests/judge/numbers.c compares the numbers that others give, as IANA, with the headers of the system. A constant such as LK_REASON_COUNT must be the number of names of its enum, and no example and no source of c/ has
 a name of an enum plus one instead. `lk_append` and its struct are in the header only. Each name `lk_..` in README.md and
 docs/ must be in the header.
 Each call must also be judged, counted and wrapped, or the list docs/audit/CALLS.md says why not (tests/docs/call_list.py).
@@ -22,7 +22,7 @@ TOP = os.path.dirname(os.path.dirname(os.path.dirname(os.path.abspath(__file__))
 sys.path.append(os.path.join(TOP, "tools"))
 import call_list  # noqa: E402
 import from_header  # noqa: E402
-from from_header import ONLY_C, calls_of, read, structs_of, without_comments  # noqa: E402
+from from_header import NUMBERS as REGISTERED, ONLY_C, calls_of, read, structs_of, without_comments  # noqa: E402
 from sources import Sources  # noqa: E402
 
 NUMBERS = {"u8": "uint8_t", "u16": "uint16_t", "u32": "uint32_t", "u64": "uint64_t", "i32": "int", "i64": "int64_t", "usize": "size_t",
@@ -66,8 +66,8 @@ def c_enums(text):
     """Each enum as a name with its names and numbers."""
     for name, body in re.findall(r"enum (lk_\w+) {(.*?)}", without_comments(text), re.S):
         numbers = {}
-        for word, number in re.findall(r"(\w+)(?: = (\d+))?", body):
-            numbers[word] = int(number) if number else max(numbers.values(), default=-1) + 1
+        for word, number in re.findall(r"(\w+)(?: = (\w+))?", body):
+            numbers[word] = int(number, 0) if number else max(numbers.values(), default=-1) + 1
         yield name, numbers
 
 
@@ -201,7 +201,7 @@ def main(words):
         *differences(calls, [*sources.calls(), *(call for name in OF_C for call in c_calls(read(TOP + name)))]),
         *differences((it for it in structs_of(header) if it[0] not in {*ONLY_C, OPAQUE}), sources.structs()),
         *differences(c_failures(header), sources.failures()),
-        *differences(c_enums(header), sources.enums()),
+        *differences((it for it in c_enums(header) if it[0] not in REGISTERED), sources.enums()),
         *wrong_counts(header),
         *guessed_counts(TOP, header),
         *unknown_names(TOP, header),

@@ -101,7 +101,7 @@ static ptrdiff_t emit_any_error(const struct lk_interface *own, const uint8_t *f
     f.ip.dscp = 0;
     f.src.addr = f.network == LK_IPV4 ? own->ipv4 : own->ipv6;
     f.icmp = (struct lk_icmp){.type = f.network == LK_IPV4 ? 3 : 1};
-    return f.network == LK_NO_NETWORK ? 0 : lk_emit_icmp_frame(&f, frame + ETHERNET_LEN, 48, out, cap);
+    return f.network == LK_NO_NETWORK ? 0 : lk_emit_icmp_frame(&f, frame + LK_ETHERNET_HEADER_LEN, 48, out, cap);
 }
 
 WRAPPED(ptrdiff_t, lk_emit_icmp_error(const struct lk_interface *own, int problem, uint32_t mtu, const uint8_t *frame,

@@ -28,6 +28,8 @@ Calls by task; `help(ip_wire.parse_frame)` describes one call:
     texts               parse_addr, print_addr, parse_endpoint, str(endpoint), parse_block, print_block,
                         parse_ethernet, print_ethernet
     addresses           contains, is_unicast, is_multicast
+    header fields       Ethertype, Protocol, ArpOperation, IcmpType, IcmpCode, Icmpv6Type, Icmpv6Code, Linktype,
+                        ETHERNET_HEADER_LEN and others of the module `numbers`
     numbers             checksum, update_checksum, update_checksum_bytes, add_seq, subtract_seq, compare_seq
 
 It needs Python 3.8 or later, and no other package. The shared library is the file that the environment variable
@@ -56,6 +58,10 @@ from .headers import (
     ipv6_headers, parse_tcp_options, raw_tcp_options, tcp_header_len,
 )  # fmt: skip
 from .hosts import Host, Interface, Ndisc, Problem, emit_mld_report, emit_ndisc, parse_mld_query, parse_ndisc
+from .numbers import (
+    ARP_LEN, ETHERNET_HEADER_LEN, ICMP_HEADER_LEN, IPV4_HEADER_LEN, IPV6_HEADER_LEN, TCP_HEADER_LEN, UDP_HEADER_LEN,
+    ArpOperation, Ethertype, IcmpCode, IcmpType, Icmpv6Code, Icmpv6Type, Linktype, Protocol,
+)  # fmt: skip
 from .reassembly import Reassembler
 from .routing import Nat, Offload, Route, Routes, Side, clamp_mss, forward, translate
 from .writing import (
@@ -64,16 +70,19 @@ from .writing import (
 )  # fmt: skip
 
 __all__ = [
-    "__version__", "Address", "AnyBlock", "Arp", "Block", "Connection", "ConnectionState", "Data", "Endpoint",
-    "Ethernet", "Frame", "Headers", "Host", "Icmp", "Interface", "Ip", "Ipv6Header", "Link", "Nat", "Ndisc", "Network",
-    "Offload", "Problem", "RawOption", "Reason", "Reassembler", "Rejected", "Rejection", "Route", "Routes", "Segment",
-    "Side", "Socket", "Stack", "Tcp", "TcpFlag", "TcpOptions", "Transport", "Verdict", "WireError", "add_seq",
-    "checksum", "clamp_mss", "compare_seq", "contains", "emit_arp", "emit_arp_packet", "emit_ethernet_header",
-    "emit_icmp", "emit_icmp_message", "emit_ip_header", "emit_mld_report", "emit_ndisc", "emit_tcp", "emit_tcp_segment", "emit_udp",
-    "emit_udp_packet", "ethertype_name", "fill_checksum", "forward", "fragments", "ipv6_headers", "is_multicast",
-    "is_unicast", "parse_addr", "parse_block", "parse_captured", "parse_endpoint", "parse_ethernet", "parse_frame",
-    "parse_frame_options", "parse_frames", "parse_link", "parse_linktype", "parse_mld_query", "parse_ndisc", "parse_packet",
-    "parse_tcp_options", "print_addr", "print_block", "print_ethernet", "protocol_name", "raw_tcp_options", "rebuild",
-    "set_addr", "set_bytes", "set_dscp", "set_hop_limit", "set_port", "subtract_seq", "tcp_header_len", "translate",
-    "update_checksum", "update_checksum_bytes", "wrap_tcp", "wrap_udp",
+    "__version__", "ARP_LEN", "Address", "AnyBlock", "Arp", "ArpOperation", "Block", "Connection", "ConnectionState",
+    "Data", "ETHERNET_HEADER_LEN", "Endpoint", "Ethernet", "Ethertype", "Frame", "Headers", "Host", "ICMP_HEADER_LEN",
+    "IPV4_HEADER_LEN", "IPV6_HEADER_LEN", "Icmp", "IcmpCode", "IcmpType", "Icmpv6Code", "Icmpv6Type", "Interface",
+    "Ip", "Ipv6Header", "Link", "Linktype", "Nat", "Ndisc", "Network", "Offload", "Problem", "Protocol", "RawOption",
+    "Reason", "Reassembler", "Rejected", "Rejection", "Route", "Routes", "Segment", "Side", "Socket", "Stack",
+    "TCP_HEADER_LEN", "Tcp", "TcpFlag", "TcpOptions", "Transport", "UDP_HEADER_LEN", "Verdict", "WireError",
+    "add_seq", "checksum", "clamp_mss", "compare_seq", "contains", "emit_arp", "emit_arp_packet",
+    "emit_ethernet_header", "emit_icmp", "emit_icmp_message", "emit_ip_header", "emit_mld_report", "emit_ndisc",
+    "emit_tcp", "emit_tcp_segment", "emit_udp", "emit_udp_packet", "ethertype_name", "fill_checksum", "forward",
+    "fragments", "ipv6_headers", "is_multicast", "is_unicast", "parse_addr", "parse_block", "parse_captured",
+    "parse_endpoint", "parse_ethernet", "parse_frame", "parse_frame_options", "parse_frames", "parse_link",
+    "parse_linktype", "parse_mld_query", "parse_ndisc", "parse_packet", "parse_tcp_options", "print_addr",
+    "print_block", "print_ethernet", "protocol_name", "raw_tcp_options", "rebuild", "set_addr", "set_bytes",
+    "set_dscp", "set_hop_limit", "set_port", "subtract_seq", "tcp_header_len", "translate", "update_checksum",
+    "update_checksum_bytes", "wrap_tcp", "wrap_udp",
 ]  # fmt: skip

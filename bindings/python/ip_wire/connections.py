@@ -16,6 +16,7 @@ from .editing import fill_checksum
 from .frames import Frame, Network, Transport, Verdict, parse_frame_options
 from .headers import Headers, Tcp, TcpOptions, options_from_c, options_to_c
 from .hosts import Host
+from .numbers import IcmpCode, IcmpType, Icmpv6Type, Protocol
 from .writing import emit_tcp
 
 _NEVER = (1 << 64) - 1
@@ -342,9 +343,12 @@ class Stack:
         sent, icmp = frame.parse_quoted(), frame.icmp
         if sent is None or icmp is None or sent.src is None or sent.dst is None or sent.network != frame.network:
             return
-        is_too_big = icmp.type == 2 if frame.network == Network.IPV6 else (icmp.type, icmp.code) == (3, 4)
+        if frame.network == Network.IPV6:
+            is_too_big = icmp.type == Icmpv6Type.PACKET_TOO_BIG
+        else:
+            is_too_big = (icmp.type, icmp.code) == (IcmpType.UNREACHABLE, IcmpCode.FRAGMENTATION_NEEDED)
         header = sent.tcp_header or sent.payload
-        if not is_too_big or sent.protocol != 6 or len(header) < 8:
+        if not is_too_big or sent.protocol != Protocol.TCP or len(header) < 8:
             return
         own_port, peer_port, seq_number = struct.unpack_from(">HHI", header)
         for socket in self._sockets:

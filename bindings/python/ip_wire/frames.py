@@ -10,6 +10,7 @@ from . import _c as c
 from ._convert import Data, NamedInt, call, data_of, from_c, number_of, reader, to_c
 from .addresses import Endpoint
 from .headers import Arp, Ethernet, Headers, Icmp, Ip, Reason, Rejected, Tcp, TcpOptions, options_from_c
+from .numbers import IcmpType, Icmpv6Type
 
 
 class Network(NamedInt):
@@ -49,7 +50,10 @@ class Link:
 
 
 _LINE = 276  # LK_FRAME_TEXT
-_ERRORS = (3, 4, 5, 11, 12)  # the types of ICMP errors over IPv4
+# ICMP errors over IPv4.
+_ERRORS = (
+    IcmpType.UNREACHABLE, IcmpType.SOURCE_QUENCH, IcmpType.REDIRECT, IcmpType.TIME_EXCEEDED, IcmpType.PARAMETER_PROBLEM,
+)  # fmt: skip
 
 
 @dataclass(frozen=True)
@@ -143,7 +147,7 @@ class Frame:
         """
         if self.icmp is None:
             return None
-        is_error = self.icmp.type in _ERRORS if self.network == Network.IPV4 else self.icmp.type < 128
+        is_error = self.icmp.type in _ERRORS if self.network == Network.IPV4 else self.icmp.type < Icmpv6Type.ECHO_REQUEST
         return parse_captured(self.payload, c.MAX_LEN, is_packet=True) if is_error else None
 
 

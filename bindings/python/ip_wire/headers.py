@@ -89,7 +89,7 @@ class Ethernet:
 @represents(c.Arp)
 @dataclass(frozen=True)
 class Arp:
-    """An ARP packet for Ethernet and IPv4. `operation` is 1 for a request and 2 for a reply."""
+    """An ARP packet for Ethernet and IPv4. `operation` is an ArpOperation."""
 
     operation: int
     src_hardware: bytes
@@ -143,7 +143,7 @@ class Icmp:
     """The header of an ICMP message, without its checksum. The payload follows it: the data of an echo, or the packet
     that an error quotes."""
 
-    type: int
+    type: int  # an IcmpType, over IPv6 an Icmpv6Type
     code: int = 0
     word: int = 0  # bytes 4 to 7
 
@@ -225,8 +225,8 @@ class Ipv6Header:
 
     offset: int
     len: int  # in bytes
-    protocol: int  # its own number; 41: the IPv6 header
-    next: int  # the number of what follows it; 59: nothing
+    protocol: int  # its own number; Protocol.IPV6: the IPv6 header
+    next: int  # the number of what follows it; Protocol.IPV6_NO_NEXT: nothing
 
 
 def ipv6_headers(packet: Data) -> Iterator[Ipv6Header]:

@@ -48,7 +48,7 @@ class Declarations(unittest.TestCase):
             words = re.findall(r"LK_(\w+)", re.search(rf"enum {name} {{(.*?)}}", self.header, re.S).group(1))
             self.assertEqual([member.name for member in enum], words[first:])
             self.assertEqual([member.value for member in enum], list(range(first, len(words))))
-        flags = re.findall(r"LK_(\w+) = (\d+)", self.header)
+        flags = re.findall(r"LK_(\w+) = (\d+)", re.search("enum lk_tcp_flag {(.*?)}", self.header, re.S).group(1))
         self.assertEqual([(member.name, str(member.value)) for member in TcpFlag], flags)
         for enum, name_of in [(Reason, c.library.lk_reason_name), (Rejection, c.library.lk_rejection_name)]:
             self.assertEqual([name_of(member) for member in enum], [b"LK_" + member.name.encode() for member in enum])

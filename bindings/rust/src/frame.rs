@@ -1,6 +1,7 @@
 //! Parsed frames and packets.
 
 use crate::addr::print;
+use crate::numbers::{icmp_type, icmpv6_type};
 use crate::sys::{self, library, Library};
 use crate::{
     link, Arp, Defect, Ethernet, Headers, Icmp, Ip, Network, Reason, Tcp, TcpOptions, Transport, Verdict,
@@ -8,6 +9,15 @@ use crate::{
 use core::ffi::c_int;
 use core::fmt;
 use core::net::SocketAddr;
+
+/// ICMP errors over IPv4.
+const IPV4_ERRORS: [u8; 5] = [
+    icmp_type::UNREACHABLE,
+    icmp_type::SOURCE_QUENCH,
+    icmp_type::REDIRECT,
+    icmp_type::TIME_EXCEEDED,
+    icmp_type::PARAMETER_PROBLEM,
+];
 
 /// The longest frame that the library parses, in bytes: `LK_MAX_LEN`.
 const MAX_LEN: usize = (1 << 40) - 1;
@@ -176,8 +186,8 @@ impl<'a> Frame<'a> {
     pub fn parse_quoted(&self) -> Option<Self> {
         let icmp = self.icmp()?;
         let is_error = match self.network()? {
-            Network::Ipv4 => matches!(icmp.icmp_type, 3 | 4 | 5 | 11 | 12),
-            _ => icmp.icmp_type < 128,
+            Network::Ipv4 => IPV4_ERRORS.contains(&icmp.icmp_type),
+            _ => icmp.icmp_type < icmpv6_type::ECHO_REQUEST,
         };
         is_error.then(|| Self::parse_captured_packet(self.payload(), MAX_LEN))
     }

@@ -1,5 +1,6 @@
 //! The values of headers.
 
+use crate::numbers::arp_operation;
 use crate::sys::{self, library};
 use crate::EthernetAddr;
 use core::ffi::{c_char, CStr};
@@ -12,7 +13,7 @@ pub struct Ethernet {
     pub src: EthernetAddr,
     /// The receiver.
     pub dst: EthernetAddr,
-    /// The EtherType. It is filled in when a frame is emitted.
+    /// The EtherType, a number of [`ethertype`](crate::numbers::ethertype). It is filled in when a frame is emitted.
     pub ethertype: u16,
 }
 
@@ -41,9 +42,9 @@ pub struct Arp {
 
 impl Arp {
     /// Asks for the hardware address of the target.
-    pub const REQUEST: u16 = 1;
+    pub const REQUEST: u16 = arp_operation::REQUEST;
     /// Tells the hardware address of the sender.
-    pub const REPLY: u16 = 2;
+    pub const REPLY: u16 = arp_operation::REPLY;
 }
 
 /// An IPv4 or IPv6 header without its addresses and lengths. The default is that of a new packet: hop
@@ -56,7 +57,7 @@ pub struct Ip {
     pub flow_label: u32,
     /// In bytes, a multiple of 8.
     pub fragment_offset: u16,
-    /// 6: TCP, 17: UDP. It is filled in when a frame is emitted.
+    /// A number of [`protocol`](crate::numbers::protocol). It is filled in when a frame is emitted.
     pub protocol: u8,
     /// 0 is read, and cannot be written.
     pub hop_limit: u8,
@@ -90,7 +91,7 @@ impl Default for Ip {
 /// the data of an echo, or the beginning of the packet that an error is about.
 #[derive(Clone, Copy, Debug, Default, PartialEq, Eq, Hash)]
 pub struct Icmp {
-    /// The type of the message.
+    /// A number of [`icmp_type`](crate::numbers::icmp_type), over IPv6 of [`icmpv6_type`](crate::numbers::icmpv6_type).
     pub icmp_type: u8,
     /// The code.
     pub code: u8,

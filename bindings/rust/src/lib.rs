@@ -15,6 +15,7 @@
 //! | cut a packet into fragments, put it together | [`Fragments`], [`Reassembler`] |
 //! | parse and print addresses | [`parse_addr`], [`parse_endpoint`], [`Block`], [`EthernetAddr`] |
 //! | compute checksums | [`checksum`] |
+//! | name EtherTypes, protocols, ICMP types, link types | [`numbers`] |
 //!
 //! ```
 //! use ip_wire_c::{Frame, Transport};
@@ -75,6 +76,7 @@ pub mod layer;
 mod link;
 mod mld;
 mod nat;
+pub mod numbers;
 mod reassembly;
 mod routes;
 mod socket;

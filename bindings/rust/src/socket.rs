@@ -1,5 +1,6 @@
 //! TCP connections over a device.
 
+use crate::numbers::{icmp_code, icmp_type, icmpv6_type, protocol};
 use crate::{
     edit, is_unicast, Connection, ConnectionConfig, ConnectionState, Error, Ethernet, Frame, Headers, Host,
     Ip, Network, Segment, SeqNumber, TcpOptions, Verdict,
@@ -265,12 +266,14 @@ fn learn_mtu<M: AsMut<[u8]>>(frame: &Frame, sockets: &mut [Socket<M>]) -> Option
     check(frame)?;
     let icmp = frame.icmp()?;
     let (mtu, least, headers_len) = match (frame.network()?, icmp.icmp_type, icmp.code) {
-        (Network::Ipv4, 3, 4) => (icmp.word & 0xffff, 576, 40),
-        (Network::Ipv6, 2, _) if icmp.word >= 1280 => (icmp.word, 1280, 60),
+        (Network::Ipv4, icmp_type::UNREACHABLE, icmp_code::FRAGMENTATION_NEEDED) => {
+            (icmp.word & 0xffff, 576, 40)
+        }
+        (Network::Ipv6, icmpv6_type::PACKET_TOO_BIG, _) if icmp.word >= 1280 => (icmp.word, 1280, 60),
         _ => return None,
     };
     let sent = frame.parse_quoted()?;
-    if sent.protocol() != Some(6) || sent.network() != frame.network() {
+    if sent.protocol() != Some(protocol::TCP) || sent.network() != frame.network() {
         return None;
     }
     let header = sent.tcp_header().unwrap_or(sent.payload());
