@@ -49,7 +49,7 @@ static void read_frames(void)
         struct lk_frame in;
         struct lk_tcp_options options;
         lk_read_frame_options(frame, (size_t)len, &in, &options);
-        if (!has_wrong_checksum(&in) && is_for_us(&own, &in) && in.transport == LK_TCP)
+        if (is_usable(&in) && is_for_us(&own, &in) && in.transport == LK_TCP)
             on_tcp(&sockets, &in, &options, frame);
     }
 }

@@ -441,8 +441,7 @@ struct lk_frame {
 };
 
 /* Parses an Ethernet frame, stores its values, and returns LK_READ or why a header was rejected. A wrong
- * checksum is no reason to reject: a caller that trusts the payload must drop frames in which
- * `ipv4_checksum` or `transport_checksum` is LK_WRONG.
+ * checksum is no reason to reject: a caller that trusts the payload must drop frames that are not valid (lk_is_valid).
  *
  * - The payload follows the last parsed header. It ends at the length in this header or in
  *   one before it, so padding is no payload.
@@ -504,6 +503,13 @@ int lk_read_packet(const uint8_t *ptr, size_t len, struct lk_frame *frame);
  *   bytes of it are at `ptr`. */
 int lk_read_captured(const uint8_t *ptr, size_t captured, size_t len, struct lk_frame *frame);
 int lk_read_captured_packet(const uint8_t *ptr, size_t captured, size_t len, struct lk_frame *frame);
+
+/* Whether a receiver may use a frame that was read: no header was rejected, and no checksum is LK_WRONG. A checksum may
+ * still be left out, left to the device, or not captured. Whether the frame is for the receiver is not tested. */
+static inline int lk_is_valid(const struct lk_frame *frame)
+{
+    return frame->reason == LK_READ && frame->ipv4_checksum != LK_WRONG && frame->transport_checksum != LK_WRONG;
+}
 
 /* Link types of capture files (www.tcpdump.org/linktypes.html). */
 enum lk_linktype {

@@ -26,12 +26,6 @@ static int open_tap(const char *name)
     return device >= 0 && ioctl(device, TUNSETIFF, &request) == 0 ? device : -1;
 }
 
-/* Whether a receiver may use the frame. */
-static int is_valid(const struct lk_frame *f)
-{
-    return f->reason == LK_READ && f->ipv4_checksum != LK_WRONG && f->transport_checksum != LK_WRONG;
-}
-
 static int is_blocked(const struct lk_addr *addr)
 {
     for (size_t i = 0; i < block_count; i++)
@@ -59,7 +53,7 @@ static void on_frame(int from, int to, const uint8_t *frame, size_t len)
     struct lk_frame f;
     const char *verdict = "passed";
     lk_read_frame(frame, len, &f);
-    if (!is_valid(&f)) {
+    if (!lk_is_valid(&f)) {
         verdict = "dropped";
     } else if (f.network != LK_ARP && is_blocked(&f.dst.addr)) {
         verdict = "rejected";

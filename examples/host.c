@@ -74,6 +74,13 @@ static void echo(struct socket *s)
         lk_connection_close(&s->tcp);
 }
 
+/* Also of a frame with a rejected header. A checksum that is left to the device is wrong here, as for lk_answer. */
+static int has_wrong_checksum(const struct lk_frame *in)
+{
+    int verdict = in->transport_checksum;
+    return in->ipv4_checksum == LK_WRONG || verdict == LK_WRONG || verdict == LK_LEFT_TO_DEVICE;
+}
+
 /* `is_whole`: the frame was put together from fragments. */
 static void on_frame(const uint8_t *frame, size_t len, int is_whole)
 {

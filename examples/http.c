@@ -207,7 +207,7 @@ static void on_frame(const uint8_t *frame, size_t len)
     struct lk_frame in;
     struct lk_tcp_options options;
     lk_read_frame_options(frame, len, &in, &options);
-    int is_valid = !has_wrong_checksum(&in) && is_for_us(&own, &in);
+    int is_valid = is_usable(&in) && is_for_us(&own, &in);
     if (is_valid && is_too_big(&in))
         on_too_big(&sockets, &in, frame);
     if (is_valid && in.transport == LK_TCP && on_tcp(&sockets, &in, &options, frame))

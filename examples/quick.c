@@ -10,8 +10,8 @@ int main(void)
     struct lk_frame f;
     uint8_t out[1514];
     char src[LK_ENDPOINT_TEXT];
-    if (lk_read_frame(frame, sizeof frame - 1, &f) != LK_READ || f.transport != LK_UDP
-        || f.ipv4_checksum == LK_WRONG || f.transport_checksum == LK_WRONG)
+    lk_read_frame(frame, sizeof frame - 1, &f);
+    if (!lk_is_valid(&f) || f.transport != LK_UDP)
         return 1;
     lk_print_endpoint(&f.src, src, sizeof src);
     printf("%.*s from %s\n", (int)f.payload_len, (const char *)frame + f.payload_offset, src);

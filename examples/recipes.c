@@ -135,8 +135,8 @@ static size_t remove_tags(uint8_t *frame, size_t len)
 static ptrdiff_t pong(const struct lk_addr *own, const uint8_t *frame, size_t len, uint8_t *out, size_t cap)
 {
     struct lk_frame f;
-    if (lk_read_frame(frame, len, &f) != LK_READ || f.transport != LK_ICMP || f.icmp.type != LK_ICMP_ECHO_REQUEST ||
-        f.ipv4_checksum != LK_RIGHT || f.transport_checksum != LK_RIGHT)
+    lk_read_frame(frame, len, &f);
+    if (!lk_is_valid(&f) || f.transport != LK_ICMP || f.icmp.type != LK_ICMP_ECHO_REQUEST)
         return 0;
     if (memcmp(&f.dst.addr, own, sizeof *own) != 0 || !lk_is_unicast(&f.src.addr))
         return 0;
@@ -195,7 +195,7 @@ static void judge(const uint8_t *frame, size_t len)
     int reason = lk_read_frame(frame, len, &f);
     if (reason != LK_READ)
         printf("dropped at byte %zu: %s\n", f.payload_offset, lk_reason_name(reason));
-    else if (f.ipv4_checksum == LK_WRONG || f.transport_checksum == LK_WRONG)
+    else if (!lk_is_valid(&f))
         printf("dropped: wrong checksum\n");
     else
         printf("used: %s from byte %zu\n", lk_protocol_name(f.protocol), f.payload_offset);

@@ -240,10 +240,10 @@ static inline void on_too_big(struct sockets *all, const struct lk_frame *in, co
         lower_mtu(all, &sent, in->network == LK_IPV4 ? in->icmp.word & 0xffff : in->icmp.word);
 }
 
-static inline int has_wrong_checksum(const struct lk_frame *in)
+/* Whether a frame of a TAP device may be used. A checksum that is left to the device is wrong there, as for lk_answer. */
+static inline int is_usable(const struct lk_frame *in)
 {
-    int verdict = in->transport_checksum;
-    return in->ipv4_checksum == LK_WRONG || verdict == LK_WRONG || verdict == LK_LEFT_TO_DEVICE;
+    return lk_is_valid(in) && in->transport_checksum != LK_LEFT_TO_DEVICE;
 }
 
 #endif

@@ -27,7 +27,8 @@ REASONS = [
     ("F", "It returns a string of a table.", {
         "counts": "ethertype_name failure_name protocol_name reason_name rejection_name tcp_flag_name"}),
     ("H", "It is a function of the header, and for C only.", {
-        "counts": "append", "Rust": "append", "Python": "append", "Go": "append"}),
+        "counts": "append is_valid", "Rust": "append", "Python": "append", "Go": "append"}),
+    ("K", "`check` of a frame does the same, and says what is wrong.", {"Rust": "is_valid", "Python": "is_valid", "Go": "is_valid"}),
     ("O", "A program calls it once.", {"counts": "cpu_supported version"}),
     ("P", "It runs what the counted call `lk_read_captured` runs after the Ethernet header.", {"counts": "read_captured_packet"}),
     ("R", "It is called for a timer, an ICMP error or an MLD message, not for each packet.", {

@@ -10,11 +10,19 @@ static void fill_frame(struct lk_frame *frame)
 
 /* ---- frames and packets ---- */
 
+static int has_verdict(const struct lk_frame *frame, int verdict)
+{
+    return frame->ipv4_checksum == verdict || frame->transport_checksum == verdict;
+}
+
 static void read_one_frame(const uint8_t *ptr, size_t len)
 {
     struct lk_frame frame;
     fill_frame(&frame);
     both_read_frame(ptr, len, &frame);
+    CALL(lk_is_valid);
+    given("frame", &frame, sizeof frame);
+    end_call(frame.reason == 0 && !has_verdict(&frame, LK_WRONG), lk_is_valid(&frame));
 }
 
 static void read_one_with_options(const uint8_t *ptr, size_t len)

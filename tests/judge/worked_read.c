@@ -241,6 +241,33 @@ static void reads_checksums(void)
     READS(tcp4_left_to_device, tcp(ipv4(6, 20, 0), 20, 0x10, LK_LEFT_TO_DEVICE));
 }
 
+static void tells_valid(const struct octets *frame, int expected)
+{
+    struct lk_frame found;
+    both_read_frame(frame->at, frame->len, &found);
+    CHECK(lk_is_valid(&found) == expected);
+}
+
+/* RFC 1122, sections 3.2.1.2, 4.1.3.4 and 4.2.2.7: a wrong checksum is a reason to discard. RFC 768: UDP's may be left out;
+ * not over IPv6 (RFC 8200, section 8.1). */
+static void tells_valid_frames(void)
+{
+    tells_valid(&arp4, 1);
+    tells_valid(&udp4, 1);
+    tells_valid(&tcp6, 1);
+    tells_valid(&unknown_type, 1);
+    tells_valid(&fragment4_middle, 1);
+    tells_valid(&udp4_left_out, 1);
+    tells_valid(&udp4_left_to_device, 1);
+    tells_valid(&udp4_bad_ip, 0);
+    tells_valid(&udp4_wrong, 0);
+    tells_valid(&tcp4_wrong, 0);
+    tells_valid(&udp6_zero, 0);
+    tells_valid(&udp4_port_zero, 0);
+    tells_valid(&ipv4_too_short, 0);
+    tells_valid(&ethernet_too_short, 0);
+}
+
 static void rejects_network_headers(void)
 {
     READS(ethernet_too_short, no_header(13));
@@ -476,6 +503,7 @@ void worked_read(void)
     reads_frames();
     reads_fragments();
     reads_checksums();
+    tells_valid_frames();
     rejects_network_headers();
     rejects_udp_headers();
     rejects_tcp_headers();

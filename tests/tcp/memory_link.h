@@ -92,7 +92,7 @@ static void on_own_frame(struct host *host, const uint8_t *frame, size_t len)
     struct lk_frame in;
     struct lk_tcp_options options;
     lk_read_frame_options(frame, len, &in, &options);
-    int is_valid = !has_wrong_checksum(&in) && is_for_us(&host->own, &in);
+    int is_valid = is_usable(&in) && is_for_us(&host->own, &in);
     if (is_valid && is_too_big(&in))
         on_too_big(host->sockets, &in, frame);
     if (is_valid && in.transport == LK_TCP && on_tcp(host->sockets, &in, &options, frame))
