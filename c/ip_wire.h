@@ -1,5 +1,27 @@
 /* ip_wire: Ethernet II, ARP, IPv4, IPv6, ICMP, UDP and TCP packets for C and C++. `lk_` stands for Lerkvist.
  *
+ *     parse frames, packets      lk_read_frame, lk_read_packet, lk_read_captured; lk_is_valid: they may be used
+ *     parse captures, VLAN tags  lk_read_linktype, lk_read_link
+ *     TCP options, IPv6 headers  lk_read_tcp_options, lk_next_tcp_option, lk_next_ipv6_header
+ *     print and name             lk_print_frame, lk_protocol_name, lk_ethertype_name, lk_tcp_flag_name
+ *     reply                      lk_reply, and then write a frame
+ *     write a frame              lk_emit_udp_frame, lk_emit_tcp_frame, lk_emit_icmp_frame, lk_emit_arp_frame
+ *     write before a payload     lk_wrap_udp_frame, lk_wrap_tcp_frame
+ *     write one layer            lk_emit_ethernet, lk_emit_arp, lk_emit_ip, lk_emit_udp, lk_emit_tcp, lk_emit_icmp
+ *     edit in place              lk_set_addr, lk_set_port, lk_set_dscp, lk_set_hop_limit, lk_set_bytes, lk_clamp_mss
+ *     checksums                  lk_fill_checksum of a frame, lk_checksum of bytes, lk_update_checksum and its kin
+ *     normalize                  lk_rebuild
+ *     answer as a host           lk_answer: ARP, neighbour discovery, ping, UDP echo, closed ports
+ *     neighbours and groups      lk_read_ndisc, lk_emit_ndisc_frame, lk_read_mld_query, lk_emit_mld_report
+ *     TCP connections            lk_connection_init and the other calls lk_connection_..
+ *     route                      lk_index_routes, lk_choose_route, lk_check_source, lk_forward, lk_emit_icmp_error
+ *     translate (NAT)            lk_translate_out, lk_translate_in with a table; lk_translate without one
+ *     fragments                  lk_fragment, lk_reassemble, lk_expire
+ *     addresses                  lk_parse_addr, lk_print_addr, lk_parse_block, lk_parse_endpoint, lk_contains
+ *     TCP sequence numbers       lk_add_seq, lk_subtract_seq, lk_compare_seq
+ *     why a call failed          lk_reason_name, lk_failure_name, lk_rejection_name
+ *     version and processor      lk_version, lk_cpu_supported
+ *
  * The library needs an x86-64-v2 processor (SSE4.2 and POPCNT). Call lk_cpu_supported() first if the
  * program may run on an older one: every other call may stop there with an illegal instruction. The header needs C99,
  * GNU C90 or C++, because C90 has no `inline`.
@@ -21,11 +43,7 @@
  *
  * A call that does something begins with its verb: `parse` and `print` are for texts, `read` and `emit` for
  * headers. A call that only tells something is named after it, as lk_tcp_header_len. All calls of a TCP connection begin with
- * lk_connection_.
- *
- * A program for version 0.4 must be compiled anew, and this is the change that it may need:
- *
- * - `unused` of `struct lk_mapping` is `reach`. A program that frees a mapping sets only `expires` to 0. */
+ * lk_connection_. */
 #ifndef IP_WIRE_H
 #define IP_WIRE_H
 
@@ -1314,8 +1332,8 @@ ptrdiff_t lk_reassemble(struct lk_partial *partials, size_t count, uint8_t *memo
  *     while ((n = lk_expire(partials, COUNT, memory, sizeof memory, milliseconds(), out, sizeof out)) > 0)
  *         error_len = lk_emit_icmp_error(&own, LK_FRAGMENT_MISSING, 0, out, n, error, sizeof error);
  *
- * The frame has the Ethernet header of the fragment that came first. A packet that got LK_DROPPED, or that made room
- * for another one, gives no frame, and so does one that does not fit in `out`. A `cap` of 65589 always suffices. */
+ * The frame has the Ethernet header of the fragment that came first. No frame is written for a packet that was dropped,
+ * evicted by another one, or longer than `cap`. A `cap` of 65589 always suffices. */
 size_t lk_expire(struct lk_partial *partials, size_t count, const uint8_t *memory, size_t memory_len, uint64_t now,
                  uint8_t *out, size_t cap);
 
@@ -1536,9 +1554,9 @@ struct lk_mapping {
  *   6300 and more     63 to 66
  *
  * - A call reads one row for an endpoint that has a mapping, and at most two for a new one. If all ports of its first
- *   row are taken, it gets one of a later row. From then on a call for a new endpoint whose first row begins at the
- *   same port reads as many rows: `reach` of the mapping there says how many. It only grows, until lk_shrink_reach. If no
- *   port is free, the call reads all mappings of the protocol.
+ *   row are taken, it gets one of a later row. Later endpoints that hash to this port search as many rows: `reach` of
+ *   the mapping there is their number. It shrinks only by lk_shrink_reach. If no port is free, the call reads all
+ *   mappings of the protocol.
  * - One inside host can take every port. A program limits the mappings of each host, as `nat -m` of examples/ does.
  * - A mapping is live until its time-out has passed since the last packet of its inside endpoint. Packets that come in
  *   do not keep it alive (REQ-6).
@@ -1676,10 +1694,10 @@ int lk_connection_state(const struct lk_connection *connection);
 /* Whether the application has read all that the peer wrote, and the peer has closed. */
 int lk_connection_is_ended(const struct lk_connection *connection);
 
-/* Returns how many numbers the peer has not acknowledged: one for each byte that was written, one for the SYN, and after
- * lk_connection_close one for the FIN. The SYN counts before it is sent too: after lk_connection_init and
- * lk_connection_listen the result is 1. If a connection ends before all is acknowledged, as by lk_connection_abort,
- * the number stays. The ring `outgoing` has room for at least `outgoing_len` without this many bytes. */
+/* Returns the bytes that were written and not yet acknowledged, plus 1 for a SYN and 1 for the FIN of lk_connection_close.
+ * At least `outgoing_len` less the result can be written. The SYN counts before it is sent: after lk_connection_init and
+ * lk_connection_listen the result is 1. If a connection ends before all is acknowledged, for example by
+ * lk_connection_abort, the number stays. */
 size_t lk_connection_waiting(const struct lk_connection *connection);
 
 /* An ICMP error says that the segment with `seq_number`, which it quotes, was too big (RFC 1191, RFC 8201). `mss` is the MTU
