@@ -159,7 +159,7 @@ static void run(const struct row *row)
     print_row(row, times);
 }
 
-static int do_nothing(const struct lk_block *of, const struct lk_addr *addr)
+static int do_nothing(const struct lk_prefix *of, const struct lk_addr *addr)
 {
     (void)of, (void)addr;
     return 0;

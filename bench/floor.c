@@ -153,8 +153,8 @@ INLINE uint64_t write_options(const struct lk_tcp_options *options, uint8_t *con
     size_t is_odd = 0;
     if (first == end)
         return 0;
-    if (options->has_max_seg_size) {
-        sum = OPTION_SIZE | 4 << 8 | (uint32_t)swap_16(options->max_seg_size) << 16;
+    if (options->has_mss) {
+        sum = OPTION_SIZE | 4 << 8 | (uint32_t)swap_16(options->mss) << 16;
         store_32(out, (uint32_t)sum);
         out += 4;
     }
@@ -315,7 +315,7 @@ ptrdiff_t lk_emit_arp_frame(const struct lk_frame *headers, uint8_t *out, size_t
     return ETHERNET_LEN + ARP_LEN;
 }
 
-int lk_contains(const struct lk_block *block, const struct lk_addr *addr)
+int lk_contains(const struct lk_prefix *block, const struct lk_addr *addr)
 {
     uint32_t versions = (uint32_t)block->addr.version << 16 | addr->version;
     uint64_t prefix_len = block->prefix_len;
@@ -345,7 +345,7 @@ INLINE size_t copy(const uint8_t *ptr, size_t len, uint8_t *out, size_t cap, siz
 INLINE size_t rebuild_udp(const struct packet *packet, size_t len, uint8_t checksum, uint8_t *out, size_t cap, size_t at)
 {
     size_t end = copy(packet->payload, len, out, cap, at);
-    if (end && checksum == LK_LEFT_OUT)
+    if (end && checksum == LK_CHECKSUM_OMITTED)
         write_udp(load_32(packet->payload), addresses_total(packet), len - UDP_LEN,
                   total(packet->payload + UDP_LEN, len - UDP_LEN), 1, out + at);
     return end;
@@ -398,7 +398,7 @@ INLINE size_t rebuild_transport(const struct packet *packet, uint8_t *out, size_
     size_t len;
     if (packet->protocol == PROTOCOL_UDP && read_udp(packet, &len) == LK_READ) {
         uint8_t checksum = udp_verdict(packet, len);
-        if (checksum == LK_RIGHT || checksum == LK_LEFT_OUT)
+        if (checksum == LK_CHECKSUM_VALID || checksum == LK_CHECKSUM_OMITTED)
             return rebuild_udp(packet, len, checksum, out, cap, at);
     }
     if (packet->protocol == PROTOCOL_TCP && read_tcp(packet, &len, NULL) == LK_READ) {

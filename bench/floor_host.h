@@ -31,8 +31,8 @@ INLINE int is_from_other(const struct lk_addr *own, const struct lk_addr *src) {
 /* Whether each checksum of a frame that was read is valid or left out, and nothing is between IP and transport. */
 INLINE int is_valid(const struct lk_frame *frame)
 {
-    return frame->ipv4_checksum != LK_WRONG && frame->protocol == frame->ip.protocol
-           && (frame->transport_checksum == LK_RIGHT || frame->transport_checksum == LK_LEFT_OUT);
+    return frame->ipv4_checksum != LK_CHECKSUM_INVALID && frame->protocol == frame->ip.protocol
+           && (frame->transport_checksum == LK_CHECKSUM_VALID || frame->transport_checksum == LK_CHECKSUM_OMITTED);
 }
 
 /* Makes the headers of a frame those of an answer with this DSCP. */
@@ -73,7 +73,7 @@ INLINE int has_port(const uint16_t *ports, size_t count, uint16_t port)
 /* What SYN and ACK offers for these options of a SYN. */
 INLINE struct lk_tcp_options offer(const struct lk_host *host, const struct lk_tcp_options *asked)
 {
-    struct lk_tcp_options options = {.has_max_seg_size = 1, .max_seg_size = host->max_seg_size,
+    struct lk_tcp_options options = {.has_mss = 1, .mss = host->mss,
                                      .sack_permitted = asked->sack_permitted};
     if (asked->has_window_scale) {
         options.has_window_scale = 1;
@@ -295,7 +295,7 @@ ptrdiff_t lk_emit_icmp_error(const struct lk_interface *own, int problem, uint32
 {
     /* Type and code over IPv4 and over IPv6. */
     static const uint8_t codes[][4] = {[LK_HOP_LIMIT_EXPIRED] = {11, 0, 3, 0}, [LK_PACKET_TOO_BIG] = {3, 4, 2, 0},
-                                       [LK_ROUTE_MISSING] = {3, 0, 1, 0},      [LK_NEIGHBOUR_MISSING] = {3, 1, 1, 3},
+                                       [LK_NO_ROUTE_TO_DESTINATION] = {3, 0, 1, 0},      [LK_NEIGHBOUR_MISSING] = {3, 1, 1, 3},
                                        [LK_PORT_CLOSED] = {3, 3, 1, 4},        [LK_PROHIBITED] = {3, 13, 1, 1},
                                        [LK_FRAGMENT_MISSING] = {11, 1, 3, 1}};
     struct packet packet = {.header = NULL};
@@ -325,7 +325,7 @@ INLINE uint8_t *last_size(uint8_t *ptr, const uint8_t *end)
     return found;
 }
 
-int lk_clamp_mss(uint8_t *frame, size_t len, uint16_t max_seg_size)
+int lk_clamp_mss(uint8_t *frame, size_t len, uint16_t mss)
 {
     struct packet packet = {.header = NULL};
     size_t header_len = 0;
@@ -333,13 +333,13 @@ int lk_clamp_mss(uint8_t *frame, size_t len, uint16_t max_seg_size)
         || read_tcp(&packet, &header_len, NULL) != LK_READ || !(packet.payload[13] & LK_SYN))
         return 0;
     uint8_t *segment = frame + (packet.payload - frame), *size = last_size(segment + TCP_LEN, segment + header_len);
-    if (!size || swap_16(load_16(size)) <= max_seg_size)
+    if (!size || swap_16(load_16(size)) <= mss)
         return 0;
-    if (verdict(&packet, packet.len, 16) != LK_LEFT_TO_DEVICE) {
+    if (verdict(&packet, packet.len, 16) != LK_CHECKSUM_PARTIAL) {
         size_t is_odd = (size_t)(size - segment);
-        uint64_t before = add_at(0, load_16(size), is_odd), after = add_at(0, swap_16(max_seg_size), is_odd);
+        uint64_t before = add_at(0, load_16(size), is_odd), after = add_at(0, swap_16(mss), is_odd);
         update_field(segment + 16, before, fold(after));
     }
-    store_16(size, swap_16(max_seg_size));
+    store_16(size, swap_16(mss));
     return 1;
 }

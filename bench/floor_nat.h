@@ -334,7 +334,7 @@ int lk_translate_out(const struct lk_nat *nat, struct lk_mapping *mappings, size
     if (rejection)
         return rejection;
     if (flow.protocol == NAT_ICMP ? !flow.is_request : !flow.src_port)
-        return flow.protocol == NAT_ICMP ? LK_NO_MAPPING : LK_ZERO_PORT;
+        return flow.protocol == NAT_ICMP ? LK_NO_MAPPING : LK_NAT_PORT_ZERO;
     struct lk_mapping *mapping = find_kept(&table, flow.protocol, flow.src, flow.src_port);
     if (!mapping) {
         mapping = find_free(&table, flow.protocol, flow.src, flow.src_port);

@@ -48,8 +48,8 @@ INLINE void store_option(const uint8_t *ptr, size_t len, struct lk_tcp_options *
 {
     switch (ptr[0]) {
     case OPTION_SIZE:
-        options->has_max_seg_size = 1;
-        options->max_seg_size = swap_16(load_16(ptr + 2));
+        options->has_mss = 1;
+        options->mss = swap_16(load_16(ptr + 2));
         break;
     case OPTION_SCALE:
         options->has_window_scale = 1;

@@ -236,7 +236,7 @@ static OUTLINE char *append_notes(char *out, const struct lk_frame *frame)
     static const char *const reasons[] = {"", " (too short)", " (bad version)", " (bad length)", " (other ARP)",
                                           " (port zero)", " (bad flags)", " (bad options)", " (header cut)",
                                           " (unknown link)", " (hops left)", " (bad order)"};
-    if (frame->ipv4_checksum == LK_WRONG)
+    if (frame->ipv4_checksum == LK_CHECKSUM_INVALID)
         TEXT(" (header checksum incorrect)");
     if (frame->transport_checksum < sizeof verdicts / sizeof *verdicts)
         out = append(out, verdicts[frame->transport_checksum], strlen(verdicts[frame->transport_checksum]));
@@ -252,7 +252,7 @@ INLINE char *append_line(char *out, const struct lk_frame *frame)
     out = append_header(out, frame, transport);
     TEXT(" len=");
     out = append_number(out, frame->payload_len);
-    if (frame->ipv4_checksum > LK_RIGHT || frame->transport_checksum > LK_RIGHT || frame->reason)
+    if (frame->ipv4_checksum > LK_CHECKSUM_VALID || frame->transport_checksum > LK_CHECKSUM_VALID || frame->reason)
         out = append_notes(out, frame);
     return out;
 }

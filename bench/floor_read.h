@@ -77,14 +77,14 @@ INLINE uint8_t verdict(const struct packet *packet, size_t len, size_t field)
 {
     uint64_t pseudo = pseudo_total(addresses_total(packet), packet->protocol, len);
     if (holds(around(pseudo, total(packet->payload, len))))
-        return LK_RIGHT;
-    return load_16(packet->payload + field) == fold(pseudo) ? LK_LEFT_TO_DEVICE : LK_WRONG;
+        return LK_CHECKSUM_VALID;
+    return load_16(packet->payload + field) == fold(pseudo) ? LK_CHECKSUM_PARTIAL : LK_CHECKSUM_INVALID;
 }
 
 INLINE uint8_t udp_verdict(const struct packet *packet, size_t len)
 {
     if (load_16(packet->payload + 6) == 0)
-        return packet->is_ipv4 ? LK_LEFT_OUT : LK_WRONG;
+        return packet->is_ipv4 ? LK_CHECKSUM_OMITTED : LK_CHECKSUM_INVALID;
     return verdict(packet, len, 6);
 }
 
@@ -193,7 +193,7 @@ INLINE int store_icmp(const struct packet *packet, struct lk_frame *frame)
     frame->transport = LK_ICMP;
     frame->transport_offset = frame->payload_offset;
     frame->icmp = (struct lk_icmp){swap_32(load_32(ptr + 4)), ptr[0], ptr[1]};
-    frame->transport_checksum = icmp_holds(packet) ? LK_RIGHT : LK_WRONG;
+    frame->transport_checksum = icmp_holds(packet) ? LK_CHECKSUM_VALID : LK_CHECKSUM_INVALID;
     follow(frame, ICMP_LEN, packet->len - ICMP_LEN);
     return LK_READ;
 }
@@ -242,7 +242,7 @@ INLINE int store_ipv4(const uint8_t *ptr, size_t len, struct lk_frame *frame, st
     };
     frame->protocol = ptr[9];
     frame->is_fragment = (uint8_t)packet.is_fragment;
-    frame->ipv4_checksum = ipv4_holds(&packet) ? LK_RIGHT : LK_WRONG;
+    frame->ipv4_checksum = ipv4_holds(&packet) ? LK_CHECKSUM_VALID : LK_CHECKSUM_INVALID;
     follow(frame, (size_t)(packet.payload - ptr), packet.len);
     if (!packet.is_fragment)
         return store_transport(&packet, frame, options);

@@ -20,10 +20,10 @@ enum {
     X(read_frame_options) X(wrap_udp_frame) X(wrap_tcp_frame) X(answer) X(emit_icmp_error)             \
     X(clamp_mss) X(translate_out) X(translate_in) X(read_link) X(read_linktype) X(print_frame)         \
     X(set_hop_limit) X(set_dscp) X(set_addr) X(set_port) X(set_bytes) X(fill_checksum)
-#define TEXT_CALLS(X) X(parse_addr) X(parse_block) X(print_addr) X(print_block) X(print_endpoint)
+#define TEXT_CALLS(X) X(parse_addr) X(parse_prefix) X(print_addr) X(print_prefix) X(print_endpoint)
 #define OWN_CALLS(X)                                                                                   \
-    X(index_routes) X(choose_route) X(check_source) X(parse_endpoint) X(parse_ethernet)                \
-    X(print_ethernet) X(read_packet) X(read_captured) X(next_tcp_option) X(update_checksum)            \
+    X(index_routes) X(choose_route) X(check_source) X(parse_endpoint) X(parse_mac)                \
+    X(print_mac) X(read_packet) X(read_captured) X(next_tcp_option) X(update_checksum)            \
     X(update_checksum_addr) X(update_udp_checksum) X(update_udp_checksum_addr)                         \
     X(update_checksum_bytes) X(update_udp_checksum_bytes) X(make_route_table)                          \
     X(choose_route_by_table) X(check_source_by_table) X(fragment) X(reassemble)                        \
@@ -271,14 +271,14 @@ static void prepare_texts(const struct row *row)
 
 /* What a text is parsed as, to be printed: an address with a port, a block, or an Ethernet address. */
 static struct lk_endpoint endpoint;
-static struct lk_block block;
+static struct lk_prefix block;
 static uint8_t hardware[6];
 
 static void prepare_text(const struct row *row)
 {
     lk_parse_addr(row->text, row->size, &endpoint.addr);
-    lk_parse_block(row->text, row->size, &block);
-    lk_parse_ethernet(row->text, row->size, hardware);
+    lk_parse_prefix(row->text, row->size, &block);
+    lk_parse_mac(row->text, row->size, hardware);
     endpoint.port = 8080;
 }
 

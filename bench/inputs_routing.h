@@ -46,12 +46,12 @@ static void prepare_routes(const struct row *row)
     uint32_t random = 1;
     for (size_t i = 0; i < row->size; i++) {
         struct lk_addr addr = random_ipv4(&random);
-        routes[i] = (struct lk_route){.block = {addr, lens[random >> 20 & 15]}};
+        routes[i] = (struct lk_route){.prefix = {addr, lens[random >> 20 & 15]}};
     }
     for (size_t i = 0; i < DESTINATIONS; i++) {
         destinations[i] = random_ipv4(&random);
         if (i % 2)
-            destinations[i] = routes[random % row->size].block.addr;
+            destinations[i] = routes[random % row->size].prefix.addr;
     }
     index_routes(row->size);
 }
@@ -60,7 +60,7 @@ static void prepare_routes(const struct row *row)
 static void prepare_ordered_routes(const struct row *row)
 {
     for (size_t i = 0; i < row->size; i++)
-        routes[i] = (struct lk_route){.block = {{{10, (uint8_t)(i >> 16), (uint8_t)(i >> 8), (uint8_t)i}, 4}, 32}};
+        routes[i] = (struct lk_route){.prefix = {{{10, (uint8_t)(i >> 16), (uint8_t)(i >> 8), (uint8_t)i}, 4}, 32}};
 }
 
 /* As of a small router: a default route, and prefixes of its own. Half of the destinations are in one of these. The
@@ -68,13 +68,13 @@ static void prepare_ordered_routes(const struct row *row)
 static void prepare_few_routes(const struct row *row)
 {
     uint32_t random = 1;
-    routes[0] = (struct lk_route){.block = {.addr = {.version = 4}}};
+    routes[0] = (struct lk_route){.prefix = {.addr = {.version = 4}}};
     for (size_t i = 1; i < row->size; i++)
-        routes[i] = (struct lk_route){.block = {random_ipv4(&random), i % 2 ? 16 : 24}, .interface = i % 2};
+        routes[i] = (struct lk_route){.prefix = {random_ipv4(&random), i % 2 ? 16 : 24}, .interface = i % 2};
     for (size_t i = 0; i < DESTINATIONS; i++) {
         destinations[i] = random_ipv4(&random);
         if (i % 2)
-            destinations[i] = routes[1 + random % (row->size - 1)].block.addr;
+            destinations[i] = routes[1 + random % (row->size - 1)].prefix.addr;
     }
     index_routes(row->size);
 }
@@ -85,12 +85,12 @@ static void prepare_dual_stack(const struct row *row)
     uint32_t random = 1;
     size_t half = row->size / 2;
     prepare_few_routes(&(struct row){.size = half});
-    routes[half] = (struct lk_route){.block = {.addr = {.version = 6}}};
+    routes[half] = (struct lk_route){.prefix = {.addr = {.version = 6}}};
     for (size_t i = half + 1; i < row->size; i++)
-        routes[i] = (struct lk_route){.block = {random_ipv6(&random), i % 2 ? 48 : 64}, .interface = i % 2};
+        routes[i] = (struct lk_route){.prefix = {random_ipv6(&random), i % 2 ? 48 : 64}, .interface = i % 2};
     for (size_t i = 0; i < DESTINATIONS; i += 4) {
         destinations[i] = random_ipv6(&random);
-        destinations[i + 1] = routes[half + 1 + random % (half - 1)].block.addr;
+        destinations[i + 1] = routes[half + 1 + random % (half - 1)].prefix.addr;
     }
     index_routes(row->size);
 }
@@ -100,13 +100,13 @@ static void prepare_dual_stack(const struct row *row)
 static void prepare_own_block(const struct row *row)
 {
     uint32_t random = 1;
-    routes[0] = (struct lk_route){.block = {.addr = {.version = 6}}};
+    routes[0] = (struct lk_route){.prefix = {.addr = {.version = 6}}};
     for (size_t i = 1; i < row->size; i++)
-        routes[i] = (struct lk_route){.block = {random_ipv6(&random), 64}};
+        routes[i] = (struct lk_route){.prefix = {random_ipv6(&random), 64}};
     for (size_t i = 0; i < DESTINATIONS; i++) {
         destinations[i] = random_ipv6(&random);
         if (i % 5 == 0)
-            destinations[i] = routes[1 + random % (row->size - 1)].block.addr;
+            destinations[i] = routes[1 + random % (row->size - 1)].prefix.addr;
         else
             destinations[i].octets[2 + i % 2] ^= 0x20;
     }
@@ -123,12 +123,12 @@ static struct lk_addr ipv4_at(uint32_t number)
 static void prepare_blocks(const struct row *row, uint32_t first, uint32_t step)
 {
     uint32_t random = 1;
-    routes[0] = (struct lk_route){.block = {.addr = {.version = 4}}};
+    routes[0] = (struct lk_route){.prefix = {.addr = {.version = 4}}};
     for (size_t i = 1; i < row->size; i++)
-        routes[i] = (struct lk_route){.block = {ipv4_at(first + (uint32_t)i * step), 24}};
+        routes[i] = (struct lk_route){.prefix = {ipv4_at(first + (uint32_t)i * step), 24}};
     for (size_t i = 0; i < DESTINATIONS; i++) {
         uint8_t last = random_octet(&random);
-        destinations[i] = routes[1 + random % (row->size - 1)].block.addr;
+        destinations[i] = routes[1 + random % (row->size - 1)].prefix.addr;
         destinations[i].octets[3] = last;
     }
     index_routes(row->size);
@@ -220,7 +220,7 @@ static void prepare_in(const struct row *row, int protocol)
     for (size_t i = 0; i < FLOWS; i++) {
         struct lk_frame of;
         lk_read_frame(frames[i].ptr, frames[i].len, &of);
-        lk_reply(&of);
+        lk_make_reply(&of);
         of.icmp.type = 0;
         if (protocol == TCP)
             lk_wrap_tcp_frame(&of, &(struct lk_tcp_options){.tsval = 0}, row->size, room_of_frames[i], COLD_ROOM);
@@ -282,7 +282,7 @@ static const struct lk_host host = {
     .hardware = {2, 0, 0, 0, 0, 2},
     .echo_port = 53,
     .window_len = 64240,
-    .max_seg_size = 1460,
+    .mss = 1460,
     .window_scale = 7,
 };
 
@@ -336,7 +336,7 @@ static void prepare_solicitation(const struct row *row)
 static void prepare_syn(const struct row *row)
 {
     static const struct header syn = {.tcp = {.flags = LK_SYN, .window_len = 64240},
-                                      .options = {.has_max_seg_size = 1, .max_seg_size = 1460, .sack_permitted = 1,
+                                      .options = {.has_mss = 1, .mss = 1460, .sack_permitted = 1,
                                                   .has_timestamp = 1, .tsval = 0x12345678}};
     prepare_tcp_ipv4(&(struct row){.size = row->size, .header = &syn});
 }

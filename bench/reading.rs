@@ -242,8 +242,8 @@ fn options(header: &[u8]) -> Result<TcpOptions> {
             TcpOption::EndOfList => break,
             TcpOption::NoOperation | TcpOption::Unknown { .. } => (),
             TcpOption::MaxSegmentSize(size) => {
-                found.has_max_seg_size = 1;
-                found.max_seg_size = size;
+                found.has_mss = 1;
+                found.mss = size;
             }
             TcpOption::WindowScale(scale) => {
                 found.has_window_scale = 1;

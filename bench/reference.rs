@@ -210,7 +210,7 @@ fn segment<'a>(
         ack_number: (tcp.flags & 16 != 0).then_some(TcpSeqNumber(tcp.ack_number as i32)),
         window_len: tcp.window_len,
         window_scale: (options.has_window_scale != 0).then_some(options.window_scale),
-        max_seg_size: (options.has_max_seg_size != 0).then_some(options.max_seg_size),
+        max_seg_size: (options.has_mss != 0).then_some(options.mss),
         sack_permitted: options.sack_permitted != 0,
         sack_ranges,
         timestamp: (options.has_timestamp != 0)
@@ -334,7 +334,7 @@ pub unsafe extern "C" fn lk_emit_tcp_frame(
 }
 
 /// The block of a struct.
-pub fn cidr(block: &Block) -> Result<IpCidr> {
+pub fn cidr(block: &Prefix) -> Result<IpCidr> {
     let address = address(&block.addr)?;
     let most = if address.version() == IpVersion::Ipv4 { 32 } else { 128 };
     if block.prefix_len > most {
@@ -344,7 +344,7 @@ pub fn cidr(block: &Block) -> Result<IpCidr> {
 }
 
 #[unsafe(no_mangle)]
-pub extern "C" fn lk_contains(block: &Block, addr: &Addr) -> i32 {
+pub extern "C" fn lk_contains(block: &Prefix, addr: &Addr) -> i32 {
     let (Ok(block), Ok(addr)) = (cidr(block), address(addr)) else { return 0 };
     i32::from(block.address().version() == addr.version() && block.contains_addr(&addr))
 }

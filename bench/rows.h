@@ -56,7 +56,7 @@ static uint64_t call_read_frames_ahead(const struct library *library, const stru
     return answers;
 }
 
-static const struct lk_block block_of_ipv4 = {IPV4(0), 24}, block_of_ipv6 = {IPV6(0xfe, 0x80, 1), 64};
+static const struct lk_prefix block_of_ipv4 = {IPV4(0), 24}, block_of_ipv6 = {IPV6(0xfe, 0x80, 1), 64};
 REPEAT(call_contains_ipv4, contains, &block_of_ipv4, &ipv4_headers.dst.addr)
 REPEAT(call_contains_ipv6, contains, &block_of_ipv6, &ipv6_headers.dst.addr)
 
@@ -117,13 +117,13 @@ static uint64_t call_parse_all(const struct library *library, const struct row *
 PARSE(parse_addr, endpoint.addr)
 PARSE(ipv4_parsed_by_core, endpoint.addr)
 PARSE(ipv6_parsed_by_core, endpoint.addr)
-PARSE(parse_block, block)
+PARSE(parse_prefix, block)
 PARSE(parse_endpoint, endpoint)
-PARSE(parse_ethernet, hardware[0])
+PARSE(parse_mac, hardware[0])
 PRINT(print_addr, endpoint.addr)
-PRINT(print_block, block)
+PRINT(print_prefix, block)
 PRINT(print_endpoint, endpoint)
-PRINT(print_ethernet, hardware[0])
+PRINT(print_mac, hardware[0])
 REPEAT(call_print_frame, print_frame, &out.frame, (char *)OUT)
 
 static const struct call checksum_rows[] = {{"checksum", prepare_bytes, call_checksum}};
@@ -223,8 +223,8 @@ static const struct text address_texts[] = {
     {"2001:db8:1234:5678:9abc:def0:1234:5678", "IPv6 full", parse_addr, ipv6_parsed_by_core, print_addr},
     {"2001:DB8:ABCD:EF01:2345:6789:ABCD:EF01", "IPv6 upper case", parse_addr, ipv6_parsed_by_core, print_addr},
     {"::ffff:192.168.1.1", "IPv6 mapped", parse_addr, ipv6_parsed_by_core, print_addr},
-    {"192.168.1.10/24", "IPv4 block", parse_block, NULL, print_block},
-    {"2001:db8:1234::/48", "IPv6 block", parse_block, NULL, print_block},
+    {"192.168.1.10/24", "IPv4 block", parse_prefix, NULL, print_prefix},
+    {"2001:db8:1234::/48", "IPv6 block", parse_prefix, NULL, print_prefix},
     {"192.168.1.10", "IPv4 endpoint", NULL, NULL, print_endpoint},
     {"2001:db8::1", "IPv6 endpoint", NULL, NULL, print_endpoint},
 };
@@ -238,7 +238,7 @@ static const struct text own_texts[] = {
     {"www.lerkvist.exam", "endpoint, rejected", parse_endpoint, NULL, NULL},
     {"x192.168.1.10:80", "endpoint, rejected later", parse_endpoint, NULL, NULL},
     {"not an address", "address, rejected", parse_addr, NULL, NULL},
-    {"02-00-00-00-00-01", "Ethernet", parse_ethernet, NULL, print_ethernet},
+    {"02-00-00-00-00-01", "Ethernet", parse_mac, NULL, print_mac},
 };
 
 /* TCP headers by their options: none, those of a SYN, of data, of data as Linux sends it, with two NOPs before the
@@ -247,7 +247,7 @@ static const struct header headers[] = {
     {.name = " bare", .tcp = {.flags = LK_ACK, .window_len = 502}},
     {.name = " SYN",
      .tcp = {.flags = LK_SYN, .window_len = 64240},
-     .options = {.has_max_seg_size = 1, .max_seg_size = 1460, .has_window_scale = 1, .window_scale = 7,
+     .options = {.has_mss = 1, .mss = 1460, .has_window_scale = 1, .window_scale = 7,
                  .sack_permitted = 1, .has_timestamp = 1, .tsval = 0x12345678}},
     {.name = " data",
      .tcp = {.flags = LK_PSH | LK_ACK, .window_len = 502},

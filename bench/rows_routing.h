@@ -130,8 +130,8 @@ REPEAT(call_emit_icmp_error, emit_icmp_error, &host_interface, LK_PORT_CLOSED, 0
 REPEAT(call_fragment, fragment, bytes, frame_len, 576, 1, 0, OUT)
 
 /* A packet in two fragments. */
-static struct lk_partial partials[16];
-static uint8_t partial_memory[16 * LK_PARTIAL_MEMORY];
+static struct lk_reassembly partials[16];
+static uint8_t partial_memory[16 * LK_REASSEMBLY_MEMORY];
 static uint8_t parts[2][1600];
 static size_t part_lens[2];
 

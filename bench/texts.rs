@@ -53,8 +53,8 @@ pub unsafe extern "C" fn core_parse_ipv6(text: *const u8, len: usize, stored: *m
 }
 
 #[unsafe(no_mangle)]
-pub unsafe extern "C" fn lk_parse_block(text: *const u8, len: usize, stored: *mut Block) -> i32 {
-    let value = |read: IpCidr| Block { addr: addr(read.address()), prefix_len: read.prefix_len().into() };
+pub unsafe extern "C" fn lk_parse_prefix(text: *const u8, len: usize, stored: *mut Prefix) -> i32 {
+    let value = |read: IpCidr| Prefix { addr: addr(read.address()), prefix_len: read.prefix_len().into() };
     unsafe { store(text, len, stored, value) }
 }
 
@@ -79,7 +79,7 @@ pub unsafe extern "C" fn lk_print_addr(value: &Addr, out: *mut u8, cap: usize) -
 }
 
 #[unsafe(no_mangle)]
-pub unsafe extern "C" fn lk_print_block(value: &Block, out: *mut u8, cap: usize) -> isize {
+pub unsafe extern "C" fn lk_print_prefix(value: &Prefix, out: *mut u8, cap: usize) -> isize {
     unsafe { print(cidr(value), out, cap) }
 }
 

@@ -51,7 +51,7 @@ static void print_frame(const uint8_t *ptr, size_t len)
         printf("the header at byte %zu is rejected: %s\n", frame.payload_offset, lk_reason_name(reason));
     else if (frame.transport != LK_NO_TRANSPORT)
         printf("%s from port %u to %u, payload at %zu, checksum right: %d\n", frame.transport == LK_TCP ? "TCP" : "UDP",
-               (unsigned)frame.src.port, (unsigned)frame.dst.port, frame.payload_offset, frame.transport_checksum == LK_RIGHT);
+               (unsigned)frame.src.port, (unsigned)frame.dst.port, frame.payload_offset, frame.transport_checksum == LK_CHECKSUM_VALID);
     else
         printf("type %04x, protocol %u, payload at %zu\n", (unsigned)frame.ethernet.type, (unsigned)frame.ip.protocol, frame.payload_offset);
 }
@@ -71,7 +71,7 @@ static void answer(const uint8_t *ptr, size_t len)
     uint8_t out[80];
     if (lk_read_frame(ptr, len, &frame) != LK_READ || frame.transport != LK_UDP)
         return;
-    lk_reply(&frame);
+    lk_make_reply(&frame);
     print_bytes("answer", out, lk_emit_udp_frame(&frame, ptr + frame.payload_offset, frame.payload_len, out, sizeof out));
 }
 
@@ -81,13 +81,13 @@ static void read_texts(void)
     static const char hardware[] = "AB-cd-ef-0-0-1", zeros[] = "010.0.0.1", zone[] = "fe80::1%eth0", block[] = "10.1.2.3/8",
                       long_prefix[] = "10.1.2.3/33";
     struct lk_addr addr = read_addr("2001:DB8:0::1"), member = read_addr("10.255.0.1");
-    struct lk_block parsed;
+    struct lk_prefix parsed;
     uint8_t octets[6];
     char out[43];
     ptrdiff_t len;
 
-    if (lk_parse_ethernet(hardware, strlen(hardware), octets)) {
-        len = lk_print_ethernet(octets, out, sizeof out);
+    if (lk_parse_mac(hardware, strlen(hardware), octets)) {
+        len = lk_print_mac(octets, out, sizeof out);
         printf("%s is %.*s\n", hardware, (int)len, out);
     }
     print_addr(&addr);
@@ -96,11 +96,11 @@ static void read_texts(void)
         printf("%s is %.*s\n", zeros, (int)len, out);
     }
     printf("%s: %d\n", zone, lk_parse_addr(zone, strlen(zone), &addr));
-    if (lk_parse_block(block, strlen(block), &parsed)) {
-        len = lk_print_block(&parsed, out, sizeof out);
+    if (lk_parse_prefix(block, strlen(block), &parsed)) {
+        len = lk_print_prefix(&parsed, out, sizeof out);
         printf("%.*s has 10.255.0.1: %d\n", (int)len, out, lk_contains(&parsed, &member));
     }
-    printf("%s: %d\n", long_prefix, lk_parse_block(long_prefix, strlen(long_prefix), &parsed));
+    printf("%s: %d\n", long_prefix, lk_parse_prefix(long_prefix, strlen(long_prefix), &parsed));
 }
 
 int main(void)
@@ -126,7 +126,7 @@ int main(void)
     struct lk_endpoint client = read_endpoint("192.168.1.1:48896"), server = read_endpoint("192.168.1.2:53");
     struct lk_endpoint client6 = read_endpoint("[fe80::1]:1"), server6 = read_endpoint("[ff02::1]:2");
     struct lk_addr src = read_addr("10.0.0.1"), dst = read_addr("10.0.0.2"), mapped = read_addr("::ffff:192.168.1.1");
-    struct lk_block site = {read_addr("192.168.0.0"), 16}, link = {client6.addr, 64};
+    struct lk_prefix site = {read_addr("192.168.0.0"), 16}, link = {client6.addr, 64};
     uint8_t out[80], first[36];
     struct lk_ip ip;
     ptrdiff_t len;
@@ -170,8 +170,8 @@ int main(void)
     syn.seq_number = 0x01234567;
     syn.window_len = 0x0123;
     syn.flags = LK_SYN;
-    options.has_max_seg_size = 1;
-    options.max_seg_size = 1460;
+    options.has_mss = 1;
+    options.mss = 1460;
     options.has_window_scale = 1;
     options.window_scale = 14;
     options.sack_permitted = 1;

@@ -4,7 +4,7 @@
  *     parse captures, VLAN tags  lk_read_linktype, lk_read_link
  *     TCP options, IPv6 headers  lk_read_tcp_options, lk_next_tcp_option, lk_next_ipv6_header
  *     print and name             lk_print_frame, lk_protocol_name, lk_ethertype_name, lk_tcp_flag_name
- *     reply                      lk_reply, and then write a frame
+ *     reply                      lk_make_reply, and then write a frame
  *     write a frame              lk_emit_udp_frame, lk_emit_tcp_frame, lk_emit_icmp_frame, lk_emit_arp_frame
  *     write before a payload     lk_wrap_udp_frame, lk_wrap_tcp_frame
  *     write one layer            lk_emit_ethernet, lk_emit_arp, lk_emit_ip, lk_emit_udp, lk_emit_tcp, lk_emit_icmp
@@ -16,8 +16,8 @@
  *     TCP connections            lk_connection_init and the other calls lk_connection_..
  *     route                      lk_index_routes, lk_choose_route, lk_check_source, lk_forward, lk_emit_icmp_error
  *     translate (NAT)            lk_translate_out, lk_translate_in with a table; lk_translate without one
- *     fragments                  lk_fragment, lk_reassemble, lk_expire
- *     addresses                  lk_parse_addr, lk_print_addr, lk_parse_block, lk_parse_endpoint, lk_contains
+ *     fragments                  lk_fragment, lk_reassemble, lk_expire_reassembly
+ *     addresses                  lk_parse_addr, lk_print_addr, lk_parse_prefix, lk_parse_endpoint, lk_contains
  *     TCP sequence numbers       lk_add_seq, lk_subtract_seq, lk_compare_seq
  *     why a call failed          lk_reason_name, lk_failure_name, lk_rejection_name
  *     version and processor      lk_version, lk_cpu_supported
@@ -35,7 +35,7 @@
  * - A length above LK_MAX_LEN is a mistake. A payload of that length is too long, an output has no room, and any other
  *   input counts as empty. Where an empty input is allowed (lk_answer, lk_emit_icmp_error, lk_index_routes,
  *   lk_make_route_table, lk_set_bytes), one of that length is a failure. The counts of routes, nodes, cells, mappings and
- *   partials are such lengths too.
+ *   reassemblies are such lengths too.
  * - lk_is_.., lk_contains and lk_cpu_supported return 1 for yes and 0 for no.
  * - Fields that an initializer leaves out are 0. A 0 in `version`, in a field `has_..` or in a count means
  *   that there is no such value. A hop limit of 0 is a failure, and so is a port of 0 where receivers reject
@@ -79,7 +79,7 @@ int lk_cpu_supported(void);
 #define LK_NO_VERSION LK_FAILURE(1)       /* an address has another version than the call can write */
 #define LK_TWO_VERSIONS LK_FAILURE(2)     /* one address is IPv4, the other IPv6 */
 #define LK_BAD_PREFIX LK_FAILURE(3)       /* a prefix length above 32 for IPv4, above 128 for IPv6 */
-#define LK_NO_PORT LK_FAILURE(4)          /* a port is 0 where receivers reject it (all but the source port of UDP) */
+#define LK_EMIT_PORT_ZERO LK_FAILURE(4)   /* a port is 0 where receivers reject it: all but the source port of UDP */
 #define LK_NO_HOP_LIMIT LK_FAILURE(5)     /* the hop limit is 0 */
 #define LK_BAD_FIELD LK_FAILURE(6)        /* a field of `struct lk_ip` that this header has no place for; an
                                            * identification or MTU of lk_fragment */
@@ -142,8 +142,8 @@ struct lk_endpoint {
     uint16_t port;
 };
 
-/* A CIDR block: the addresses that have the first `prefix_len` bits of `addr`. The struct has no padding. */
-struct lk_block {
+/* A prefix (CIDR block): the addresses that have the first `prefix_len` bits of `addr`. The struct has no padding. */
+struct lk_prefix {
     struct lk_addr addr;
     uint16_t prefix_len; /* at most 32 for IPv4, 128 for IPv6 */
 };
@@ -169,9 +169,9 @@ struct lk_block {
  * lk_print_.. writes a text and returns its length, without a terminating null. It writes the null too if
  * `cap` is more than the length. A buffer of LK_.._TEXT bytes always has room for both. */
 #define LK_ADDR_TEXT 40
-#define LK_BLOCK_TEXT 44
+#define LK_PREFIX_TEXT 44
 #define LK_ENDPOINT_TEXT 48
-#define LK_ETHERNET_TEXT 18
+#define LK_MAC_TEXT 18
 
 /* IPv4: four numbers of 1 to 3 digits, joined by '.'. IPv6: RFC 4291, section 2.2. */
 int lk_parse_addr(const char *text, size_t len, struct lk_addr *addr);
@@ -181,14 +181,13 @@ ptrdiff_t lk_print_addr(const struct lk_addr *addr, char *out, size_t cap);
 
 /* An address, '/' and the prefix length, of 1 or 2 digits for IPv4, of 1 to 3 for IPv6. The address keeps all
  * its bits: it is not cut to the prefix. */
-int lk_parse_block(const char *text, size_t len, struct lk_block *block);
+int lk_parse_prefix(const char *text, size_t len, struct lk_prefix *prefix);
 
 /* Fails with LK_NO_VERSION or LK_BAD_PREFIX. */
-ptrdiff_t lk_print_block(const struct lk_block *block, char *out, size_t cap);
+ptrdiff_t lk_print_prefix(const struct lk_prefix *prefix, char *out, size_t cap);
 
-/* Whether the address is in the block. No address is in a block of the other version, or of a prefix that is too
- * long. */
-int lk_contains(const struct lk_block *block, const struct lk_addr *addr);
+/* Whether the address has the prefix. No address has a prefix of the other version, or one that is too long. */
+int lk_contains(const struct lk_prefix *prefix, const struct lk_addr *addr);
 
 /* An address, ':' and a port of 1 to 5 digits, with an IPv6 address in brackets; or an address by itself,
  * without brackets, which has port 0. */
@@ -198,10 +197,10 @@ int lk_parse_endpoint(const char *text, size_t len, struct lk_endpoint *endpoint
 ptrdiff_t lk_print_endpoint(const struct lk_endpoint *endpoint, char *out, size_t cap);
 
 /* An Ethernet address, 6 bytes: six groups of 1 or 2 hex digits, all joined by '-' or all by ':'. */
-int lk_parse_ethernet(const char *text, size_t len, uint8_t *octets);
+int lk_parse_mac(const char *text, size_t len, uint8_t *octets);
 
 /* Six pairs of hex digits in lower case, joined by '-'. */
-ptrdiff_t lk_print_ethernet(const uint8_t *octets, char *out, size_t cap);
+ptrdiff_t lk_print_mac(const uint8_t *octets, char *out, size_t cap);
 
 /* Whether the address is a multicast address (224.0.0.0/4, ff00::/8). */
 int lk_is_multicast(const struct lk_addr *addr);
@@ -364,11 +363,11 @@ struct lk_tcp_options {
     struct lk_sack_range sack_ranges[4]; /* the first `sack_range_count` count */
     uint32_t tsval;                      /* the timestamp */
     uint32_t tsecr;                      /* the timestamp that it answers */
-    uint16_t max_seg_size;               /* in bytes */
+    uint16_t mss;               /* in bytes */
     uint8_t window_scale;                /* in bits; at most 14 is read */
     uint8_t sack_permitted;
     uint8_t sack_range_count;            /* at most 4 */
-    uint8_t has_max_seg_size;
+    uint8_t has_mss;
     uint8_t has_window_scale;
     uint8_t has_timestamp;
 };
@@ -422,13 +421,13 @@ const char *lk_reason_name(int reason);
 
 /* What a checksum says. */
 enum lk_verdict {
-    LK_NO_CHECKSUM,     /* no such header was parsed, or only a UDP header whose length field does not fit */
-    LK_RIGHT,
-    LK_WRONG,
-    LK_LEFT_OUT,        /* UDP over IPv4: the sender computed none */
-    LK_LEFT_TO_DEVICE,  /* only the pseudo-header is summed: checksum offload (lk_fill_checksum sums the rest); it is
-                         * wrong for lk_rebuild, lk_answer and NAT */
-    LK_CHECKSUM_CUT     /* not all bytes that it covers were captured */
+    LK_CHECKSUM_NOT_READ, /* no such header was parsed, or only a UDP header whose length field does not fit */
+    LK_CHECKSUM_VALID,
+    LK_CHECKSUM_INVALID,
+    LK_CHECKSUM_OMITTED,  /* UDP over IPv4: the sender computed none */
+    LK_CHECKSUM_PARTIAL,  /* only the pseudo-header is summed: it is left to the device (checksum offload), and
+                           * lk_fill_checksum sums the rest; it is invalid for lk_rebuild, lk_answer and NAT */
+    LK_CHECKSUM_CUT       /* not all bytes that it covers were captured */
 };
 
 /* A frame. The fields of a header that is not there are 0. */
@@ -467,19 +466,19 @@ struct lk_frame {
  *   rejected header. `network` and `transport` name only headers that were read.
  * - The fields of a rejected UDP or TCP header are stored too, unless it is too short: `rejected` names it. RFC
  *   9293 needs them for RST. For a UDP header that is rejected as LK_BAD_LENGTH the verdict is
- *   LK_NO_CHECKSUM, because it does not say which bytes are summed.
+ *   LK_CHECKSUM_NOT_READ, because it does not say which bytes are summed.
  * - After an unknown EtherType or protocol all bytes are payload. A length of IEEE 802.3 counts as an unknown EtherType:
  *   the payload has the padding too. IPv4 options are skipped.
  * - IPv6 extension headers are stepped through: hop-by-hop options (0), routing (43), fragment (44), authentication (51)
  *   and destination options (60). `protocol` is the number of what follows them, and `ip.protocol` that in the IPv6
  *   header. No authentication is verified. At a header that is rejected `protocol` is its own number.
  * - The checksum of UDP or TCP is compared with the destination in the header. If an IPv4 source route has hops left
- *   (RFC 791), that is the next hop: the right checksum gets LK_WRONG, because it covers the last address of the route,
- *   and one over the next hop gets LK_RIGHT.
+ *   (RFC 791), that is the next hop: the right checksum gets LK_CHECKSUM_INVALID, because it covers the last address of
+ *   the route, and one over the next hop gets LK_CHECKSUM_VALID.
  * - An ICMP message is a packet of protocol 1 over IPv4, or 58 over IPv6, with at least 8 bytes. Its payload begins
  *   after these 8 bytes: it is the data of an echo, or the packet that an error quotes. No type or code is rejected,
- *   and the checksum is LK_RIGHT or LK_WRONG. A shorter message has no transport: all of it is payload. A packet that is
- *   quoted is a beginning: lk_read_captured_packet reads it, with LK_MAX_LEN as `len`.
+ *   and the checksum is LK_CHECKSUM_VALID or LK_CHECKSUM_INVALID. A shorter message has no transport: all of it is
+ *   payload. A packet that is quoted is a beginning: lk_read_captured_packet reads it, with LK_MAX_LEN as `len`.
  * - The values of an IPv6 fragment header are stored. If it is that of a fragment, `is_fragment` is 1, `protocol` is 44,
  *   and the payload begins at it. That of an atomic fragment, which is a whole packet (RFC 6946), is stepped through.
  * - Of the first fragment of a UDP or TCP packet the ports are stored, if these 4 bytes are there: `is_fragment` is 1 and
@@ -514,7 +513,7 @@ int lk_read_packet(const uint8_t *ptr, size_t len, struct lk_frame *frame);
  *   TCP with options        20     lengths, ports and flags     its fields; `rejected` is LK_TCP
  *
  * - If a TCP, UDP or ICMP checksum covers bytes that were not captured, its verdict is LK_CHECKSUM_CUT. But a UDP
- *   checksum of 0 is LK_LEFT_OUT, or LK_WRONG over IPv6.
+ *   checksum of 0 is LK_CHECKSUM_OMITTED, or LK_CHECKSUM_INVALID over IPv6.
  * - An ICMP message of which fewer than 8 bytes were captured has no transport, and no header is rejected. A first
  *   fragment of which the ports were not captured has the ports 0.
  * - `payload_len` is that of the whole frame: the payload may end past the captured bytes. The first `payload_captured`
@@ -522,11 +521,13 @@ int lk_read_packet(const uint8_t *ptr, size_t len, struct lk_frame *frame);
 int lk_read_captured(const uint8_t *ptr, size_t captured, size_t len, struct lk_frame *frame);
 int lk_read_captured_packet(const uint8_t *ptr, size_t captured, size_t len, struct lk_frame *frame);
 
-/* Whether a receiver may use a frame that was read: no header was rejected, and no checksum is LK_WRONG. A checksum may
- * still be left out, left to the device, or not captured. Whether the frame is for the receiver is not tested. */
+/* Whether a receiver may use a frame that was read: no header was rejected, and no checksum is LK_CHECKSUM_INVALID. A
+ * checksum may still be left out, left to the device, or not captured. Whether the frame is for the receiver is not
+ * tested. */
 static inline int lk_is_valid(const struct lk_frame *frame)
 {
-    return frame->reason == LK_READ && frame->ipv4_checksum != LK_WRONG && frame->transport_checksum != LK_WRONG;
+    return frame->reason == LK_READ && frame->ipv4_checksum != LK_CHECKSUM_INVALID
+           && frame->transport_checksum != LK_CHECKSUM_INVALID;
 }
 
 /* Link types of capture files (www.tcpdump.org/linktypes.html). */
@@ -620,8 +621,8 @@ int lk_read_linktype(uint32_t link_type, const uint8_t *ptr, size_t captured, si
  * - `hardware` is that of the sender. `fragment` is the offset in bytes, with `+` if more fragments follow.
  * - `len` is `payload_len`. It counts from a rejected header on.
  * - Notes are in parentheses: (header checksum incorrect) for IPv4; then (checksum incorrect), (no checksum) for
- *   LK_LEFT_OUT, (partial checksum correct) for LK_LEFT_TO_DEVICE, or (checksum cut); then the reason why a header was
- *   rejected, as (bad length) for LK_BAD_LENGTH. */
+ *   LK_CHECKSUM_OMITTED, (partial checksum correct) for LK_CHECKSUM_PARTIAL, or (checksum cut); then the reason why a
+ *   header was rejected, as (bad length) for LK_BAD_LENGTH. */
 ptrdiff_t lk_print_frame(const struct lk_frame *frame, char *out, size_t cap);
 
 /* Return the name of an IP protocol, as "UDP" for 17, or of an EtherType, as "IPv6" for 0x86dd, or "unknown". The texts
@@ -667,7 +668,7 @@ int lk_next_ipv6_header(const uint8_t *ptr, size_t len, struct lk_ipv6_header *h
  *   kind     option                 length                stored
  *   0        end mark               1, without a length   nothing; what follows does not count
  *   1        no operation           1, without a length   nothing
- *   2        maximum segment size   4                     `max_seg_size`
+ *   2        maximum segment size   4                     `mss`
  *   3        window scale           3                     `window_scale`; 14 for numbers above 14
  *   4        SACK permitted         2                     `sack_permitted`
  *   5        SACK                   10, 18, 26 or 34      `sack_ranges`, those of this option only
@@ -703,21 +704,21 @@ int lk_next_tcp_option(const uint8_t *ptr, size_t len, struct lk_tcp_option *opt
  * are exchanged. The IP header becomes that of a new packet: hop limit 64, ECN 0, identification 0 with DF, no flow
  * label, no fragment. These values are stored for ARP and IPv6 too, where `dont_fragment` is not used. All else stays,
  * DSCP and the fields of ARP, TCP and ICMP among it. */
-void lk_reply(struct lk_frame *frame);
+void lk_make_reply(struct lk_frame *frame);
 
 /* Writes a whole frame with a UDP packet: Ethernet header, IPv4 or IPv6 header, UDP header and the `len`
  * bytes at `ptr`. Uses `ethernet.src`, `ethernet.dst`, `src`, `dst` and `ip` of `headers`; EtherType,
  * protocol, lengths and checksums are filled in. Returns the length of the frame, or a failure:
  *
  * - LK_NO_VERSION and LK_TWO_VERSIONS,
- * - LK_NO_PORT: the destination port is 0,
+ * - LK_EMIT_PORT_ZERO: the destination port is 0,
  * - LK_NO_HOP_LIMIT and LK_BAD_FIELD, as by lk_emit_ip, or if `ip` says that the packet is a fragment,
  * - LK_PAYLOAD_TOO_LONG: `len` is above 65507 over IPv4, above 65527 over IPv6,
  * - LK_NO_ROOM. */
 ptrdiff_t lk_emit_udp_frame(const struct lk_frame *headers, const uint8_t *ptr, size_t len, uint8_t *out,
                             size_t cap);
 
-/* The same with a TCP segment. Uses `tcp` of `headers` too. Fails also with LK_NO_PORT if the source port is 0,
+/* The same with a TCP segment. Uses `tcp` of `headers` too. Fails also with LK_EMIT_PORT_ZERO if the source port is 0,
  * and with LK_TWO_CONTROLS and LK_OPTIONS_TOO_LONG. Header and payload have at most 65515 bytes over IPv4, 65535
  * over IPv6. */
 ptrdiff_t lk_emit_tcp_frame(const struct lk_frame *headers, const struct lk_tcp_options *options,
@@ -780,7 +781,7 @@ ptrdiff_t lk_emit_udp(const struct lk_endpoint *src, const struct lk_endpoint *d
  * `urgent_at` are written whatever the flags are. The options are written in this order:
  *
  *   kind   bytes                        written
- *   2      4                            if `has_max_seg_size` is not 0
+ *   2      4                            if `has_mss` is not 0
  *   3      3                            if `has_window_scale` is not 0; `window_scale` whatever it is
  *   4      2                            if `sack_permitted` is not 0
  *   5      2 + 8 * `sack_range_count`   if `sack_range_count` is not 0 and `sack_permitted` is 0, whatever the flags are
@@ -814,7 +815,7 @@ uint16_t lk_checksum(const uint8_t *ptr, size_t len);
  * An ICMP message whose other bytes are all 0, an echo reply over IPv4, verifies only with 0xffff: in ICMP write 0xffff
  * instead of 0.
  *
- * A field of LK_LEFT_TO_DEVICE is the sum of the pseudo-header, and not its complement. After an address changed it is
+ * A field of LK_CHECKSUM_PARTIAL is the sum of the pseudo-header, and not its complement. After an address changed it is
  * `(uint16_t)~lk_update_checksum_addr((uint16_t)~field, &before, &after)`. Ports and payload are not in it. The calls
  * lk_set_.. know such a field. */
 uint16_t lk_update_checksum(uint16_t checksum, uint16_t before, uint16_t after);
@@ -964,7 +965,7 @@ struct lk_host {
     uint32_t seq_number;            /* hard to guess, another for each connection (RFC 9293, section 3.4.1) */
     uint32_t tsval;                 /* the timestamp */
     uint16_t window_len;            /* in bytes; not scaled, because it is sent with SYN */
-    uint16_t max_seg_size;          /* in bytes */
+    uint16_t mss;          /* in bytes */
     uint8_t window_scale;           /* in bits; more than 14 is sent as 14 */
     /* what its neighbour advertisements say */
     uint8_t is_router;              /* not 0: it forwards packets; sets R (RFC 4861, section 7.2.4) */
@@ -1000,9 +1001,9 @@ struct lk_host {
  * - A UDP packet for `echo_port` gets none if its source port is below 1024, or not above `echo_port`. So neither two
  *   hosts nor a host and a service (RFC 862 to 868) reply to each other forever. Choose an `echo_port` below the ports
  *   of its clients. It echoes also if it is one of `open_udp_ports`.
- * - SYN and ACK has `max_seg_size`. It has window scale, SACK permitted and timestamp if the SYN has them.
+ * - SYN and ACK has `mss`. It has window scale, SACK permitted and timestamp if the SYN has them.
  * - No connection is kept: what follows the SYN gets RST, with window 0 and without options.
- * - The answer is a new IP packet, as that of lk_reply. An echo reply has the DSCP of the request (RFC 1812, section
+ * - The answer is a new IP packet, as that of lk_make_reply. An echo reply has the DSCP of the request (RFC 1812, section
  *   4.3.2.5), any other answer has DSCP 0.
  * - A solicitation must be valid for lk_read_ndisc, so it gets no answer after extension headers. It is sent to `ipv6`
  *   and `hardware`, or to the solicited-node group of `ipv6` and the hardware address of the group or `hardware` (RFC
@@ -1052,11 +1053,11 @@ enum lk_problem {
     LK_NO_PROBLEM,
     LK_HOP_LIMIT_EXPIRED,
     LK_PACKET_TOO_BIG,
-    LK_ROUTE_MISSING,
+    LK_NO_ROUTE_TO_DESTINATION,
     LK_NEIGHBOUR_MISSING, /* the next hop has no hardware address */
     LK_PORT_CLOSED,
     LK_PROHIBITED,        /* a filter rejects it */
-    LK_FRAGMENT_MISSING   /* its packet was not complete in time (lk_expire) */
+    LK_FRAGMENT_MISSING   /* its packet was not complete in time (lk_expire_reassembly) */
 };
 
 /* Writes an Ethernet frame with an ICMP error about a frame that came in by an interface, to its sender. `frame` is as
@@ -1067,11 +1068,11 @@ enum lk_problem {
  *   problem                    IPv4    IPv6   tested; else the result is 0
  *   LK_HOP_LIMIT_EXPIRED       11, 0   3, 0   the hop limit is 0 or 1
  *   LK_PACKET_TOO_BIG          3, 4    2, 0   the packet is longer than `mtu`, and over IPv4 has DF
- *   LK_ROUTE_MISSING           3, 0    1, 0   nothing
+ *   LK_NO_ROUTE_TO_DESTINATION           3, 0    1, 0   nothing
  *   LK_NEIGHBOUR_MISSING       3, 1    1, 3   nothing
  *   LK_PORT_CLOSED             3, 3    1, 4   nothing, not even that it is UDP or TCP
  *   LK_PROHIBITED              3, 13   1, 1   nothing
- *   LK_FRAGMENT_MISSING        11, 1   3, 1   nothing: give the first fragment, from lk_expire
+ *   LK_FRAGMENT_MISSING        11, 1   3, 1   nothing: give the first fragment, from lk_expire_reassembly
  *   LK_NO_PROBLEM, any other                  the result is 0
  *
  *   part of the error          value
@@ -1113,31 +1114,31 @@ ptrdiff_t lk_emit_icmp_error(const struct lk_interface *own, int problem, uint32
 /* Why a frame is not forwarded, translated or accepted. If several reasons apply, it is the first in this order. */
 enum lk_rejection {
     LK_NOT_REJECTED,
-    LK_NO_IPV4,        /* lk_translate: the endpoint to be written has no IPv4 address */
-    LK_NOT_IP,         /* no Ethernet header, or an EtherType other than IPv4 and IPv6; for NAT other than IPv4 */
-    LK_BAD_HEADER,     /* the version of the IP header does not match the EtherType, or its lengths do not fit */
-    LK_WRONG_CHECKSUM, /* of the IPv4 header */
-    LK_EXPIRED,        /* the hop limit is 0 or 1 */
-    LK_FRAGMENT,       /* NAT: the packet is a fragment */
-    LK_OTHER_PROTOCOL, /* NAT: the packet carries neither UDP nor TCP, nor an ICMP message that is translated, by its
-                        * type and code */
-    LK_BAD_TRANSPORT,  /* NAT: the UDP or TCP header is rejected (lk_reason), an ICMP message has fewer than 8 bytes,
-                        * or the checksum is wrong or left to the device; an ICMP error quotes less than an IPv4
-                        * header and 8 bytes */
-    LK_ZERO_PORT,      /* NAT: the port to be written is 0, and a receiver would reject the packet; lk_translate_out:
-                        * the source port is 0, so that no answer could come back */
-    LK_NO_MAPPING,     /* lk_translate_in: no live mapping has this outside address and port; an echo request that
-                        * comes in, or an echo reply that leaves; an ICMP error about another packet */
-    LK_NO_FREE_PORT,   /* lk_translate_out: no outside port is free for this endpoint */
-    LK_MARTIAN,        /* lk_check_source: no host may send from this address */
-    LK_NO_ROUTE,       /* lk_check_source: there is no route back */
-    LK_OTHER_INTERFACE /* lk_check_source: the route back leads to another interface */
+    LK_NO_IPV4,            /* lk_translate: the endpoint to be written has no IPv4 address */
+    LK_NOT_IP,             /* no Ethernet header, or an EtherType other than IPv4 and IPv6; for NAT other than IPv4 */
+    LK_BAD_HEADER,         /* the version of the IP header does not match the EtherType, or its lengths do not fit */
+    LK_WRONG_CHECKSUM,     /* of the IPv4 header */
+    LK_HOP_LIMIT_TOO_LOW,  /* the hop limit is 0 or 1 */
+    LK_FRAGMENT,           /* NAT: the packet is a fragment */
+    LK_OTHER_PROTOCOL,     /* NAT: the packet carries neither UDP nor TCP, nor an ICMP message that is translated, by
+                            * its type and code */
+    LK_BAD_TRANSPORT,      /* NAT: the UDP or TCP header is rejected (lk_reason), an ICMP message has fewer than 8
+                            * bytes, or the checksum is wrong or left to the device; an ICMP error quotes less than an
+                            * IPv4 header and 8 bytes */
+    LK_NAT_PORT_ZERO,      /* NAT: the port to be written is 0, and a receiver would reject the packet;
+                            * lk_translate_out: the source port is 0, so that no answer could come back */
+    LK_NO_MAPPING,         /* lk_translate_in: no live mapping has this outside address and port; an echo request that
+                            * comes in, or an echo reply that leaves; an ICMP error about another packet */
+    LK_NO_FREE_PORT,       /* lk_translate_out: no outside port is free for this endpoint */
+    LK_MARTIAN,            /* lk_check_source: no host may send from this address */
+    LK_NO_ROUTE_TO_SOURCE, /* lk_check_source: there is no route back */
+    LK_OTHER_INTERFACE     /* lk_check_source: the route back leads to another interface */
 };
 
 /* The number of rejections: the length of an array with a place for each. */
 #define LK_REJECTION_COUNT 15
 
-/* Returns the name of a rejection, as "LK_EXPIRED", or "no rejection". The text is constant. */
+/* Returns the name of a rejection, as "LK_HOP_LIMIT_TOO_LOW", or "no rejection". The text is constant. */
 const char *lk_rejection_name(int rejection);
 
 /* Forwards the packet of an Ethernet frame by one hop, in place (RFC 1812, section 5.3.1; RFC 8200, section 3). `src`
@@ -1145,7 +1146,7 @@ const char *lk_rejection_name(int rejection);
  * header is updated (RFC 1624). All other bytes stay. IPv4 options are summed for the checksum, and not acted on. The
  * payload and padding are not looked at.
  *
- * Returns LK_NOT_REJECTED, or LK_NOT_IP, LK_BAD_HEADER, LK_WRONG_CHECKSUM or LK_EXPIRED; then the frame is
+ * Returns LK_NOT_REJECTED, or LK_NOT_IP, LK_BAD_HEADER, LK_WRONG_CHECKSUM or LK_HOP_LIMIT_TOO_LOW; then the frame is
  * unchanged. */
 int lk_forward(uint8_t *frame, size_t len, const uint8_t *src, const uint8_t *dst);
 
@@ -1156,10 +1157,10 @@ enum lk_side { LK_SOURCE, LK_DESTINATION };
  * the checksums, as lk_update_.. do. A UDP checksum of 0 stays 0. Any `side` but 0 is the destination. The identifier
  * of an ICMP echo message counts as its port on either side, and may be 0. Its checksum is computed anew. Other ICMP
  * messages get LK_OTHER_PROTOCOL, whatever their length and checksum are. Type and code count as 0 if they are missing.
- * A checksum of LK_LEFT_TO_DEVICE gets LK_BAD_TRANSPORT: call lk_fill_checksum before.
+ * A checksum of LK_CHECKSUM_PARTIAL gets LK_BAD_TRANSPORT: call lk_fill_checksum before.
  *
- * Returns LK_NOT_REJECTED, or a rejection from LK_NO_IPV4 to LK_ZERO_PORT, but not LK_EXPIRED; then the frame is
- * unchanged. The source port of UDP may be 0 (RFC 768), so that it gets no LK_ZERO_PORT. */
+ * Returns LK_NOT_REJECTED, or a rejection from LK_NO_IPV4 to LK_NAT_PORT_ZERO, but not LK_HOP_LIMIT_TOO_LOW; then the
+ * frame is unchanged. The source port of UDP may be 0 (RFC 768), so that it gets no LK_NAT_PORT_ZERO. */
 int lk_translate(uint8_t *frame, size_t len, int side, const struct lk_endpoint *end);
 
 /* Whether the TCP or UDP checksum of a frame is left to the device that sends it (checksum offload). No frame says so,
@@ -1172,7 +1173,7 @@ enum lk_offload {
     LK_COMPLETE   /* it is not */
 };
 
-/* Lowers the maximum segment size of a TCP SYN in an Ethernet frame to `max_seg_size`, in place, and updates the TCP
+/* Lowers the maximum segment size of a TCP SYN in an Ethernet frame to `mss`, in place, and updates the TCP
  * checksum (RFC 1624). A router does so with each frame that comes in or leaves by a link with a smaller MTU: to the MTU
  * less 40 over IPv4, and less 60 over IPv6.
  *
@@ -1183,8 +1184,8 @@ enum lk_offload {
  *   or has IPv6 extension headers before TCP.
  *
  * Returns 1 if the size was larger, else 0; then the frame is unchanged. */
-int lk_clamp_mss(uint8_t *frame, size_t len, uint16_t max_seg_size);
-int lk_clamp_mss_as(uint8_t *frame, size_t len, uint16_t max_seg_size, int offload);
+int lk_clamp_mss(uint8_t *frame, size_t len, uint16_t mss);
+int lk_clamp_mss_as(uint8_t *frame, size_t len, uint16_t mss, int offload);
 
 /* ---- fragments ---- */
 
@@ -1234,9 +1235,9 @@ int lk_clamp_mss_as(uint8_t *frame, size_t len, uint16_t max_seg_size, int offlo
 ptrdiff_t lk_fragment(const uint8_t *frame, size_t len, size_t mtu, int64_t ident, size_t number, uint8_t *out,
                       size_t cap);
 
-/* A packet of which fragments were received. Only lk_reassemble and lk_expire write it, but the caller may free one with
- * zeros. The fields from `expires` to `dst` may be read, and the others are private. */
-struct lk_partial {
+/* A packet of which fragments were received. Only lk_reassemble and lk_expire_reassembly write it, but the caller may
+ * free one with zeros. The fields from `expires` to `dst` may be read, and the others are private. */
+struct lk_reassembly {
     uint64_t expires; /* its fragments are kept before this time, in milliseconds; 0: it is not in use */
     uint32_t ident;   /* the identification */
     uint8_t version;  /* 4 or 6 */
@@ -1256,38 +1257,39 @@ struct lk_partial {
 };
 
 /* The memory of a packet, in bytes, that suffices for the longest. Each 8 bytes of payload take 9. */
-#define LK_PARTIAL_MEMORY 73728
+#define LK_REASSEMBLY_MEMORY 73728
 
 /* Puts the IPv4 or IPv6 packet in an Ethernet frame together with its other fragments (RFC 791, section 3.2; RFC 8200,
  * section 4.5). Returns 0 if a part of the packet is missing, else the length of the frame with the whole packet:
  *
  *     enum { COUNT = 64 };
- *     static struct lk_partial partials[COUNT];
- *     static uint8_t memory[COUNT * LK_PARTIAL_MEMORY];
+ *     static struct lk_reassembly reassemblies[COUNT];
+ *     static uint8_t memory[COUNT * LK_REASSEMBLY_MEMORY];
  *
- *     n = lk_reassemble(partials, COUNT, memory, sizeof memory, milliseconds(), frame, len, out, sizeof out);
+ *     n = lk_reassemble(reassemblies, COUNT, memory, sizeof memory, milliseconds(), frame, len, out, sizeof out);
  *     if (n > 0)
  *         take(out, (size_t)n);
  *
  * Fragments may come in any order, and more than once. A `cap` of 65589 always suffices.
  *
- * - `partials` are zeros at first. Each has an equal part of `memory`, of memory_len / count bytes, which may have any
+ * - `reassemblies` are zeros at first. Each has an equal part of `memory`, of memory_len / count bytes, which may have any
  *   contents at first. The caller passes the same `count` and `memory_len` as long as fragments are kept.
  * - `now` is a clock in milliseconds that never goes back. Fragments are kept for 60 seconds after the one of their
  *   packet that came first (RFC 1122, section 3.3.2; RFC 8200, section 4.5).
  * - Fragments belong to one packet if they agree in version, addresses and identification, over IPv4 also in protocol.
- * - The fragments of a packet are in one of the `partials`:
+ * - The fragments of a packet are in one of the `reassemblies`:
  *
  *   packet                               its place
  *   kept, and not expired                that with its fragments
- *   another, while one is not in use     the first of those that are not in use: what has expired waits for lk_expire
+ *   another, while one is not in use     the first of those that are not in use: what has expired is in use until
+ *                                        lk_expire_reassembly
  *   another                              the first of those with the least `expires`, also if it has not expired
  *
  * - A host calls lk_answer for each fragment before (`is_fragment` of `struct lk_frame`). One that gets an answer has a
  *   fault: send the answer, and discard the fragment (RFC 8200, section 4.5).
  * - Messages of neighbour discovery must not come in fragments (RFC 6980): drop a whole packet with one.
  *
- * The first row that is true has the result. The rows with a star leave `partials` and `memory` unchanged:
+ * The first row that is true has the result. The rows with a star leave `reassemblies` and `memory` unchanged:
  *
  *   frame                                                                         result
  *   no IPv4 or IPv6 header; a wrong version, length or IPv4 header checksum       LK_NO_HEADER *
@@ -1322,20 +1324,20 @@ struct lk_partial {
  *   MF, offset, lengths, IPv4 header checksum  those of a packet that is not fragmented
  *   IPv6 fragment header                       left out; its next header is in the IPv6 header
  *   padding                                    left out */
-ptrdiff_t lk_reassemble(struct lk_partial *partials, size_t count, uint8_t *memory, size_t memory_len, uint64_t now,
-                        const uint8_t *frame, size_t len, uint8_t *out, size_t cap);
+ptrdiff_t lk_reassemble(struct lk_reassembly *reassemblies, size_t count, uint8_t *memory, size_t memory_len,
+                        uint64_t now, const uint8_t *frame, size_t len, uint8_t *out, size_t cap);
 
 /* Frees packets whose time is over, up to one whose fragment with offset 0 was received. Writes the frame with this
  * fragment, and returns its length; 0: there is no such packet. An ICMP error tells its sender (RFC 792; RFC 4443,
  * section 3.3). Call it until it returns 0:
  *
- *     while ((n = lk_expire(partials, COUNT, memory, sizeof memory, milliseconds(), out, sizeof out)) > 0)
+ *     while ((n = lk_expire_reassembly(reassemblies, COUNT, memory, sizeof memory, now, out, sizeof out)) > 0)
  *         error_len = lk_emit_icmp_error(&own, LK_FRAGMENT_MISSING, 0, out, n, error, sizeof error);
  *
  * The frame has the Ethernet header of the fragment that came first. No frame is written for a packet that was dropped,
  * evicted by another one, or longer than `cap`. A `cap` of 65589 always suffices. */
-size_t lk_expire(struct lk_partial *partials, size_t count, const uint8_t *memory, size_t memory_len, uint64_t now,
-                 uint8_t *out, size_t cap);
+size_t lk_expire_reassembly(struct lk_reassembly *reassemblies, size_t count, const uint8_t *memory, size_t memory_len,
+                            uint64_t now, uint8_t *out, size_t cap);
 
 /* ---- edits in place ---- */
 
@@ -1401,7 +1403,7 @@ int lk_set_port_as(uint8_t *frame, size_t len, int side, uint16_t port, int offl
 int lk_set_bytes(uint8_t *frame, size_t len, size_t offset, const uint8_t *ptr, size_t count);
 int lk_set_bytes_as(uint8_t *frame, size_t len, size_t offset, const uint8_t *ptr, size_t count, int offload);
 
-/* Computes the TCP, UDP, ICMP or ICMPv6 checksum anew, as a device does for LK_LEFT_TO_DEVICE, also where UDP has none.
+/* Computes the TCP, UDP, ICMP or ICMPv6 checksum anew, as a device does for LK_CHECKSUM_PARTIAL, also where UDP has none.
  * If an IPv4 source route has hops left, the result covers the next hop, and the last receiver rejects it. Returns 0 for
  * fragments other than atomic ones, and for UDP whose length does not fit. */
 int lk_fill_checksum(uint8_t *frame, size_t len);
@@ -1410,7 +1412,7 @@ int lk_fill_checksum(uint8_t *frame, size_t len);
 
 /* A route. The struct has no padding. */
 struct lk_route {
-    struct lk_block block;   /* the destinations */
+    struct lk_prefix prefix; /* the destinations */
     struct lk_addr next_hop; /* the next router; version 0: the destinations are on the link */
     uint16_t interface;      /* a number that the caller chooses */
 };
@@ -1428,7 +1430,7 @@ struct lk_route_node {
 };
 
 /* Writes the index of a list of routes, one node for each, and returns the number of routes. The index is valid as long
- * as the routes do not change. Fails with LK_NO_VERSION or LK_BAD_PREFIX if the block of a route is invalid, and with
+ * as the routes do not change. Fails with LK_NO_VERSION or LK_BAD_PREFIX if the prefix of a route is invalid, and with
  * LK_NO_ROOM if there are more routes than nodes, more than 2^32 - 1, or if a count is above LK_MAX_LEN. After a
  * failure the nodes are unchanged.
  *
@@ -1449,7 +1451,7 @@ struct lk_route_node {
 ptrdiff_t lk_index_routes(const struct lk_route *routes, size_t count, struct lk_route_node *nodes, size_t node_count);
 
 /* Returns the place in the list of the route with the longest prefix that contains the address, or -1 if no route contains
- * it. Of equal blocks the first route counts. `count` is the number of routes. An address without a version has no
+ * it. Of equal prefixes the first route counts. `count` is the number of routes. An address without a version has no
  * route. */
 ptrdiff_t lk_choose_route(const struct lk_route_node *nodes, size_t count, const struct lk_addr *addr);
 
@@ -1476,7 +1478,7 @@ ptrdiff_t lk_choose_route_by_table(const struct lk_route_node *nodes, size_t cou
  *
  * - LK_MARTIAN for 0.0.0.0/8, 127.0.0.0/8, 224.0.0.0/4, 240.0.0.0/4, `::`, `::1`, ::ffff:0:0/96, ff00::/8, and an
  *   address without a version (RFC 1122, section 3.2.1.3; RFC 1812, section 5.3.7; RFC 4291, section 2),
- * - LK_NO_ROUTE or LK_OTHER_INTERFACE, by the route to `src` (strict reverse path forwarding, RFC 3704, section
+ * - LK_NO_ROUTE_TO_SOURCE or LK_OTHER_INTERFACE, by the route to `src` (strict reverse path forwarding, RFC 3704, section
  *   2.2).
  *
  * A link-local source (169.254.0.0/16, fe80::/10) is accepted or rejected by its route, as any other. What comes from it
@@ -1539,8 +1541,8 @@ struct lk_mapping {
  *     if (rejection == LK_NOT_REJECTED)
  *         ... forward the frame
  *
- * - Both return an `lk_rejection`. If it is not 0, the frame and the mappings are unchanged. LK_NO_IPV4 and LK_EXPIRED
- *   are not among them.
+ * - Both return an `lk_rejection`. If it is not 0, the frame and the mappings are unchanged. LK_NO_IPV4 and
+ *   LK_HOP_LIMIT_TOO_LOW are not among them.
  * - A mapping belongs to one inside endpoint, whatever the remote endpoints are (RFC 4787, REQ-1). What any remote
  *   endpoint sends to its outside port comes in (REQ-8).
  * - An endpoint without a live mapping gets a new one. Its port is its own port if free, else the first free one of its
@@ -1624,9 +1626,10 @@ enum lk_connection_state {
  * 2^30. A connection always gets the same two rings. A call that gets a ring of another length returns -1 if the bytes of
  * the connection do not fit into it; then nothing changes. Which of two rings of a fitting length it gets is not tested.
  *
- * `now` is a clock in milliseconds that never goes back. A call that stores a segment in `out` returns 1: send it. It returns
- * 0 if there is none; then `out` is unchanged. The payload of a segment is in `outgoing`: it is valid until another call for
- * the connection. After each other call, and at the time of lk_connection_due, call lk_connection_tick until it returns 0.
+ * `now` is a clock in milliseconds that never goes back. A call that stores a segment in `out` returns 1: send it. It
+ * returns 0 if there is none; then `out` is unchanged. The payload of a segment is in `outgoing`: it is valid until
+ * another call for the connection. After each other call, and at the time of lk_connection_next_timeout, call
+ * lk_connection_tick until it returns 0.
  *
  *     struct lk_segment in = {f.tcp, options, frame + f.payload_offset, f.payload_len}, out;
  *     if (lk_connection_step(&c, outgoing, OUTGOING, incoming, INCOMING, now, &in, random32(), &out) == 1)
@@ -1641,9 +1644,9 @@ enum lk_connection_state {
 
 /* Makes a connection in LK_CLOSED, whatever `connection` was. `mss` is the largest segment that it takes and sends, in
  * bytes: the MTU without the IP and TCP header, 1460 for IPv4 over Ethernet and 1440 for IPv6; 0 is 536. Where the peer
- * is silent for `keep_alive` seconds, it is probed; 0 is 7200. If `is_eager` is not 0, small segments go at once, as with
- * TCP_NODELAY: Nagle's algorithm is off. */
-void lk_connection_init(struct lk_connection *connection, uint16_t mss, uint32_t keep_alive, int is_eager);
+ * is silent for `keep_alive_s` seconds, it is probed; 0 is 7200. If `no_delay` is not 0, small segments go at once, as
+ * with TCP_NODELAY: Nagle's algorithm is off. */
+void lk_connection_init(struct lk_connection *connection, uint16_t mss, uint32_t keep_alive_s, int no_delay);
 
 /* Waits for the SYN of a peer: LK_CLOSED becomes LK_LISTEN. In another state nothing happens. The connection is that with
  * the peer whose SYN comes: a program has one connection for each peer. */
@@ -1681,29 +1684,56 @@ ptrdiff_t lk_connection_write(struct lk_connection *connection, uint8_t *outgoin
                               const uint8_t *ptr, size_t len);
 
 /* Copies the next bytes of the peer to `out`, at most `cap`, and returns how many. If it is 0, and
- * lk_connection_is_ended is 1, the peer writes no more. */
+ * lk_connection_at_eof is 1, the peer writes no more. */
 ptrdiff_t lk_connection_read(struct lk_connection *connection, const uint8_t *incoming, size_t incoming_len,
                              uint8_t *out, size_t cap);
 
 /* Returns when lk_connection_tick has something to do, if no other call comes before. UINT64_MAX: never. */
-uint64_t lk_connection_due(const struct lk_connection *connection);
+uint64_t lk_connection_next_timeout(const struct lk_connection *connection);
 
 /* Returns an `lk_connection_state`. */
 int lk_connection_state(const struct lk_connection *connection);
 
 /* Whether the application has read all that the peer wrote, and the peer has closed. */
-int lk_connection_is_ended(const struct lk_connection *connection);
+int lk_connection_at_eof(const struct lk_connection *connection);
 
 /* Returns the bytes that were written and not yet acknowledged, plus 1 for a SYN and 1 for the FIN of lk_connection_close.
  * At least `outgoing_len` less the result can be written. The SYN counts before it is sent: after lk_connection_init and
  * lk_connection_listen the result is 1. If a connection ends before all is acknowledged, for example by
  * lk_connection_abort, the number stays. */
-size_t lk_connection_waiting(const struct lk_connection *connection);
+size_t lk_connection_unacked(const struct lk_connection *connection);
 
 /* An ICMP error says that the segment with `seq_number`, which it quotes, was too big (RFC 1191, RFC 8201). `mss` is the MTU
  * of the error without the IP header and the 20 bytes of a TCP header. Returns 1, or 0 if no such segment is in flight; then
  * nothing is changed (RFC 5927, section 4.1). */
 int lk_connection_too_big(struct lk_connection *connection, uint32_t seq_number, uint16_t mss);
+
+/* ---- names of version 0.4 ---- */
+
+/* Version 0.6 will not have them. LK_NO_OLD_NAMES leaves them out. CHANGELOG.md has a list of both names. */
+#ifndef LK_NO_OLD_NAMES
+#define lk_parse_ethernet lk_parse_mac
+#define lk_print_ethernet lk_print_mac
+#define lk_reply lk_make_reply
+#define lk_parse_block lk_parse_prefix
+#define lk_print_block lk_print_prefix
+#define lk_expire lk_expire_reassembly
+#define lk_block lk_prefix
+#define lk_partial lk_reassembly
+#define LK_ETHERNET_TEXT LK_MAC_TEXT
+#define LK_BLOCK_TEXT LK_PREFIX_TEXT
+#define LK_PARTIAL_MEMORY LK_REASSEMBLY_MEMORY
+#define LK_NO_PORT LK_EMIT_PORT_ZERO
+#define LK_ZERO_PORT LK_NAT_PORT_ZERO
+#define LK_EXPIRED LK_HOP_LIMIT_TOO_LOW
+#define LK_NO_ROUTE LK_NO_ROUTE_TO_SOURCE
+#define LK_ROUTE_MISSING LK_NO_ROUTE_TO_DESTINATION
+#define LK_NO_CHECKSUM LK_CHECKSUM_NOT_READ
+#define LK_RIGHT LK_CHECKSUM_VALID
+#define LK_WRONG LK_CHECKSUM_INVALID
+#define LK_LEFT_OUT LK_CHECKSUM_OMITTED
+#define LK_LEFT_TO_DEVICE LK_CHECKSUM_PARTIAL
+#endif
 
 #ifdef __cplusplus
 }

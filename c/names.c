@@ -14,7 +14,7 @@ const char *lk_reason_name(int reason)
 const char *lk_failure_name(ptrdiff_t failure)
 {
     static const char *const names[] = {
-        "LK_NO_VERSION", "LK_TWO_VERSIONS", "LK_BAD_PREFIX",       "LK_NO_PORT",          "LK_NO_HOP_LIMIT", "LK_BAD_FIELD",
+        "LK_NO_VERSION", "LK_TWO_VERSIONS", "LK_BAD_PREFIX",       "LK_EMIT_PORT_ZERO",          "LK_NO_HOP_LIMIT", "LK_BAD_FIELD",
         "LK_TWO_CONTROLS", "LK_OPTIONS_TOO_LONG", "LK_PAYLOAD_TOO_LONG", "LK_NO_HEADER", "LK_NO_ROOM",
         "LK_DONT_FRAGMENT", "LK_DROPPED",
     };
@@ -29,8 +29,8 @@ const char *lk_rejection_name(int rejection)
 {
     static const char *const names[LK_REJECTION_COUNT] = {
         "LK_NOT_REJECTED",  "LK_NO_IPV4",   "LK_NOT_IP",       "LK_BAD_HEADER", "LK_WRONG_CHECKSUM",
-        "LK_EXPIRED",       "LK_FRAGMENT",  "LK_OTHER_PROTOCOL", "LK_BAD_TRANSPORT", "LK_ZERO_PORT",
-        "LK_NO_MAPPING",    "LK_NO_FREE_PORT", "LK_MARTIAN",   "LK_NO_ROUTE",   "LK_OTHER_INTERFACE",
+        "LK_HOP_LIMIT_TOO_LOW",       "LK_FRAGMENT",  "LK_OTHER_PROTOCOL", "LK_BAD_TRANSPORT", "LK_NAT_PORT_ZERO",
+        "LK_NO_MAPPING",    "LK_NO_FREE_PORT", "LK_MARTIAN",   "LK_NO_ROUTE_TO_SOURCE",   "LK_OTHER_INTERFACE",
     };
     return rejection >= 0 && rejection < LK_REJECTION_COUNT ? names[rejection] : "no rejection";
 }

@@ -152,13 +152,13 @@ static inline int is_probing(const struct addresses *all)
 /* Another host has the address: it is not used, or announced again. Returns the number of frames that the device took. */
 static inline unsigned long on_conflict(struct addresses *all, int64_t now, struct address *one, const uint8_t *other)
 {
-    char hardware[LK_ETHERNET_TEXT], addr[LK_ADDR_TEXT];
+    char hardware[LK_MAC_TEXT], addr[LK_ADDR_TEXT];
     uint8_t out[LONGEST_REQUEST];
     if (one->defended_at != 0 && now - one->defended_at < BETWEEN_CONFLICTS)
         return 0;
     one->is_taken = is_probing(all);
     one->defended_at = now;
-    lk_print_ethernet(other, hardware, sizeof hardware);
+    lk_print_mac(other, hardware, sizeof hardware);
     lk_print_addr(&one->addr, addr, sizeof addr);
     print(&all->errors, "%s: %s: %s uses the address %s%s\n", all->program, all->name, hardware, addr,
           one->is_taken ? ": it is not used here" : "");

@@ -15,7 +15,7 @@
 
 enum { MOST_BLOCKS = 64, LONGEST_FRAME = 65549, ERROR_LEN = 1294 };
 
-static struct lk_block blocks[MOST_BLOCKS];
+static struct lk_prefix blocks[MOST_BLOCKS];
 static size_t block_count;
 
 static int open_tap(const char *name)
@@ -74,7 +74,7 @@ int main(int argc, char **argv)
     if (argc < 3 || argc > 3 + MOST_BLOCKS || !lk_cpu_supported())
         return fprintf(stderr, "usage: firewall INSIDE OUTSIDE BLOCK..\n"), 2;
     for (int i = 3; i < argc; i++)
-        if (!lk_parse_block(argv[i], strlen(argv[i]), &blocks[block_count++]))
+        if (!lk_parse_prefix(argv[i], strlen(argv[i]), &blocks[block_count++]))
             return fprintf(stderr, "firewall: %s is not a block such as 10.0.0.0/8\n", argv[i]), 2;
     struct pollfd fds[2] = {{open_tap(argv[1]), POLLIN, 0}, {open_tap(argv[2]), POLLIN, 0}};
     if (fds[0].fd < 0 || fds[1].fd < 0)

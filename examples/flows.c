@@ -58,7 +58,7 @@ static const char help[] =
     "  BLOCK     a CIDR block, at most 256 of them: a flow with an address outside of all is marked\n"
     "            \"not allowed\", and the exit status is then 3\n"
     "  --help    prints this\n";
-static struct lk_block blocks[MOST_BLOCKS];
+static struct lk_prefix blocks[MOST_BLOCKS];
 static size_t block_count;
 static uint64_t seed[2];
 static size_t others, rejected[LK_REASON_COUNT + 1]; /* frames without a flow; the last are those of a later library */
@@ -163,7 +163,7 @@ static void count(struct table *table, const struct lk_frame *frame, const uint8
     sender->bytes += len;
     flow->begin = now < flow->begin ? now : flow->begin;
     flow->end = now > flow->end ? now : flow->end;
-    flow->wrong += frame->ipv4_checksum == LK_WRONG || frame->transport_checksum == LK_WRONG;
+    flow->wrong += frame->ipv4_checksum == LK_CHECKSUM_INVALID || frame->transport_checksum == LK_CHECKSUM_INVALID;
     if (frame->transport == LK_TCP)
         count_tcp(sender, receiver, ptr + frame->transport_offset, &frame->tcp, now);
 }
@@ -305,7 +305,7 @@ static size_t read_arguments(int argc, char **argv)
     if (optind == argc || argc - optind - 1 > MOST_BLOCKS)
         exit(print_help(help, 0));
     for (int i = optind + 1; i < argc; i++)
-        if (!lk_parse_block(argv[i], strlen(argv[i]), &blocks[block_count++]))
+        if (!lk_parse_prefix(argv[i], strlen(argv[i]), &blocks[block_count++]))
             give_up(argv[i], "not a CIDR block, as 192.0.2.0/24 or 2001:db8::/32");
     return most;
 }

@@ -70,7 +70,7 @@ static void echo(struct socket *s)
     size_t len;
     while ((len = read_bytes(s, bytes, room_of(s))) > 0)
         write_bytes(s, bytes, len);
-    if (lk_connection_is_ended(&s->tcp))
+    if (lk_connection_at_eof(&s->tcp))
         lk_connection_close(&s->tcp);
 }
 
@@ -78,7 +78,7 @@ static void echo(struct socket *s)
 static int has_wrong_checksum(const struct lk_frame *in)
 {
     int verdict = in->transport_checksum;
-    return in->ipv4_checksum == LK_WRONG || verdict == LK_WRONG || verdict == LK_LEFT_TO_DEVICE;
+    return in->ipv4_checksum == LK_CHECKSUM_INVALID || verdict == LK_CHECKSUM_INVALID || verdict == LK_CHECKSUM_PARTIAL;
 }
 
 /* `is_whole`: the frame was put together from fragments. */

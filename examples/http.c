@@ -173,7 +173,7 @@ static void serve(struct socket *s)
     char rest[LONGEST_REQUEST];
     size_t len = 1;
     if (!has_request(s, one->request)) {
-        if (lk_connection_is_ended(&s->tcp))
+        if (lk_connection_at_eof(&s->tcp))
             lk_connection_close(&s->tcp);
         return;
     }

@@ -146,7 +146,7 @@ int main(int argc, char **argv)
     static const int no_others[] = {0};
     uint16_t ports[MOST_PORTS] = {0};
     struct lk_host host = {
-        .open_ports = ports, .echo_port = 7, .window_len = 65535, .max_seg_size = 1440, .window_scale = 3};
+        .open_ports = ports, .echo_port = 7, .window_len = 65535, .mss = 1440, .window_scale = 3};
 
     prepare();
     if (argc < 5 || argc > 5 + MOST_PORTS || asks_for_help(argc, argv))

@@ -15,7 +15,7 @@ int main(void)
         return 1;
     lk_print_endpoint(&f.src, src, sizeof src);
     printf("%.*s from %s\n", (int)f.payload_len, (const char *)frame + f.payload_offset, src);
-    lk_reply(&f);
+    lk_make_reply(&f);
     ptrdiff_t len = lk_emit_udp_frame(&f, (const uint8_t *)"pong", 4, out, sizeof out);
     printf("the reply has %td bytes\n", len);
     return len < 0;

@@ -140,7 +140,7 @@ static ptrdiff_t pong(const struct lk_addr *own, const uint8_t *frame, size_t le
         return 0;
     if (memcmp(&f.dst.addr, own, sizeof *own) != 0 || !lk_is_unicast(&f.src.addr))
         return 0;
-    lk_reply(&f);
+    lk_make_reply(&f);
     f.icmp.type = LK_ICMP_ECHO_REPLY;
     return lk_emit_icmp_frame(&f, frame + f.payload_offset, f.payload_len, out, cap);
 }
@@ -148,7 +148,7 @@ static ptrdiff_t pong(const struct lk_addr *own, const uint8_t *frame, size_t le
 /* Writes a SYN and ACK over IPv4 whose payload, if it has one, is after its headers in `out`. */
 static ptrdiff_t write_syn(size_t payload_len, uint8_t *out, size_t cap)
 {
-    const struct lk_tcp_options options = {.has_max_seg_size = 1, .max_seg_size = 1460};
+    const struct lk_tcp_options options = {.has_mss = 1, .mss = 1460};
     struct lk_frame headers = {.ip = {.hop_limit = 64}, .tcp = {1, 2, 64240, 0, LK_SYN | LK_ACK, 0}};
     headers.src = (struct lk_endpoint){addr_of("192.0.2.1"), 80};
     headers.dst = (struct lk_endpoint){addr_of("192.0.2.2"), 4000};

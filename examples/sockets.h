@@ -1,7 +1,7 @@
 /* The TCP connections of host.c and http.c: a table of lk_connection with their buffers and the headers of what they send.
  * The program has its addresses, the device, and a function that reads and writes.
  *
- * UDP needs no table: lk_answer echoes, and lk_reply and lk_emit_udp_frame answer a packet (quick.c). */
+ * UDP needs no table: lk_answer echoes, and lk_make_reply and lk_emit_udp_frame answer a packet (quick.c). */
 #ifndef SOCKETS_H
 #define SOCKETS_H
 
@@ -58,7 +58,7 @@ static inline size_t write_bytes(struct socket *s, const void *ptr, size_t len)
 
 static inline size_t room_of(const struct socket *s)
 {
-    size_t waiting = lk_connection_waiting(&s->tcp);
+    size_t waiting = lk_connection_unacked(&s->tcp);
     return waiting < BUFFER ? BUFFER - waiting : 0;
 }
 
@@ -93,9 +93,9 @@ static inline int run_sockets(struct sockets *all)
 {
     uint64_t now = (uint64_t)milliseconds(), first = now + LONGEST_WAIT;
     for (struct socket *s = all->list; s < all->list + SOCKETS; s++) {
-        if (lk_connection_due(&s->tcp) <= now)
+        if (lk_connection_next_timeout(&s->tcp) <= now)
             send_due(all, s, now);
-        first = lk_connection_due(&s->tcp) < first ? lk_connection_due(&s->tcp) : first;
+        first = lk_connection_next_timeout(&s->tcp) < first ? lk_connection_next_timeout(&s->tcp) : first;
     }
     return (int)(first - now);
 }
@@ -158,7 +158,7 @@ static inline struct socket *open_socket(struct sockets *all, const struct lk_fr
     if (s == NULL)
         return NULL;
     s->headers = *in;
-    lk_reply(&s->headers);
+    lk_make_reply(&s->headers);
     s->headers.ip.dscp = 0;
     s->next = iss;
     s->taken = s->sent = 0;
@@ -243,7 +243,7 @@ static inline void on_too_big(struct sockets *all, const struct lk_frame *in, co
 /* Whether a frame of a TAP device may be used. A checksum that is left to the device is wrong there, as for lk_answer. */
 static inline int is_usable(const struct lk_frame *in)
 {
-    return lk_is_valid(in) && in->transport_checksum != LK_LEFT_TO_DEVICE;
+    return lk_is_valid(in) && in->transport_checksum != LK_CHECKSUM_PARTIAL;
 }
 
 #endif

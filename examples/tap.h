@@ -88,7 +88,7 @@ static inline int parse_host_addr(const char *word, int version, struct lk_addr 
 static inline int read_host(const char *program, char **words, struct lk_host *host)
 {
     static const char *const kinds[] = {"Ethernet", "IPv4", "IPv6"};
-    int is_ethernet = lk_parse_ethernet(words[0], strlen(words[0]), host->hardware) && (host->hardware[0] & 1) == 0;
+    int is_ethernet = lk_parse_mac(words[0], strlen(words[0]), host->hardware) && (host->hardware[0] & 1) == 0;
     int wrong = !is_ethernet                                  ? 0
                 : !parse_host_addr(words[1], 4, &host->ipv4) ? 1
                 : !parse_host_addr(words[2], 6, &host->ipv6) ? 2

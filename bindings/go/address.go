@@ -18,18 +18,18 @@ static struct lk_endpoint parse_endpoint(_GoString_ text)
     return endpoint;
 }
 
-static struct lk_block parse_block(_GoString_ text)
+static struct lk_prefix parse_prefix(_GoString_ text)
 {
-    struct lk_block block = {.addr.version = 0};
-    lk_parse_block(_GoStringPtr(text), _GoStringLen(text), &block);
-    return block;
+    struct lk_prefix prefix = {.addr.version = 0};
+    lk_parse_prefix(_GoStringPtr(text), _GoStringLen(text), &prefix);
+    return prefix;
 }
 
 // The address is the source. The EtherType says whether there is one.
-static struct lk_ethernet parse_ethernet(_GoString_ text)
+static struct lk_ethernet parse_mac(_GoString_ text)
 {
     struct lk_ethernet header = {.type = 0};
-    header.type = lk_parse_ethernet(_GoStringPtr(text), _GoStringLen(text), header.src) != 0;
+    header.type = lk_parse_mac(_GoStringPtr(text), _GoStringLen(text), header.src) != 0;
     return header;
 }
 */
@@ -80,26 +80,26 @@ func PrintEndpoint(endpoint netip.AddrPort) (string, error) {
 	return printed(out[:], C.lk_print_endpoint(&value, &out[0], C.size_t(len(out))))
 }
 
-// ParsePrefix parses a CIDR block. The address keeps all its bits.
+// ParsePrefix parses a prefix (CIDR block). The address keeps all its bits.
 func ParsePrefix(text string) (netip.Prefix, error) {
-	block := C.parse_block(text)
-	if block.addr.version == 0 {
+	prefix := C.parse_prefix(text)
+	if prefix.addr.version == 0 {
 		return netip.Prefix{}, ErrText
 	}
-	return netip.PrefixFrom(addrOf(&block.addr), int(block.prefix_len)), nil
+	return netip.PrefixFrom(addrOf(&prefix.addr), int(prefix.prefix_len)), nil
 }
 
-// PrintPrefix prints a CIDR block. It fails with NoVersion or BadPrefix for an invalid one.
+// PrintPrefix prints a prefix (CIDR block). It fails with NoVersion or BadPrefix for an invalid one.
 func PrintPrefix(prefix netip.Prefix) (string, error) {
-	var out [C.LK_BLOCK_TEXT]C.char
-	value := cBlock(prefix)
-	return printed(out[:], C.lk_print_block(&value, &out[0], C.size_t(len(out))))
+	var out [C.LK_PREFIX_TEXT]C.char
+	value := cPrefix(prefix)
+	return printed(out[:], C.lk_print_prefix(&value, &out[0], C.size_t(len(out))))
 }
 
-// Contains tells whether the address is in the block. No address is in a block of the other version.
+// Contains tells whether the address has the prefix. No address has one of the other version.
 func Contains(prefix netip.Prefix, addr netip.Addr) bool {
-	block, value := cBlock(prefix), cAddr(addr)
-	return C.lk_contains(&block, &value) != 0
+	from, value := cPrefix(prefix), cAddr(addr)
+	return C.lk_contains(&from, &value) != 0
 }
 
 // IsMulticast tells whether the address is a multicast address (224.0.0.0/4, ff00::/8).
@@ -116,7 +116,7 @@ func IsUnicast(addr netip.Addr) bool {
 
 // ParseHardwareAddr parses six groups of 1 or 2 hex digits, all joined by '-' or all by ':'.
 func ParseHardwareAddr(text string) (HardwareAddr, error) {
-	header := C.parse_ethernet(text)
+	header := C.parse_mac(text)
 	if header._type == 0 {
 		return HardwareAddr{}, ErrText
 	}
@@ -125,8 +125,8 @@ func ParseHardwareAddr(text string) (HardwareAddr, error) {
 
 // String returns six pairs of hex digits, joined by '-'.
 func (a HardwareAddr) String() string {
-	var out [C.LK_ETHERNET_TEXT]C.char
-	C.lk_print_ethernet(a.ptr(), &out[0], C.size_t(len(out)))
+	var out [C.LK_MAC_TEXT]C.char
+	C.lk_print_mac(a.ptr(), &out[0], C.size_t(len(out)))
 	return C.GoString(&out[0])
 }
 
@@ -176,7 +176,7 @@ func endpointOf(value *C.struct_lk_endpoint) netip.AddrPort {
 	return netip.AddrPortFrom(addrOf(&value.addr), uint16(value.port))
 }
 
-// cBlock returns a block that no call accepts if the prefix is invalid: Bits is -1 then.
-func cBlock(prefix netip.Prefix) C.struct_lk_block {
-	return C.struct_lk_block{addr: cAddr(prefix.Addr()), prefix_len: C.uint16_t(prefix.Bits())}
+// cPrefix returns a prefix that no call accepts if the prefix is invalid: Bits is -1 then.
+func cPrefix(prefix netip.Prefix) C.struct_lk_prefix {
+	return C.struct_lk_prefix{addr: cAddr(prefix.Addr()), prefix_len: C.uint16_t(prefix.Bits())}
 }

@@ -140,7 +140,7 @@ func (c *Conn) flush() {
 	}
 	c.stack.settle(c)
 	c.changed.Broadcast()
-	if due := C.lk_connection_due(&c.fields); due == math.MaxUint64 {
+	if due := C.lk_connection_next_timeout(&c.fields); due == math.MaxUint64 {
 		c.timer.Stop()
 	} else {
 		c.timer.Reset(time.Duration(due)*time.Millisecond - time.Since(c.stack.start))
@@ -171,7 +171,7 @@ func (c *Conn) Read(out []byte) (int, error) {
 			c.flush() // the window
 			return n, nil
 		}
-		if C.lk_connection_is_ended(&c.fields) != 0 {
+		if C.lk_connection_at_eof(&c.fields) != 0 {
 			return 0, io.EOF
 		}
 		if err := c.failure(c.deadlines[0]); err != nil {
@@ -234,11 +234,11 @@ func (c *Conn) Close() error {
 	return c.CloseWrite()
 }
 
-// Waiting returns how many bytes the peer has not acknowledged. A FIN counts as one.
-func (c *Conn) Waiting() int {
+// Unacked returns how many bytes the peer has not acknowledged. A FIN counts as one.
+func (c *Conn) Unacked() int {
 	c.stack.mu.Lock()
 	defer c.stack.mu.Unlock()
-	return int(C.lk_connection_waiting(&c.fields))
+	return int(C.lk_connection_unacked(&c.fields))
 }
 
 // LocalAddr returns the own endpoint, a *net.TCPAddr.

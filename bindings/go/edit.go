@@ -95,7 +95,7 @@ func SetBytesAs(frame []byte, offset int, data []byte, offload Offload) bool {
 	return C.lk_set_bytes_as(ptr, length, C.size_t(offset), from, count, C.int(offload)) != 0
 }
 
-// FillChecksum computes the TCP, UDP, ICMP or ICMPv6 checksum anew, in place, as a device does for LeftToDevice, also
+// FillChecksum computes the TCP, UDP, ICMP or ICMPv6 checksum anew, in place, as a device does for ChecksumPartial, also
 // where UDP has none. It returns false for fragments other than atomic ones, and for UDP whose length does not fit.
 //
 // If an IPv4 source route has hops left, the result covers the next hop, and the last receiver rejects it.

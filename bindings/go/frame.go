@@ -86,11 +86,11 @@ type Verdict uint8
 
 // The verdicts.
 const (
-	Right        Verdict = C.LK_RIGHT
-	Wrong        Verdict = C.LK_WRONG
-	LeftOut      Verdict = C.LK_LEFT_OUT       // UDP over IPv4: the sender computed none
-	LeftToDevice Verdict = C.LK_LEFT_TO_DEVICE // only the pseudo-header is summed: checksum offload
-	ChecksumCut  Verdict = C.LK_CHECKSUM_CUT   // not all bytes that it covers were captured
+	ChecksumValid   Verdict = C.LK_CHECKSUM_VALID
+	ChecksumInvalid Verdict = C.LK_CHECKSUM_INVALID
+	ChecksumOmitted Verdict = C.LK_CHECKSUM_OMITTED // UDP over IPv4: the sender computed none
+	ChecksumPartial Verdict = C.LK_CHECKSUM_PARTIAL // only the pseudo-header is summed: checksum offload
+	ChecksumCut     Verdict = C.LK_CHECKSUM_CUT     // not all bytes that it covers were captured
 )
 
 // Frame is a frame or packet that was read. The headers before a rejected one are there, and the payload begins at
@@ -229,7 +229,7 @@ func (f *Frame) Check() error {
 	if f.Reason != 0 {
 		return f.Reason
 	}
-	if f.IPv4Checksum == Wrong || f.TransportChecksum == Wrong {
+	if f.IPv4Checksum == ChecksumInvalid || f.TransportChecksum == ChecksumInvalid {
 		return ErrChecksum
 	}
 	return nil

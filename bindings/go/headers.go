@@ -78,7 +78,7 @@ type Headers struct {
 // IP header is that of a new packet, with the same DSCP.
 func (h *Headers) Reply() Headers {
 	frame := h.c()
-	C.lk_reply(&frame)
+	C.lk_make_reply(&frame)
 	return headersOf(&frame)
 }
 

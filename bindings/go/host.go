@@ -29,7 +29,7 @@ type Host struct {
 	SeqNumber    uint32     // what an open port sends, and what follows it: hard to guess, another for each connection
 	TSval        uint32
 	WindowLen    uint16
-	MaxSegSize   uint16
+	MSS          uint16
 	WindowScale  uint8
 	IsRouter     bool // it forwards packets, and its neighbour advertisements have the flag R
 }
@@ -46,7 +46,7 @@ func (h *Host) Answer(frame, out []byte) ([]byte, error) {
 		seq_number:   C.uint32_t(h.SeqNumber),
 		tsval:        C.uint32_t(h.TSval),
 		window_len:   C.uint16_t(h.WindowLen),
-		max_seg_size: C.uint16_t(h.MaxSegSize),
+		mss:          C.uint16_t(h.MSS),
 		window_scale: C.uint8_t(h.WindowScale),
 		is_router:    flag(h.IsRouter),
 	}
@@ -70,13 +70,13 @@ type Problem int
 
 // The problems that an ICMP error tells.
 const (
-	HopLimitExpired  Problem = C.LK_HOP_LIMIT_EXPIRED // the hop limit is 0 or 1
-	PacketTooBig     Problem = C.LK_PACKET_TOO_BIG    // the packet is longer than the MTU of the next link, and over IPv4 has DF
-	RouteMissing     Problem = C.LK_ROUTE_MISSING
-	NeighbourMissing Problem = C.LK_NEIGHBOUR_MISSING // the next hop has no hardware address
-	PortClosed       Problem = C.LK_PORT_CLOSED
-	Prohibited       Problem = C.LK_PROHIBITED       // a filter rejects it
-	FragmentMissing  Problem = C.LK_FRAGMENT_MISSING // the packet is not complete in time
+	HopLimitExpired      Problem = C.LK_HOP_LIMIT_EXPIRED // the hop limit is 0 or 1
+	PacketTooBig         Problem = C.LK_PACKET_TOO_BIG    // the packet is longer than the MTU of the next link, and over IPv4 has DF
+	NoRouteToDestination Problem = C.LK_NO_ROUTE_TO_DESTINATION
+	NeighbourMissing     Problem = C.LK_NEIGHBOUR_MISSING // the next hop has no hardware address
+	PortClosed           Problem = C.LK_PORT_CLOSED
+	Prohibited           Problem = C.LK_PROHIBITED       // a filter rejects it
+	FragmentMissing      Problem = C.LK_FRAGMENT_MISSING // the packet is not complete in time
 )
 
 // Interface is an interface of a host or router.

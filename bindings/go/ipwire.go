@@ -16,7 +16,7 @@
 //
 //   - A valid checksum stays valid, and a wrong one stays wrong. A UDP checksum of 0 over IPv4 stays 0. The exception is
 //     an ICMP message whose other bytes are all 0.
-//   - A TCP or UDP checksum that is LeftToDevice stays so: an address changes it, as part of the pseudo-header, and
+//   - A TCP or UDP checksum that is ChecksumPartial stays so: an address changes it, as part of the pseudo-header, and
 //     nothing else does. The functions guess which it is (Guess). To those with As the caller says it.
 //   - ReadFrame must read the IP header. Of TCP, UDP or ICMP only the bytes up to the checksum field must be there, also
 //     in the first of several fragments. Append zeros to a packet that was cut, up to its length: only FillChecksum needs
@@ -55,7 +55,7 @@ const (
 	NoVersion      Failure = C.LK_NO_VERSION       // an address has another version than the call can write
 	TwoVersions    Failure = C.LK_TWO_VERSIONS     // one address is IPv4, the other IPv6
 	BadPrefix      Failure = C.LK_BAD_PREFIX       // a prefix length above 32 for IPv4, above 128 for IPv6
-	NoPort         Failure = C.LK_NO_PORT          // a port is 0 where receivers reject it
+	EmitPortZero   Failure = C.LK_EMIT_PORT_ZERO   // a port is 0 where receivers reject it
 	NoHopLimit     Failure = C.LK_NO_HOP_LIMIT     // the hop limit is 0
 	BadField       Failure = C.LK_BAD_FIELD        // a field of IP that this header has no place for
 	TwoControls    Failure = C.LK_TWO_CONTROLS     // more than one of SYN, FIN and RST

@@ -120,7 +120,7 @@ func TestReading(t *testing.T) {
 		Dst:      netip.MustParseAddrPort("192.0.2.2:5353"),
 		IP:       IP{Protocol: 17, HopLimit: 64, DontFragment: true},
 	}
-	if frame := ReadFrame(data); frame.Headers != wanted || frame.TransportChecksum != LeftOut || frame.IPv4Checksum != Right {
+	if frame := ReadFrame(data); frame.Headers != wanted || frame.TransportChecksum != ChecksumOmitted || frame.IPv4Checksum != ChecksumValid {
 		t.Errorf("%+v", frame)
 	}
 	if packet := ReadPacket(data[14:]); string(packet.Payload) != "ping" || packet.Ethernet != (Ethernet{}) {
@@ -273,7 +273,7 @@ func TestTCPOptions(t *testing.T) {
 		bytes   string
 	}{
 		{TCPOptions{}, ""},
-		{TCPOptions{MaxSegSize: &size, WindowScale: &scale, SackPermitted: true, Timestamp: &Timestamp{3, 4}},
+		{TCPOptions{MSS: &size, WindowScale: &scale, SackPermitted: true, Timestamp: &Timestamp{3, 4}},
 			"020405b4" + "030307" + "0402" + "080a0000000300000004" + "00"},
 		{TCPOptions{SackRanges: []SackRange{{1, 2}, {3, 4}}}, "0512" + "00000001" + "00000002" + "00000003" + "00000004" + "0000"},
 	} {
@@ -351,7 +351,7 @@ func TestRoutes(t *testing.T) {
 		{"10.2.3.4", 0, nil},
 		{"10.1.2.3", 1, OtherInterface},
 		{"2001:db8::1", 3, OtherInterface},
-		{"192.0.2.1", -1, NoRoute},
+		{"192.0.2.1", -1, NoRouteToSource},
 		{"127.0.0.1", -1, Martian},
 		{"::1", -1, Martian},
 	} {
@@ -383,7 +383,7 @@ func TestForwarding(t *testing.T) {
 		{"", NotIP},
 		{ethernet + header[:24], BadHeader},
 		{ethernet + "4500002000004000" + "4011b6c8" + header[24:] + ports + "0000" + "70696e67", WrongChecksum},
-		{ethernet + "4500002000004000" + "0111f5c9" + header[24:] + ports + "0000" + "70696e67", Expired},
+		{ethernet + "4500002000004000" + "0111f5c9" + header[24:] + ports + "0000" + "70696e67", HopLimitTooLow},
 	} {
 		if err := Forward(unhex(t, it.frame), own, next); err != it.err {
 			t.Errorf("Forward(%s): %v", it.frame, err)
@@ -395,7 +395,7 @@ func TestForwarding(t *testing.T) {
 	headers := ReadFrame(frame).Headers
 	headers.TCP = TCP{Flags: SYN}
 	size := uint16(1460)
-	syn, err := headers.EmitTCP(&TCPOptions{MaxSegSize: &size}, nil, make([]byte, 100))
+	syn, err := headers.EmitTCP(&TCPOptions{MSS: &size}, nil, make([]byte, 100))
 	if err != nil || !ClampMSS(syn, 1260) || ClampMSS(syn, 1260) {
 		t.Errorf("ClampMSS: %v", err)
 	}

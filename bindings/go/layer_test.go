@@ -35,7 +35,7 @@ func joined(t *testing.T, calls ...func(out []byte) ([]byte, error)) []byte {
 // The layers one by one are the whole frame, and so are headers around a payload.
 func TestLayers(t *testing.T) {
 	payload, size := []byte("ping"), uint16(1460)
-	options := &TCPOptions{MaxSegSize: &size, SackPermitted: true}
+	options := &TCPOptions{MSS: &size, SackPermitted: true}
 	for place, h := range both() {
 		h.Ethernet.Type = []uint16{0x0800, 0x86dd}[place]
 		start := []int{34, 54}[place]
@@ -105,7 +105,7 @@ func TestNdisc(t *testing.T) {
 
 func TestHost(t *testing.T) {
 	host := Host{Hardware: server.Hardware, IPv4: server.IPv4, IPv6: server.IPv6, OpenPorts: []uint16{22, 80},
-		OpenUDPPorts: []uint16{53}, EchoPort: 7, SeqNumber: 5, MaxSegSize: 1460, WindowLen: 100}
+		OpenUDPPorts: []uint16{53}, EchoPort: 7, SeqNumber: 5, MSS: 1460, WindowLen: 100}
 	own := Interface{Hardware: server.Hardware, IPv4: server.IPv4, IPv6: server.IPv6}
 	for place, h := range both() {
 		answer := func(port uint16, emit func(out []byte) ([]byte, error)) Frame {
@@ -133,7 +133,7 @@ func TestHost(t *testing.T) {
 		if found := answer(81, tcp); found.TCP.Flags != 0x14 {
 			t.Error(found)
 		}
-		told, err := own.EmitError(RouteMissing, 0, joined(t, udp), make([]byte, 1294))
+		told, err := own.EmitError(NoRouteToDestination, 0, joined(t, udp), make([]byte, 1294))
 		frame := ReadFrame(told)
 		if quoted, ok := frame.ReadQuoted(); err != nil || !ok || quoted.Dst != h.Dst || frame.ICMP.Type != []uint8{3, 1}[place] {
 			t.Error(frame, err)
@@ -213,7 +213,7 @@ func TestSmallCalls(t *testing.T) {
 	a, b, end := stacks(0)
 	defer end()
 	conn, _, _ := pair(t, a, b, "192.0.2.1:4000")
-	if conn.Waiting() != 0 {
-		t.Error(conn.Waiting())
+	if conn.Unacked() != 0 {
+		t.Error(conn.Unacked())
 	}
 }

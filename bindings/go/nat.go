@@ -12,7 +12,7 @@ import (
 
 // Translate writes an IPv4 address and a port into the UDP or TCP packet of an Ethernet frame, in place (RFC 3022), and
 // updates the checksums. The identifier of an ICMP echo message counts as its port. The error is a Rejection from NoIPv4 to
-// ZeroPort, but not Expired; the frame is unchanged then.
+// NATPortZero, but not HopLimitTooLow; the frame is unchanged then.
 func Translate(frame []byte, side Side, end netip.AddrPort) error {
 	ptr, length := memory(frame)
 	value := cEndpoint(end)
@@ -77,7 +77,7 @@ func milliseconds(timeout, other time.Duration) C.uint64_t {
 }
 
 // TranslateOut translates the source of a packet that leaves, in an Ethernet frame, in place. now is the time since a fixed
-// moment, and never goes back. The error is a Rejection from NotIP to NoFreePort, but not Expired; the frame is unchanged
+// moment, and never goes back. The error is a Rejection from NotIP to NoFreePort, but not HopLimitTooLow; the frame is unchanged
 // then.
 func (n *NAT) TranslateOut(now time.Duration, frame []byte) error {
 	mappings, count := first(n.mappings)
@@ -86,7 +86,7 @@ func (n *NAT) TranslateOut(now time.Duration, frame []byte) error {
 }
 
 // TranslateIn translates the destination of a packet that comes in. The error is a Rejection from NotIP to NoMapping, but
-// not Expired.
+// not HopLimitTooLow.
 func (n *NAT) TranslateIn(now time.Duration, frame []byte) error {
 	mappings, count := first(n.mappings)
 	ptr, length := memory(frame)

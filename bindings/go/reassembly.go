@@ -15,16 +15,16 @@ const MaxFrame = 14 + 40 + 65535
 // must not use one Reassembler at once. A host calls Host.Answer for each fragment before. If there is an answer, the
 // fragment has a fault: send the answer, and discard the fragment.
 type Reassembler struct {
-	partials []C.struct_lk_partial
-	memory   []byte
+	reassemblies []C.struct_lk_reassembly
+	memory       []byte
 }
 
 // NewReassembler returns a Reassembler for so many packets at a time, each with a payload of at most longest bytes. Each 8
 // bytes of it take 9.
 func NewReassembler(packets, longest int) *Reassembler {
 	return &Reassembler{
-		partials: make([]C.struct_lk_partial, packets),
-		memory:   make([]byte, packets*((longest+7)/8)*9),
+		reassemblies: make([]C.struct_lk_reassembly, packets),
+		memory:       make([]byte, packets*((longest+7)/8)*9),
 	}
 }
 
@@ -37,11 +37,11 @@ func NewReassembler(packets, longest int) *Reassembler {
 // Dropped if the fragments of the packet contradict each other: they are dropped until it expires. After NoRoom any of
 // them gives the packet again.
 func (r *Reassembler) Reassemble(now time.Duration, frame, out []byte) ([]byte, error) {
-	partials, count := first(r.partials)
+	reassemblies, count := first(r.reassemblies)
 	room, roomLen := memory(r.memory)
 	ptr, length := memory(frame)
 	to, outLen := memory(out)
-	whole, err := written(out, C.lk_reassemble(partials, count, room, roomLen, C.uint64_t(now.Milliseconds()), ptr, length, to, outLen))
+	whole, err := written(out, C.lk_reassemble(reassemblies, count, room, roomLen, C.uint64_t(now.Milliseconds()), ptr, length, to, outLen))
 	if len(whole) == 0 {
 		return nil, err
 	}
@@ -52,10 +52,10 @@ func (r *Reassembler) Reassemble(now time.Duration, frame, out []byte) ([]byte, 
 // this fragment to the beginning of out, and returns this part of it: an ICMP error tells its sender (time exceeded, code
 // 1). Call it until it returns nil. MaxFrame bytes of out always suffice.
 func (r *Reassembler) Expire(now time.Duration, out []byte) []byte {
-	partials, count := first(r.partials)
+	reassemblies, count := first(r.reassemblies)
 	room, roomLen := memory(r.memory)
 	to, outLen := memory(out)
-	length := C.lk_expire(partials, count, room, roomLen, C.uint64_t(now.Milliseconds()), to, outLen)
+	length := C.lk_expire_reassembly(reassemblies, count, room, roomLen, C.uint64_t(now.Milliseconds()), to, outLen)
 	if length == 0 {
 		return nil
 	}

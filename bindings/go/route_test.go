@@ -33,7 +33,7 @@ func searches(t *testing.T, blocks []netip.Prefix) {
 	t.Helper()
 	list := make([]Route, len(blocks))
 	for place, block := range blocks {
-		list[place] = Route{Block: block, Interface: uint16(place)}
+		list[place] = Route{Prefix: block, Interface: uint16(place)}
 	}
 	byTable, err := NewRoutes(list)
 	if err != nil || len(byTable.cells) != 5*len(list)+5 {

@@ -201,12 +201,12 @@ func (s *Stack) receive(frame []byte) {
 	ptr, length := memory(frame)
 	out, room := memory(s.out)
 	C.lk_read_frame_options(ptr, length, &s.frame, &s.options)
-	if s.config.PartialChecksums && s.frame.transport_checksum == C.LK_LEFT_TO_DEVICE {
+	if s.config.PartialChecksums && s.frame.transport_checksum == C.LK_CHECKSUM_PARTIAL {
 		C.lk_fill_checksum(ptr, length)
 		C.lk_read_frame_options(ptr, length, &s.frame, &s.options)
 	}
 	// A checksum that is left to a device is wrong, as for lk_answer.
-	if s.frame.reason == C.LK_READ && s.frame.ipv4_checksum != C.LK_WRONG && s.frame.transport_checksum == C.LK_RIGHT {
+	if s.frame.reason == C.LK_READ && s.frame.ipv4_checksum != C.LK_CHECKSUM_INVALID && s.frame.transport_checksum == C.LK_CHECKSUM_VALID {
 		if c := s.find(); c != nil {
 			c.run(step, ptr)
 			c.flush()
@@ -234,7 +234,7 @@ func (s *Stack) find() *Conn {
 		return nil
 	}
 	headers := *f
-	C.lk_reply(&headers)
+	C.lk_make_reply(&headers)
 	c := s.newConn(headers)
 	c.listener = l
 	l.count++

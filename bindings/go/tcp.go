@@ -17,7 +17,7 @@ type Timestamp struct {
 
 // TCPOptions has the options of a TCP header (RFC 9293, RFC 2018, RFC 7323). A nil is an option that is not there.
 type TCPOptions struct {
-	MaxSegSize    *uint16 // in bytes
+	MSS           *uint16 // in bytes
 	WindowScale   *uint8  // in bits; at most 14 is read
 	SackPermitted bool
 	SackRanges    []SackRange // at most 4
@@ -85,9 +85,9 @@ func CompareSeq(a, b uint32) int {
 
 func optionsOf(set *C.struct_lk_tcp_options) TCPOptions {
 	options := TCPOptions{SackPermitted: set.sack_permitted != 0}
-	if set.has_max_seg_size != 0 {
-		size := uint16(set.max_seg_size)
-		options.MaxSegSize = &size
+	if set.has_mss != 0 {
+		size := uint16(set.mss)
+		options.MSS = &size
 	}
 	if set.has_window_scale != 0 {
 		scale := uint8(set.window_scale)
@@ -128,8 +128,8 @@ func (o *TCPOptions) c() (set C.struct_lk_tcp_options, err error) {
 	}
 	set.sack_range_count = C.uint8_t(len(o.SackRanges))
 	set.sack_permitted = flag(o.SackPermitted)
-	if o.MaxSegSize != nil {
-		set.max_seg_size, set.has_max_seg_size = C.uint16_t(*o.MaxSegSize), 1
+	if o.MSS != nil {
+		set.mss, set.has_mss = C.uint16_t(*o.MSS), 1
 	}
 	if o.WindowScale != nil {
 		set.window_scale, set.has_window_scale = C.uint8_t(*o.WindowScale), 1

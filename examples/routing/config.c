@@ -60,7 +60,7 @@ static int parse_addr(const char *word, struct lk_addr *addr)
 static int parse_hardware(const char *word, uint8_t *hardware)
 {
     static const uint8_t zeros[6];
-    return lk_parse_ethernet(word, strlen(word), hardware) && (hardware[0] & 1) == 0 && memcmp(hardware, zeros, 6) != 0;
+    return lk_parse_mac(word, strlen(word), hardware) && (hardware[0] & 1) == 0 && memcmp(hardware, zeros, 6) != 0;
 }
 
 /* Returns why no host can have an address, or null. */
@@ -72,16 +72,16 @@ static const char *host_fault(const struct lk_addr *addr)
 }
 
 /* Whether all addresses of a block are groups. */
-static int is_group_block(const struct lk_block *block)
+static int is_group_block(const struct lk_prefix *block)
 {
     return lk_is_multicast(&block->addr) && block->prefix_len >= (block->addr.version == 4 ? 4 : 8);
 }
 
 /* The block of one address: an address of the block with the host bits all 0 or all 1. */
-static struct lk_block one_host(const struct lk_block *block, int bits)
+static struct lk_prefix one_host(const struct lk_prefix *block, int bits)
 {
     unsigned prefix_len = block->prefix_len;
-    struct lk_block host = *block;
+    struct lk_prefix host = *block;
     for (unsigned bit = prefix_len; bit < 32; bit++) {
         uint8_t *octet = &host.addr.octets[bit / 8], mask = (uint8_t)(0x80 >> bit % 8);
         *octet = (uint8_t)(bits ? *octet | mask : *octet & ~mask);
@@ -91,7 +91,7 @@ static struct lk_block one_host(const struct lk_block *block, int bits)
 }
 
 /* Whether an IPv4 link has broadcast addresses (RFC 1812, section 4.2.3.1; RFC 3021). */
-static int has_broadcasts(const struct lk_block *block)
+static int has_broadcasts(const struct lk_prefix *block)
 {
     return block->addr.version == 4 && block->prefix_len <= 30;
 }
@@ -102,9 +102,9 @@ static int is_same_addr(const struct lk_addr *a, const struct lk_addr *b)
 }
 
 /* Returns what is wrong with an address of the router, or null. A link-local address may be on each link. */
-static const char *address_fault(const struct config *config, const struct lk_block *block, uint16_t interface)
+static const char *address_fault(const struct config *config, const struct lk_prefix *block, uint16_t interface)
 {
-    struct lk_block first = one_host(block, 0), last = one_host(block, 1);
+    struct lk_prefix first = one_host(block, 0), last = one_host(block, 1);
     const char *fault = host_fault(&block->addr);
     if (fault != NULL)
         return fault;
@@ -126,8 +126,8 @@ static const char *address_fault(const struct config *config, const struct lk_bl
 static const char *read_address(struct reading *reading, char **words, uint16_t interface)
 {
     struct config *config = &reading->config;
-    struct lk_block block;
-    if (!lk_parse_block(words[1], strlen(words[1]), &block))
+    struct lk_prefix block;
+    if (!lk_parse_prefix(words[1], strlen(words[1]), &block))
         return "not an address with a prefix length";
     const char *fault = address_fault(config, &block, interface);
     if (fault != NULL)
@@ -144,11 +144,11 @@ static const char *read_route(struct reading *reading, char **words, int count, 
 {
     struct lk_route route = {.interface = interface};
     struct lk_addr *hop = &route.next_hop;
-    if (!lk_parse_block(words[1], strlen(words[1]), &route.block))
+    if (!lk_parse_prefix(words[1], strlen(words[1]), &route.prefix))
         return "not a block";
-    if (is_group_block(&route.block))
+    if (is_group_block(&route.prefix))
         return "a block of groups";
-    if (count == 4 && (!parse_addr(words[3], hop) || hop->version != route.block.addr.version))
+    if (count == 4 && (!parse_addr(words[3], hop) || hop->version != route.prefix.addr.version))
         return "not the address of a next hop";
     if (count == 4 && host_fault(hop) != NULL)
         return host_fault(hop);
@@ -251,14 +251,14 @@ static int collect_routes(struct reading *reading)
     if (routes == NULL || config->nodes == NULL || config->cells == NULL)
         return 0;
     for (const struct address *own = config->addresses; own < config->addresses + config->address_count; own++) {
-        struct lk_block self = own->block;
+        struct lk_prefix self = own->block;
         self.prefix_len = self.addr.version == 4 ? 32 : 128;
-        routes[count++] = (struct lk_route){.block = self, .interface = TO_ROUTER};
-        routes[count++] = (struct lk_route){.block = own->block, .interface = own->interface};
+        routes[count++] = (struct lk_route){.prefix = self, .interface = TO_ROUTER};
+        routes[count++] = (struct lk_route){.prefix = own->block, .interface = own->interface};
     }
     for (const struct address *own = config->addresses; own < config->addresses + config->address_count; own++)
         for (int bits = 0; bits < 2 && has_broadcasts(&own->block); bits++)
-            routes[count++] = (struct lk_route){.block = one_host(&own->block, bits), .interface = TO_BROADCAST};
+            routes[count++] = (struct lk_route){.prefix = one_host(&own->block, bits), .interface = TO_BROADCAST};
     for (size_t i = 0; i < reading->route_count; i++)
         routes[count++] = reading->routes[i].route;
     config->route_count = count;

@@ -145,7 +145,7 @@ static void send_by(struct router *router, uint16_t from, const struct lk_route 
         return;
     }
     int rejection = lk_forward(packet->frame, packet->len, interface->own.hardware, hardware ? hardware : no_hardware);
-    if (rejection == LK_EXPIRED)
+    if (rejection == LK_HOP_LIMIT_TOO_LOW)
         send_error(router, from, LK_HOP_LIMIT_EXPIRED, packet, 0);
     else if (rejection == LK_NOT_REJECTED && router->before_send != NULL && is_over_ipv4(packet))
         rejection = router->before_send(router, from, route->interface, packet);
@@ -171,7 +171,7 @@ void send_on(struct router *router, uint16_t from, struct packet *packet, const 
     const struct lk_route *route = route_to(router, dst);
     if (route == NULL) {
         drop(router, NO_WAY);
-        send_error(router, from, LK_ROUTE_MISSING, packet, 0);
+        send_error(router, from, LK_NO_ROUTE_TO_DESTINATION, packet, 0);
     } else if (route->interface == TO_BROADCAST) {
         drop(router, GROUP);
     } else if (route->interface != TO_ROUTER) {
@@ -242,7 +242,7 @@ void on_frame(struct router *router, uint16_t from, struct packet *packet)
             on_arp(router, from, &in, packet);
     } else if (in.network == LK_NO_NETWORK) {
         drop(router, is_ip_type(in.ethernet.type) ? LK_BAD_HEADER : LK_NOT_IP);
-    } else if (in.ipv4_checksum == LK_WRONG) {
+    } else if (in.ipv4_checksum == LK_CHECKSUM_INVALID) {
         drop(router, LK_WRONG_CHECKSUM);
     } else if (in.network == LK_IPV6 && in.transport == LK_ICMP && on_ndisc(router, from, &in, packet)) {
         router->ndisc++;

@@ -89,7 +89,7 @@ void introduce(struct router *router)
 static void on_conflict(struct router *router, struct address *own, const uint8_t *hardware)
 {
     struct interface *interface = &router->interfaces[own->interface];
-    char other[LK_ETHERNET_TEXT], addr[LK_ADDR_TEXT];
+    char other[LK_MAC_TEXT], addr[LK_ADDR_TEXT];
     int is_probed = interface->introduced == ANNOUNCE && !kernel_has(router, own);
     int is_early = interface->defended_at != 0 && router->now - interface->defended_at < BETWEEN_CONFLICTS;
     if (is_early && !is_probed)
@@ -97,7 +97,7 @@ static void on_conflict(struct router *router, struct address *own, const uint8_
     own->is_taken = (uint8_t)is_probed;
     if (!is_probed)
         interface->defended_at = router->now;
-    lk_print_ethernet(hardware, other, sizeof other);
+    lk_print_mac(hardware, other, sizeof other);
     lk_print_addr(&own->block.addr, addr, sizeof addr);
     print(&router->errors, "%s: %s: %s uses the router's address %s%s\n", router->name, interface->name, other, addr,
           is_probed ? ", which is not used here" : "");

@@ -45,7 +45,7 @@ struct interface {
 
 /* An address of the router, with the block of its link. */
 struct address {
-    struct lk_block block;
+    struct lk_prefix block;
     uint16_t interface;
     uint8_t is_taken; /* another host had it when the router asked: it is not used */
 };

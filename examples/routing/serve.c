@@ -42,8 +42,8 @@ static void print_interfaces(struct router *router)
 {
     print(&router->out, "ready\n");
     for (const struct interface *one = router->interfaces; one < router->interfaces + router->interface_count; one++) {
-        char hardware[LK_ETHERNET_TEXT];
-        lk_print_ethernet(one->own.hardware, hardware, sizeof hardware);
+        char hardware[LK_MAC_TEXT];
+        lk_print_mac(one->own.hardware, hardware, sizeof hardware);
         print(&router->out, "%s: %s, MTU %zu\n", one->name, hardware, one->mtu);
     }
 }

@@ -8,7 +8,7 @@ Each call of the header must be a function of c_exports, c/cpu.c or c/names.c wi
 Each struct with `repr(C)` must have the same fields in the same order, and each enum and each failure the same names and
 numbers; tests/judge/numbers.c compares the numbers that others give, as IANA, with the headers of the system. A constant such as LK_REASON_COUNT must be the number of names of its enum, and no example and no source of c/ has
 a name of an enum plus one instead. `lk_append` and its struct are in the header only. Each name `lk_..` in README.md and
-docs/ must be in the header.
+docs/ must be in the header. No other file has an old name, and CHANGELOG.md has a row for each.
 Each call must also be judged, counted and wrapped, or the list docs/audit/CALLS.md says why not (tests/docs/call_list.py).
 Differences are printed, and the status is 1 then; also if tools/from_header.py would write
 anything else. tests/install/run compares the header with the man pages.
@@ -16,6 +16,7 @@ anything else. tests/install/run compares the header with the man pages.
 import glob
 import os
 import re
+import subprocess
 import sys
 
 TOP = os.path.dirname(os.path.dirname(os.path.dirname(os.path.abspath(__file__))))
@@ -28,13 +29,20 @@ from sources import Sources  # noqa: E402
 NUMBERS = {"u8": "uint8_t", "u16": "uint16_t", "u32": "uint32_t", "u64": "uint64_t", "i32": "int", "i64": "int64_t", "usize": "size_t",
            "isize": "ptrdiff_t"}
 SAME = {"char": "uint8_t", "int32_t": "int"}
-# The field has another name in Rattle, because `type` is a keyword.
-FIELDS = {"ethertype": "type", "msg_type": "type"}
+# The field has another name in Rattle, because `type` is a keyword, or its crates have the names of smoltcp.
+FIELDS = {"ethertype": "type", "msg_type": "type", "max_seg_size": "mss", "has_max_seg_size": "has_mss", "block": "prefix"}
+# The names that are not those of the variants in Rattle, because in C those of all enums are beside each other.
+NAMES = {
+    "LK_NO_PORT": "LK_EMIT_PORT_ZERO", "LK_ZERO_PORT": "LK_NAT_PORT_ZERO", "LK_EXPIRED": "LK_HOP_LIMIT_TOO_LOW",
+    "LK_NO_ROUTE": "LK_NO_ROUTE_TO_SOURCE", "LK_ROUTE_MISSING": "LK_NO_ROUTE_TO_DESTINATION", "LK_RIGHT": "LK_CHECKSUM_VALID",
+    "LK_NO_CHECKSUM": "LK_CHECKSUM_NOT_READ", "LK_WRONG": "LK_CHECKSUM_INVALID", "LK_LEFT_OUT": "LK_CHECKSUM_OMITTED",
+    "LK_LEFT_TO_DEVICE": "LK_CHECKSUM_PARTIAL",
+}
 # What is in C.
 OF_C = ("/c/cpu.c", "/c/names.c")
 # The crates of the structs and calls. The first ones are used without C too, and their structs have other names there.
 OF_LIBRARY = ("wire_link", "app_fragment", "app_router", "app_nat", "c_structs", "c_icmp", "c_routing", "c_socket", "c_exports")
-STRUCTS = {"Node": "struct lk_route_node", "Mapping": "struct lk_mapping", "Nat": "struct lk_nat", "Partial": "struct lk_partial",
+STRUCTS = {"Block": "struct lk_prefix", "Node": "struct lk_route_node", "Mapping": "struct lk_mapping", "Nat": "struct lk_nat", "Partial": "struct lk_reassembly",
            "SocketFields": "struct lk_connection"}
 # The struct whose fields C does not see. c_socket compares its size.
 OPAQUE = "lk_connection"
@@ -99,7 +107,7 @@ class Library:
         self.plain_enums = [item for item in everything if item.kind == "enum" and item.name in ENUMS]
         docs = {item.name: " ".join(item.docs) for item in self.items if item.kind == "struct"}
         names = {rust: re.match(r"`(struct lk_\w+)`", doc) for rust, doc in docs.items()}
-        self.types = {**NUMBERS, **STRUCTS, **{rust: found.group(1) for rust, found in names.items() if found}}
+        self.types = {**NUMBERS, **{rust: found.group(1) for rust, found in names.items() if found}, **STRUCTS}
         constants = (re.fullmatch(r"const (\w+): usize = (\d+)", item.text) for item in everything if item.visibility == "pub")
         self.constants = dict(found.groups() for found in constants if found)
 
@@ -150,12 +158,13 @@ class Library:
                 name = found.group(1)
                 nothing = "NO_CHECKSUM" if name == "lk_verdict" else "NO_" + name[len("lk_") :].upper()
                 words = [re.sub(r"\B([A-Z])", r"_\1", member.text).upper() for member in item.members]
-                yield name, {"LK_" + (nothing if word == "NONE" else word): number for number, word in enumerate(words)}
+                names = ["LK_" + (nothing if word == "NONE" else word) for word in words]
+                yield name, {NAMES.get(it, it): number for number, it in enumerate(names)}
 
     def failures(self):
         failure = next(item for item in self.items if item.kind == "enum" and item.name == "Failure")
         words = [re.sub(r"\B([A-Z])", r"_\1", member.text).upper() for member in failure.members]
-        return {"LK_" + word: number for number, word in enumerate(words, 1)}
+        return {NAMES.get("LK_" + word, "LK_" + word): number for number, word in enumerate(words, 1)}
 
     def fields(self, member):
         """The fields in C of a field: a slice is a pointer and a count."""
@@ -191,6 +200,19 @@ def unknown_names(top, header):
                 yield f"{os.path.relpath(path, top)}: {name} is not in the header"
 
 
+def old_names(top, text):
+    """Where an old name of the header is used, and the old names that CHANGELOG.md has no row for. Its history has them too."""
+    old = dict(re.findall(r"^#define (\w+) (\w+)$", text.partition("#ifndef LK_NO_OLD_NAMES\n")[2], re.M))
+    names = re.compile(rf"(?<![A-Za-z])(?:{'|'.join(old)})\b")
+    changes = read(top + "/CHANGELOG.md")
+    yield from (f"CHANGELOG.md: no row has `{name}` and `{new}`" for name, new in old.items() if f"| `{name}` | `{new}` |" not in changes)
+    listed = subprocess.run(["git", "-C", top, "ls-files"], capture_output=True, text=True, check=False).stdout.splitlines()
+    for path in listed:
+        if re.match(r"(README|bench|bindings|c/names|docs|examples|man|packaging|tests/[^d]|tools)", path):
+            with open(f"{top}/{path}", encoding="utf-8", errors="ignore") as file:
+                yield from (f"{path}: {found} has another name now" for found in sorted(set(names.findall(file.read()))))
+
+
 def main(words):
     if words not in ([], ["--write"]):
         sys.exit(__doc__)
@@ -205,6 +227,7 @@ def main(words):
         *wrong_counts(header),
         *guessed_counts(TOP, header),
         *unknown_names(TOP, header),
+        *old_names(TOP, header),
         *call_list.check(bool(words)),
     ]
     print("".join(line + "\n" for line in found), end="")

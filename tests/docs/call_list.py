@@ -32,10 +32,10 @@ REASONS = [
     ("O", "A program calls it once.", {"counts": "cpu_supported version"}),
     ("P", "It runs what the counted call `lk_read_captured` runs after the Ethernet header.", {"counts": "read_captured_packet"}),
     ("R", "It is called for a timer, an ICMP error or an MLD message, not for each packet.", {
-        "counts": "connection_too_big emit_mld_report expire read_mld_query shrink_reach"}),
+        "counts": "connection_too_big emit_mld_report expire_reassembly read_mld_query shrink_reach"}),
     ("S", "It takes fewer than 100 instructions.", {
-        "counts": "add_seq compare_seq connection_due connection_is_ended connection_state connection_waiting emit_ethernet"
-                  " is_multicast is_unicast next_ipv6_header reply subtract_seq tcp_header_len"}),
+        "counts": "add_seq compare_seq connection_next_timeout connection_at_eof connection_state connection_unacked emit_ethernet"
+                  " is_multicast is_unicast next_ipv6_header make_reply subtract_seq tcp_header_len"}),
     ("T", "The call by a table serves both: the package makes a table, or gives one without cells.", {
         "Rust": "check_source choose_route", "Go": "check_source choose_route"}),
     ("U", "Types of the standard library do this.", {"Rust": "is_multicast print_addr print_endpoint"}),

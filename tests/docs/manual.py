@@ -33,7 +33,7 @@ FAULTS = [
     ("lk_check_source", "no full stop", "2.5.6). */\nint lk_check_source", "2.5.6) */\nint lk_check_source"),
     ("lk_clamp_mss", "begins with it", "0; then the frame is unchanged. */", "0.\n *\n * If it is 0, it stays. */"),
     ("lk_append", "begins with it", "/* Advances `out` past", "/* It advances `out` past"),
-    ("lk_parse_block", "names the next", "/* A text is `len` bytes.", "/* The next structs: a text is `len` bytes."),
+    ("lk_parse_prefix", "names the next", "/* A text is `len` bytes.", "/* The next structs: a text is `len` bytes."),
 ]
 
 

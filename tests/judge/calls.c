@@ -116,11 +116,11 @@ WRITER(answer, (const struct lk_host *host, const uint8_t *ptr, size_t len, uint
        (host, ptr, len, wanted, cap), (give_host(host), INPUT, OUT))
 
 WRITER(print_addr, (const struct lk_addr *addr, char *out, size_t cap), (addr, (char *)wanted, cap), (GIVE(addr), OUT))
-WRITER(print_block, (const struct lk_block *block, char *out, size_t cap), (block, (char *)wanted, cap),
+WRITER(print_prefix, (const struct lk_prefix *block, char *out, size_t cap), (block, (char *)wanted, cap),
        (GIVE(block), OUT))
 WRITER(print_endpoint, (const struct lk_endpoint *endpoint, char *out, size_t cap), (endpoint, (char *)wanted, cap),
        (GIVE(endpoint), OUT))
-WRITER(print_ethernet, (const uint8_t *octets, char *out, size_t cap), (octets, (char *)wanted, cap),
+WRITER(print_mac, (const uint8_t *octets, char *out, size_t cap), (octets, (char *)wanted, cap),
        (given("octets", octets, 6), OUT))
 WRITER(print_frame, (const struct lk_frame *frame, char *out, size_t cap), (frame, (char *)wanted, cap),
        (GIVE(frame), OUT))
@@ -206,30 +206,30 @@ READER(read_ndisc, same_ndisc, struct lk_ndisc, ndisc, (const uint8_t *ptr, size
        (ptr, len, &stored), (INPUT, room_of_it))
 READER(parse_addr, SAME_VALUE, struct lk_addr, addr, (const char *text, size_t len, struct lk_addr *addr),
        (text, len, &stored), (TEXT, room_of_it))
-READER(parse_block, SAME_VALUE, struct lk_block, block, (const char *text, size_t len, struct lk_block *block),
+READER(parse_prefix, SAME_VALUE, struct lk_prefix, block, (const char *text, size_t len, struct lk_prefix *block),
        (text, len, &stored), (TEXT, room_of_it))
 READER(parse_endpoint, SAME_VALUE, struct lk_endpoint, endpoint,
        (const char *text, size_t len, struct lk_endpoint *endpoint), (text, len, &stored), (TEXT, room_of_it))
 
-int both_parse_ethernet(const char *text, size_t len, uint8_t *octets)
+int both_parse_mac(const char *text, size_t len, uint8_t *octets)
 {
     int came;
-    CALL(lk_parse_ethernet);
-    came = lk_parse_ethernet(TEXT, begin_out(octets, 6));
-    end_call(model_parse_ethernet(text, len, wanted), came);
+    CALL(lk_parse_mac);
+    came = lk_parse_mac(TEXT, begin_out(octets, 6));
+    end_call(model_parse_mac(text, len, wanted), came);
     end_out("octets", octets, 6);
     return came;
 }
 
-void both_reply(struct lk_frame *frame)
+void both_make_reply(struct lk_frame *frame)
 {
     struct lk_frame stored = *frame, *came;
-    CALL(lk_reply);
+    CALL(lk_make_reply);
     GIVE(frame);
     came = room(frame, sizeof *frame);
-    lk_reply(came);
+    lk_make_reply(came);
     end_call(0, 0);
-    model_reply(&stored);
+    model_make_reply(&stored);
     same_frame(&stored, came);
     *frame = stored;
 }
@@ -247,7 +247,7 @@ void both_reply(struct lk_frame *frame)
     }
 
 NUMBERED(ptrdiff_t, tcp_header_len, (const struct lk_tcp_options *options), (options), (GIVE(options)))
-NUMBERED(int, contains, (const struct lk_block *block, const struct lk_addr *addr), (block, addr),
+NUMBERED(int, contains, (const struct lk_prefix *block, const struct lk_addr *addr), (block, addr),
          (GIVE(block), GIVE(addr)))
 NUMBERED(int, is_multicast, (const struct lk_addr *addr), (addr), (GIVE(addr)))
 NUMBERED(int, is_unicast, (const struct lk_addr *addr), (addr), (GIVE(addr)))
@@ -311,8 +311,8 @@ CHANGER(forward, (uint8_t *frame, size_t len, const uint8_t *src, const uint8_t 
         (FRAME, given("src", src, 6), given("dst", dst, 6)))
 CHANGER(translate, (uint8_t *frame, size_t len, int side, const struct lk_endpoint *end), (wanted, len, side, end),
         (FRAME, NUMBER(side), GIVE(end)))
-CHANGER(clamp_mss, (uint8_t *frame, size_t len, uint16_t max_seg_size), (wanted, len, max_seg_size),
-        (FRAME, NUMBER(max_seg_size)))
+CHANGER(clamp_mss, (uint8_t *frame, size_t len, uint16_t mss), (wanted, len, mss),
+        (FRAME, NUMBER(mss)))
 CHANGER(set_hop_limit, (uint8_t *frame, size_t len, uint8_t hop_limit), (wanted, len, hop_limit),
         (FRAME, NUMBER(hop_limit)))
 CHANGER(set_dscp, (uint8_t *frame, size_t len, uint8_t dscp), (wanted, len, dscp), (FRAME, NUMBER(dscp)))
@@ -322,8 +322,8 @@ CHANGER(set_port, (uint8_t *frame, size_t len, int side, uint16_t port), (wanted
         (FRAME, NUMBER(side), NUMBER(port)))
 CHANGER(set_bytes, (uint8_t *frame, size_t len, size_t offset, const uint8_t *ptr, size_t count),
         (wanted, len, offset, ptr, count), (FRAME, NUMBER(offset), given("ptr", ptr, used_len(count)), NUMBER(count)))
-CHANGER(clamp_mss_as, (uint8_t *frame, size_t len, uint16_t max_seg_size, int offload),
-        (wanted, len, max_seg_size, offload), (FRAME, NUMBER(max_seg_size), NUMBER(offload)))
+CHANGER(clamp_mss_as, (uint8_t *frame, size_t len, uint16_t mss, int offload),
+        (wanted, len, mss, offload), (FRAME, NUMBER(mss), NUMBER(offload)))
 CHANGER(set_addr_as, (uint8_t *frame, size_t len, int side, const struct lk_addr *addr, int offload),
         (wanted, len, side, addr, offload), (FRAME, NUMBER(side), GIVE(addr), NUMBER(offload)))
 CHANGER(set_port_as, (uint8_t *frame, size_t len, int side, uint16_t port, int offload),

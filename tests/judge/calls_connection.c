@@ -31,14 +31,14 @@ static struct end *other(const struct end *end)
 static void look(struct end *end)
 {
     int is_ended;
-    CALL(lk_connection_is_ended);
-    is_ended = lk_connection_is_ended(given("connection", &end->connection, sizeof end->connection));
+    CALL(lk_connection_at_eof);
+    is_ended = lk_connection_at_eof(given("connection", &end->connection, sizeof end->connection));
     end_call(1, is_ended == 0 || is_ended == 1);
-    CALL(lk_connection_due);
-    end->due = lk_connection_due(given("connection", &end->connection, sizeof end->connection));
+    CALL(lk_connection_next_timeout);
+    end->due = lk_connection_next_timeout(given("connection", &end->connection, sizeof end->connection));
     end_call(0, 0);
-    CALL(lk_connection_waiting);
-    end->waiting = lk_connection_waiting(given("connection", &end->connection, sizeof end->connection));
+    CALL(lk_connection_unacked);
+    end->waiting = lk_connection_unacked(given("connection", &end->connection, sizeof end->connection));
     end_call(1, end->waiting <= end->outgoing_len + 2);
     CALL(lk_connection_state);
     end->state = lk_connection_state(given("connection", &end->connection, sizeof end->connection));
@@ -67,7 +67,7 @@ static int meet(enum event event, struct end *end, size_t outgoing_len, size_t i
     struct lk_connection *connection;
     uint8_t *incoming;
     const uint8_t *outgoing;
-    waiting = lk_connection_waiting(&end->connection);
+    waiting = lk_connection_unacked(&end->connection);
     if (event == CONNECT) CALL(lk_connection_connect);
     else if (event == STEP) CALL(lk_connection_step);
     else CALL(lk_connection_tick);

@@ -19,7 +19,7 @@ static void *copy(void *to, const void *from, size_t len)
 }
 
 /* What the caller may read of a packet. */
-static void same_partial(const struct model_partial *one, const struct lk_partial *came)
+static void same_partial(const struct model_partial *one, const struct lk_reassembly *came)
 {
     unsigned version = one->network == LK_IPV6 ? 6 : 4;
     same_number("expires", (ptrdiff_t)one->expires, (ptrdiff_t)came->expires);
@@ -34,7 +34,7 @@ static void same_partial(const struct model_partial *one, const struct lk_partia
 }
 
 /* Only the packet at the place of the model, and its memory, may have changed. */
-static void same_others(const struct lk_partial *before, const struct lk_partial *came, size_t count,
+static void same_others(const struct lk_reassembly *before, const struct lk_reassembly *came, size_t count,
                         const uint8_t *memory, const uint8_t *came_memory, size_t memory_len)
 {
     size_t part = count == 0 ? 0 : memory_len / count, rest = count * part;
@@ -49,11 +49,11 @@ static void same_others(const struct lk_partial *before, const struct lk_partial
         same_bytes("the rest of the memory", memory + rest, came_memory + rest, memory_len - rest);
 }
 
-ptrdiff_t both_reassemble(struct lk_partial *partials, size_t count, uint8_t *memory, size_t memory_len, uint64_t now,
+ptrdiff_t both_reassemble(struct lk_reassembly *partials, size_t count, uint8_t *memory, size_t memory_len, uint64_t now,
                           const uint8_t *frame, size_t len, uint8_t *out, size_t cap)
 {
     size_t used = used_len(count), partials_len = used * sizeof *partials, used_memory = used_len(memory_len);
-    struct lk_partial *came_partials;
+    struct lk_reassembly *came_partials;
     uint8_t *came_memory, *came_out;
     ptrdiff_t came;
     CALL(lk_reassemble);
@@ -73,20 +73,20 @@ ptrdiff_t both_reassemble(struct lk_partial *partials, size_t count, uint8_t *me
     return came;
 }
 
-size_t both_expire(struct lk_partial *partials, size_t count, const uint8_t *memory, size_t memory_len, uint64_t now,
+size_t both_expire_reassembly(struct lk_reassembly *partials, size_t count, const uint8_t *memory, size_t memory_len, uint64_t now,
                    uint8_t *out, size_t cap)
 {
     size_t used = used_len(count), partials_len = used * sizeof *partials, came;
-    struct lk_partial *came_partials;
+    struct lk_reassembly *came_partials;
     uint8_t *came_out;
-    CALL(lk_expire);
+    CALL(lk_expire_reassembly);
     copy(wanted, out, used_len(cap));
     given("partials", partials, partials_len);
     came_partials = room(partials, partials_len);
     came_out = room(out, used_len(cap));
-    came = lk_expire(came_partials, NUMBER(count), given("memory", memory, used_len(memory_len)), NUMBER(memory_len),
+    came = lk_expire_reassembly(came_partials, NUMBER(count), given("memory", memory, used_len(memory_len)), NUMBER(memory_len),
                      NUMBER(now), came_out, NUMBER(cap));
-    end_call((ptrdiff_t)model_expire(&table, count, now, wanted, cap), (ptrdiff_t)came);
+    end_call((ptrdiff_t)model_expire_reassembly(&table, count, now, wanted, cap), (ptrdiff_t)came);
     same_bytes("out", wanted, came_out, used_len(cap));
     for (size_t i = 0; i < used; i++)
         same_partial(&table.at[i], &came_partials[i]);

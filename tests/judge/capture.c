@@ -36,7 +36,7 @@ static void write_addr(int is_there, const struct lk_addr *addr)
     write_text(is_there ? text : "");
 }
 
-/* Wireshark's PROTO_CHECKSUM_E_..: 0 bad, 1 good, 2 unverified, 3 not present. It has none for LK_LEFT_TO_DEVICE. */
+/* Wireshark's PROTO_CHECKSUM_E_..: 0 bad, 1 good, 2 unverified, 3 not present. It has none for LK_CHECKSUM_PARTIAL. */
 static void write_verdict(int is_there, unsigned verdict)
 {
     static const char *const statuses[] = {"2", "1", "0", "3", "partial"};

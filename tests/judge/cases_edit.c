@@ -19,11 +19,11 @@ static void keeps_verdict(int was_changed)
     if (!was_changed || before.network == LK_NO_NETWORK)
         return;
     same_number("ipv4_checksum", before.ipv4_checksum, after.ipv4_checksum);
-    if (before.transport_checksum == LK_RIGHT || before.transport_checksum == LK_LEFT_OUT)
+    if (before.transport_checksum == LK_CHECKSUM_VALID || before.transport_checksum == LK_CHECKSUM_OMITTED)
         same_number("transport_checksum", before.transport_checksum, after.transport_checksum);
-    if (before.transport_checksum == LK_WRONG)
-        same_number("a checksum that is right", 0, after.transport_checksum == LK_RIGHT);
-    if (before.transport_checksum == LK_LEFT_TO_DEVICE && after.transport_checksum != LK_RIGHT)
+    if (before.transport_checksum == LK_CHECKSUM_INVALID)
+        same_number("a checksum that is right", 0, after.transport_checksum == LK_CHECKSUM_VALID);
+    if (before.transport_checksum == LK_CHECKSUM_PARTIAL && after.transport_checksum != LK_CHECKSUM_VALID)
         same_number("transport_checksum", before.transport_checksum, after.transport_checksum);
 }
 

@@ -22,7 +22,7 @@ static void read_one_frame(const uint8_t *ptr, size_t len)
     both_read_frame(ptr, len, &frame);
     CALL(lk_is_valid);
     given("frame", &frame, sizeof frame);
-    end_call(frame.reason == 0 && !has_verdict(&frame, LK_WRONG), lk_is_valid(&frame));
+    end_call(frame.reason == 0 && !has_verdict(&frame, LK_CHECKSUM_INVALID), lk_is_valid(&frame));
 }
 
 static void read_one_with_options(const uint8_t *ptr, size_t len)

@@ -22,7 +22,7 @@ static struct held {
 } held[HELD];
 static size_t held_count;
 
-static struct lk_partial partials[MODEL_PARTIALS];
+static struct lk_reassembly partials[MODEL_PARTIALS];
 static uint8_t memory[MODEL_ROOM];
 static size_t count, memory_len;
 static uint64_t now;
@@ -38,7 +38,7 @@ static void begin_table(void)
     memory_len = one_in(16) ? below(count * 200 + 1) : count * per + below(count + 1);
     if (one_in(12)) {
         count = 1;
-        memory_len = LK_PARTIAL_MEMORY + below(20) - 10;
+        memory_len = LK_REASSEMBLY_MEMORY + below(20) - 10;
     }
     fill(memory, memory_len);
     now = one_in(8) ? UINT64_MAX - below(100000) : one_in(2) ? 1 + below(1000) : any() >> 8;
@@ -177,14 +177,14 @@ static void pass_time(void)
 static void expire_some(void)
 {
     size_t tries = 1 + below(4), cap = one_in(4) ? any_cap(60 + (ptrdiff_t)below(SHORT)) : 65589;
-    while (tries-- > 0 && both_expire(partials, count, memory, memory_len, now, any_out(cap), cap) > 0)
+    while (tries-- > 0 && both_expire_reassembly(partials, count, memory, memory_len, now, any_out(cap), cap) > 0)
         continue;
 }
 
 /* Any partials, and any memory: what comes is open, but nothing outside may be accessed. */
 static void reassemble_by_anything(void)
 {
-    static struct lk_partial strange[MODEL_PARTIALS];
+    static struct lk_reassembly strange[MODEL_PARTIALS];
     size_t len = count * sizeof *strange, cap = any_cap(500);
     fill(strange, sizeof strange);
     for (size_t i = 0; i < count; i++) {
@@ -199,9 +199,9 @@ static void reassemble_by_anything(void)
     end_call(1, lk_reassemble(room(strange, len), count, room(memory, memory_len), memory_len, now,
                               given("frame", held[0].octets, held[0].len), held[0].len, room(any_out(cap), used_len(cap)),
                               cap) <= 65589);
-    CALL(lk_expire);
+    CALL(lk_expire_reassembly);
     given("partials before", strange, len);
-    end_call(1, lk_expire(room(strange, len), count, given("memory", memory, memory_len), memory_len, now,
+    end_call(1, lk_expire_reassembly(room(strange, len), count, given("memory", memory, memory_len), memory_len, now,
                           room(any_out(cap), used_len(cap)), cap) <= 65589);
 }
 
@@ -223,7 +223,7 @@ void reassemble_frames(void)
     if (one_in(32))
         both_reassemble(partials, unused_len(), memory, memory_len, now, made.octets, made.len, any_out(400), 400);
     if (one_in(32))
-        both_expire(partials, unused_len(), memory, memory_len, now, any_out(400), 400);
+        both_expire_reassembly(partials, unused_len(), memory, memory_len, now, any_out(400), 400);
     if (one_in(16))
         reassemble_by_anything();
 }

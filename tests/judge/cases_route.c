@@ -31,9 +31,9 @@ static void translate_one(size_t len)
 static void clamp_one(size_t len)
 {
     static const uint16_t common[] = {0, 536, 1220, 1460, 65535};
-    uint16_t max_seg_size = (uint16_t)(one_in(2) ? any() : common[below(5)]);
-    both_clamp_mss(copy_made(), len, max_seg_size);
-    both_clamp_mss_as(copy_made(), len, max_seg_size, any_offload());
+    uint16_t mss = (uint16_t)(one_in(2) ? any() : common[below(5)]);
+    both_clamp_mss(copy_made(), len, mss);
+    both_clamp_mss_as(copy_made(), len, mss, any_offload());
 }
 
 /* Mostly over IPv4, because NAT does not translate others. */
@@ -70,7 +70,7 @@ enum { ROUTES = 72 };
 static struct lk_route routes[ROUTES];
 
 /* An address in the block of a route, or beside it. */
-static struct lk_addr any_addr_near(const struct lk_block *block)
+static struct lk_addr any_addr_near(const struct lk_prefix *block)
 {
     struct lk_addr addr = block->addr;
     size_t bits = 8 * addr_len(&addr), bit;
@@ -89,10 +89,10 @@ static void any_routes(size_t count)
     unsigned wrong = (unsigned)below(40);
     fill(routes, count * sizeof *routes);
     for (size_t i = 0; i < count; i++) {
-        struct lk_block *block = &routes[i].block;
+        struct lk_prefix *block = &routes[i].prefix;
         block->addr = any_addr(one_in(2) ? 4 : 6);
         if (i > 0 && !one_in(4))
-            block->addr = any_addr_near(&routes[below(i)].block);
+            block->addr = any_addr_near(&routes[below(i)].prefix);
         block->prefix_len = (uint16_t)below(8 * addr_len(&block->addr) + 1);
         if (wrong == 0 && one_in(4))
             block->prefix_len = (uint16_t)(one_in(2) ? any() : 8 * addr_len(&block->addr) + below(3));
@@ -139,7 +139,7 @@ static void look_up_any(const struct lk_route_node *nodes, size_t count, int has
     struct lk_addr addr = any_addr(any_version());
     size_t len = LK_ROUTE_TABLE_LEN(count), cell_count = has_table ? len + below(FOLLOWING) : below(len);
     if (count > 0)
-        addr = any_addr_near(&routes[below(count)].block);
+        addr = any_addr_near(&routes[below(count)].prefix);
     if (one_in(16))
         cell_count = one_in(4) ? unused_len() : below(len);
     if (one_in(64))

@@ -8,7 +8,7 @@
 void classify_addr(void)
 {
     struct lk_addr addr = any_addr(any_version());
-    struct lk_block block = {addr, (uint16_t)(one_in(16) ? any() : below(one_in(2) ? 34 : 130))};
+    struct lk_prefix block = {addr, (uint16_t)(one_in(16) ? any() : below(one_in(2) ? 34 : 130))};
     if (one_in(4))
         block.addr = any_addr(any_version());
     if (!one_in(4) && addr_len(&block.addr) != 0) {

@@ -145,7 +145,7 @@ static void make_text(struct text *text, size_t kind)
 
 static void parse_one(size_t kind, const struct text *text, size_t len)
 {
-    struct lk_block block;
+    struct lk_prefix block;
     struct lk_endpoint endpoint;
     uint8_t octets[6];
     fill(&block, sizeof block);
@@ -156,13 +156,13 @@ static void parse_one(size_t kind, const struct text *text, size_t len)
         both_parse_addr(text->chars, len, &block.addr);
         break;
     case 1:
-        both_parse_block(text->chars, len, &block);
+        both_parse_prefix(text->chars, len, &block);
         break;
     case 2:
         both_parse_endpoint(text->chars, len, &endpoint);
         break;
     default:
-        both_parse_ethernet(text->chars, len, octets);
+        both_parse_mac(text->chars, len, octets);
     }
 }
 
@@ -210,14 +210,14 @@ static size_t any_text_cap(ptrdiff_t len)
 
 void print_text(void)
 {
-    struct lk_block block = {any_printed_addr(), (uint16_t)(one_in(8) ? any() : below(132))};
+    struct lk_prefix block = {any_printed_addr(), (uint16_t)(one_in(8) ? any() : below(132))};
     struct lk_endpoint endpoint = {any_printed_addr(), (uint16_t)any_port()};
     uint8_t hardware[6];
     any_hardware(hardware);
     PRINT(addr, &block.addr, LK_ADDR_TEXT);
-    PRINT(block, &block, LK_BLOCK_TEXT);
+    PRINT(prefix, &block, LK_PREFIX_TEXT);
     PRINT(endpoint, &endpoint, LK_ENDPOINT_TEXT);
-    PRINT(ethernet, hardware, LK_ETHERNET_TEXT);
+    PRINT(mac, hardware, LK_MAC_TEXT);
 }
 
 /* A frame that was read, and then any values. */

@@ -77,7 +77,7 @@ static struct lk_tcp_options any_written_options(void)
     fill(&options, sizeof options);
     options.sack_range_count = (uint8_t)(is_wrong() ? one_in(2) ? any() : 3 + below(4) : below(3));
     options.sack_permitted = one_in(2) ? 0 : any_has();
-    options.has_max_seg_size = any_has();
+    options.has_mss = any_has();
     options.has_window_scale = any_has();
     options.has_timestamp = any_has();
     return options;
@@ -253,5 +253,5 @@ void reply_frame(void)
         make_frame();
         model_read_frame(made.octets, made.len, &headers);
     }
-    both_reply(&headers);
+    both_make_reply(&headers);
 }

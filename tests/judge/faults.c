@@ -12,7 +12,7 @@ enum fault fault;
 __attribute__((constructor)) static void choose(void)
 {
     static const char *const names[FAULTS] = {
-        "none", "ports swapped", "hop limit off by one", "LK_RIGHT for a wrong checksum", "padding in payload_len",
+        "none", "ports swapped", "hop limit off by one", "LK_CHECKSUM_VALID for a wrong checksum", "padding in payload_len",
         "window scale 15", "an octet written past the end", "out changed after a failure", "failures out of order",
         "reasons out of order", "five SACK ranges accepted", "URG kept in a rebuilt frame",
         "identification kept in a rebuilt frame", "an answer to a multicast address", "transport of a rejected header",
@@ -27,7 +27,7 @@ __attribute__((constructor)) static void choose(void)
         "an advertisement that is not solicited", "the packet in an ICMP error not translated",
         "octets 4 to 7 of an ICMP header in another order", "ICMPv6 with the protocol of ICMP",
         "neighbour discovery sent with hop limit 64", "an error about a UDP port that is served",
-        "LK_ROUTE_MISSING for LK_NEIGHBOUR_MISSING", "an ICMP mapping with the time-out of UDP",
+        "LK_NO_ROUTE_TO_DESTINATION for LK_NEIGHBOUR_MISSING", "an ICMP mapping with the time-out of UDP",
         "an echo identifier of 0 rejected",
         "an error rejected for a quoted checksum",
         "LK_BAD_TRANSPORT for an ICMP message that is not translated", "LK_BAD_TRANSPORT for an error about GRE",
@@ -133,8 +133,8 @@ static void spoil_frame(struct lk_frame *frame, size_t len)
     }
     if (fault == HOP_LIMIT_OFF_BY_ONE && frame->network >= LK_IPV4)
         frame->ip.hop_limit--;
-    if (fault == RIGHT_FOR_WRONG && frame->transport_checksum == LK_WRONG)
-        frame->transport_checksum = LK_RIGHT;
+    if (fault == RIGHT_FOR_WRONG && frame->transport_checksum == LK_CHECKSUM_INVALID)
+        frame->transport_checksum = LK_CHECKSUM_VALID;
     if (fault == PADDING_IN_PAYLOAD && frame->transport != LK_NO_TRANSPORT)
         frame->payload_len = len - frame->payload_offset;
     if (fault == REASONS_OUT_OF_ORDER && frame->reason == LK_PORT_ZERO && controls(frame->tcp.flags) > 1)
@@ -144,7 +144,7 @@ static void spoil_frame(struct lk_frame *frame, size_t len)
     if (fault == HEADER_CUT_FOR_TOO_SHORT && frame->reason == LK_TOO_SHORT && len >= 14)
         frame->reason = LK_HEADER_CUT;
     if (fault == CHECKSUM_CUT_MISSED && frame->transport_checksum == LK_CHECKSUM_CUT)
-        frame->transport_checksum = LK_WRONG;
+        frame->transport_checksum = LK_CHECKSUM_INVALID;
     if (fault == QUOTED_PACKET_TOO_FAR && frame->transport == LK_ICMP && frame->payload_len >= 4) {
         frame->payload_offset += 4;
         frame->payload_len -= 4;
@@ -258,7 +258,7 @@ ptrdiff_t __wrap_lk_emit_udp_frame(const struct lk_frame *headers, const uint8_t
                                    size_t cap)
 {
     ptrdiff_t result = __real_lk_emit_udp_frame(headers, ptr, len, out, cap);
-    if (fault == FAILURES_OUT_OF_ORDER && result == LK_NO_PORT && headers->ip.hop_limit == 0)
+    if (fault == FAILURES_OUT_OF_ORDER && result == LK_EMIT_PORT_ZERO && headers->ip.hop_limit == 0)
         return LK_NO_HOP_LIMIT;
     return result;
 }
@@ -339,7 +339,7 @@ ptrdiff_t __wrap_lk_rebuild(const uint8_t *ptr, size_t len, uint8_t *out, size_t
     __real_lk_read_frame(ptr, len, &frame);
     __real_lk_read_frame(out, (size_t)result, &rebuilt);
     tcp = out + rebuilt.transport_offset;
-    if (fault == URG_KEPT && rebuilt.transport == LK_TCP && frame.transport_checksum == LK_RIGHT &&
+    if (fault == URG_KEPT && rebuilt.transport == LK_TCP && frame.transport_checksum == LK_CHECKSUM_VALID &&
         frame.tcp.flags & LK_URG)
         change_word(tcp + 12, (unsigned)(tcp[12] << 8 | tcp[13] | LK_URG), tcp + 16);
     if (fault == IDENTIFICATION_KEPT && rebuilt.network == LK_IPV4)
@@ -355,7 +355,7 @@ static ptrdiff_t answer_service(const struct lk_host *host, const uint8_t *ptr, 
     uint8_t *udp = copy, *echo = out;
     ptrdiff_t result;
     __real_lk_read_frame(ptr, len, &f);
-    if (f.transport != LK_UDP || f.transport_checksum != LK_RIGHT || f.src.port >= 1024 || len > sizeof copy)
+    if (f.transport != LK_UDP || f.transport_checksum != LK_CHECKSUM_VALID || f.src.port >= 1024 || len > sizeof copy)
         return __real_lk_answer(host, ptr, len, out, cap);
     memcpy(copy, ptr, len);
     udp += f.transport_offset;
@@ -484,8 +484,8 @@ ptrdiff_t __wrap_lk_print_endpoint(const struct lk_endpoint *endpoint, char *out
 ptrdiff_t __wrap_lk_print_frame(const struct lk_frame *frame, char *out, size_t cap)
 {
     struct lk_frame other = *frame;
-    if (fault == NOTE_MISSING && frame->transport_checksum == LK_WRONG)
-        other.transport_checksum = LK_RIGHT;
+    if (fault == NOTE_MISSING && frame->transport_checksum == LK_CHECKSUM_INVALID)
+        other.transport_checksum = LK_CHECKSUM_VALID;
     if (fault == OFFSET_IN_UNITS)
         other.ip.fragment_offset /= 8;
     return __real_lk_print_frame(&other, out, cap);

@@ -58,7 +58,7 @@ int __wrap_lk_set_addr(uint8_t *frame, size_t len, int side, const struct lk_add
 {
     struct lk_frame f;
     size_t at = sum_of(frame, len, &f);
-    int result, is_left = fault == LEFT_SUM_COMPLEMENTED && at != 0 && f.transport_checksum == LK_LEFT_TO_DEVICE;
+    int result, is_left = fault == LEFT_SUM_COMPLEMENTED && at != 0 && f.transport_checksum == LK_CHECKSUM_PARTIAL;
     uint16_t sum = is_left ? (uint16_t)(frame[at] << 8 | frame[at + 1]) : 0;
     if (fault == UDP_LITE_LEFT && f.network >= LK_IPV4 && f.ip.protocol == 136)
         return set_addr_of_udp_lite(frame, len, side, addr);
@@ -112,7 +112,7 @@ int __wrap_lk_fill_checksum(uint8_t *frame, size_t len)
 {
     struct lk_frame f;
     sum_of(frame, len, &f);
-    return fault == LEFT_OUT_NOT_FILLED && f.transport_checksum == LK_LEFT_OUT ? 0 : __real_lk_fill_checksum(frame, len);
+    return fault == LEFT_OUT_NOT_FILLED && f.transport_checksum == LK_CHECKSUM_OMITTED ? 0 : __real_lk_fill_checksum(frame, len);
 }
 
 /* ---- what the caller says of a checksum ---- */

@@ -27,7 +27,7 @@ ptrdiff_t __wrap_lk_emit_icmp_error(const struct lk_interface *own, int problem,
     if (fault == ERROR_ABOUT_AN_ERROR && is_copied && frame[12] == 8 && frame[14] == 0x45 && frame[23] == 1)
         return about_another(own, problem, mtu, frame, len, 34, 8, out, cap);
     if (fault == OTHER_PROBLEM && problem == LK_NEIGHBOUR_MISSING)
-        problem = LK_ROUTE_MISSING;
+        problem = LK_NO_ROUTE_TO_DESTINATION;
     result = __real_lk_emit_icmp_error(own, problem, mtu, frame, len, out, cap);
     if (fault == MTU_LEFT_OUT && result > 0 && problem == LK_PACKET_TOO_BIG) {
         uint8_t *message = out + (out[12] == 8 ? 34 : 54);

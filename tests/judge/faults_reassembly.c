@@ -4,12 +4,12 @@
 #include "ip_wire.h"
 
 #define PARAMETERS                                                                                                    \
-    struct lk_partial *partials, size_t count, uint8_t *memory, size_t memory_len, uint64_t now, const uint8_t *frame, \
+    struct lk_reassembly *partials, size_t count, uint8_t *memory, size_t memory_len, uint64_t now, const uint8_t *frame, \
         size_t len, uint8_t *out, size_t cap
 #define ARGUMENTS partials, count, memory, memory_len, now, frame, len, out, cap
 
 ptrdiff_t __real_lk_reassemble(PARAMETERS);
-size_t __real_lk_expire(struct lk_partial *partials, size_t count, const uint8_t *memory, size_t memory_len, uint64_t now,
+size_t __real_lk_expire_reassembly(struct lk_reassembly *partials, size_t count, const uint8_t *memory, size_t memory_len, uint64_t now,
                         uint8_t *out, size_t cap);
 
 enum { MOST = 16 };
@@ -36,14 +36,14 @@ static void sum(uint8_t *header)
 }
 
 /* The live packet of a fragment, or null. */
-static struct lk_partial *packet_of(struct lk_partial *partials, size_t count, uint64_t now, const uint8_t *frame)
+static struct lk_reassembly *packet_of(struct lk_reassembly *partials, size_t count, uint64_t now, const uint8_t *frame)
 {
     int is_6 = is_ipv6(frame);
     size_t addr_len = is_6 ? 16 : 4;
     const uint8_t *addrs = frame + (is_6 ? 22 : 26), *id = frame + (is_6 ? 58 : 16), *ident = frame + 18;
     uint32_t number = is_6 ? (uint32_t)id[0] << 24 | (uint32_t)id[1] << 16 | (uint32_t)id[2] << 8 | id[3]
                            : (uint32_t)ident[0] << 8 | ident[1];
-    for (struct lk_partial *one = partials; one < partials + count; one++)
+    for (struct lk_reassembly *one = partials; one < partials + count; one++)
         if (now < one->expires && one->version == (is_6 ? 6 : 4) && one->ident == number &&
             (is_6 || one->protocol == frame[23]) && memcmp(one->src, addrs, addr_len) == 0 &&
             memcmp(one->dst, addrs + addr_len, addr_len) == 0)
@@ -54,7 +54,7 @@ static struct lk_partial *packet_of(struct lk_partial *partials, size_t count, u
 /* Counts all blocks of a packet as received, and takes the fragment again. */
 static ptrdiff_t hand_out(PARAMETERS)
 {
-    struct lk_partial *one = packet_of(partials, count, now, frame);
+    struct lk_reassembly *one = packet_of(partials, count, now, frame);
     size_t part = memory_len / count;
     if (one == 0 || one->len == 0 || one->header[0] == 0)
         return 0;
@@ -66,7 +66,7 @@ static ptrdiff_t hand_out(PARAMETERS)
 static ptrdiff_t reject_copy(PARAMETERS)
 {
     static uint8_t before[0x20000];
-    struct lk_partial kept[MOST], *one;
+    struct lk_reassembly kept[MOST], *one;
     ptrdiff_t result;
     memcpy(kept, partials, count * sizeof *kept);
     memcpy(before, memory, memory_len);
@@ -83,7 +83,7 @@ static ptrdiff_t reject_copy(PARAMETERS)
 static ptrdiff_t ignore_protocol(PARAMETERS)
 {
     static uint8_t copy[0x20000];
-    struct lk_partial *one;
+    struct lk_reassembly *one;
     if (len < 34 || len > sizeof copy || is_ipv6(frame) || frame[23] != 1 || !is_part(frame))
         return __real_lk_reassemble(ARGUMENTS);
     memcpy(copy, frame, len);
@@ -96,7 +96,7 @@ static ptrdiff_t ignore_protocol(PARAMETERS)
     return __real_lk_reassemble(ARGUMENTS);
 }
 
-static int expires_at(const struct lk_partial *partials, size_t count, uint64_t now)
+static int expires_at(const struct lk_reassembly *partials, size_t count, uint64_t now)
 {
     for (size_t i = 0; i < count; i++)
         if (partials[i].expires == now && now != 0)
@@ -105,9 +105,9 @@ static int expires_at(const struct lk_partial *partials, size_t count, uint64_t 
 }
 
 /* Frees the packet that expires last, if there is no other room for the fragment. */
-static void evict_last(struct lk_partial *partials, size_t count, uint64_t now, const uint8_t *frame)
+static void evict_last(struct lk_reassembly *partials, size_t count, uint64_t now, const uint8_t *frame)
 {
-    struct lk_partial *last = partials;
+    struct lk_reassembly *last = partials;
     for (size_t i = 0; i < count; i++) {
         if (partials[i].expires <= now)
             return;
@@ -118,7 +118,7 @@ static void evict_last(struct lk_partial *partials, size_t count, uint64_t now, 
 }
 
 /* A packet keeps the codepoint of its first fragment. */
-static void lose_ce(const struct lk_partial *kept, const uint8_t *frame, uint8_t *out)
+static void lose_ce(const struct lk_reassembly *kept, const uint8_t *frame, uint8_t *out)
 {
     if (!is_part(frame) || !kept->ce || !(kept->header[1] & (is_ipv6(out) ? 0x30 : 3)))
         return;
@@ -129,7 +129,7 @@ static void lose_ce(const struct lk_partial *kept, const uint8_t *frame, uint8_t
 
 ptrdiff_t __wrap_lk_reassemble(PARAMETERS)
 {
-    struct lk_partial *one = 0, kept = {0};
+    struct lk_reassembly *one = 0, kept = {0};
     ptrdiff_t result;
     int is_usual = len >= 62 && len < 0x20000 && count > 0 && count <= MOST && memory_len <= 0x20000;
     if (!is_usual)
@@ -157,10 +157,10 @@ ptrdiff_t __wrap_lk_reassemble(PARAMETERS)
     return result;
 }
 
-size_t __wrap_lk_expire(struct lk_partial *partials, size_t count, const uint8_t *memory, size_t memory_len, uint64_t now,
+size_t __wrap_lk_expire_reassembly(struct lk_reassembly *partials, size_t count, const uint8_t *memory, size_t memory_len, uint64_t now,
                         uint8_t *out, size_t cap)
 {
     for (size_t i = 0; fault == ERROR_ABOUT_A_DROPPED_PACKET && count <= MOST && i < count; i++)
         partials[i].dropped = 0;
-    return __real_lk_expire(partials, count, memory, memory_len, now, out, cap);
+    return __real_lk_expire_reassembly(partials, count, memory, memory_len, now, out, cap);
 }

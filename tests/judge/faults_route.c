@@ -7,8 +7,8 @@
 
 int __real_lk_forward(uint8_t *frame, size_t len, const uint8_t *src, const uint8_t *dst);
 int __real_lk_translate(uint8_t *frame, size_t len, int side, const struct lk_endpoint *end);
-int __real_lk_clamp_mss(uint8_t *frame, size_t len, uint16_t max_seg_size);
-int __real_lk_clamp_mss_as(uint8_t *frame, size_t len, uint16_t max_seg_size, int offload);
+int __real_lk_clamp_mss(uint8_t *frame, size_t len, uint16_t mss);
+int __real_lk_clamp_mss_as(uint8_t *frame, size_t len, uint16_t mss, int offload);
 ptrdiff_t __real_lk_index_routes(const struct lk_route *routes, size_t count, struct lk_route_node *nodes,
                                  size_t node_count);
 int __real_lk_check_source(const struct lk_route *routes, size_t route_count, const struct lk_route_node *nodes,
@@ -47,31 +47,31 @@ int __wrap_lk_translate(uint8_t *frame, size_t len, int side, const struct lk_en
     int result = __real_lk_translate(frame, len, fault == SIDE_OF_ONE_BYTE ? side & 0xff : side, end);
     struct lk_frame f;
     lk_read_frame(frame, len, &f);
-    if (fault == CHECKSUM_BEFORE_TYPE && result == LK_OTHER_PROTOCOL && f.transport_checksum == LK_WRONG)
+    if (fault == CHECKSUM_BEFORE_TYPE && result == LK_OTHER_PROTOCOL && f.transport_checksum == LK_CHECKSUM_INVALID)
         return LK_BAD_TRANSPORT;
     if (fault == ECHO_OF_0_REJECTED && result == LK_NOT_REJECTED && end->port == 0 && frame[23] == 1)
-        return LK_ZERO_PORT;
+        return LK_NAT_PORT_ZERO;
     return result;
 }
 
-int __wrap_lk_clamp_mss(uint8_t *frame, size_t len, uint16_t max_seg_size)
+int __wrap_lk_clamp_mss(uint8_t *frame, size_t len, uint16_t mss)
 {
     struct lk_frame f;
     int result;
     lk_read_frame(frame, len, &f);
     if (fault == SYN_ACK_LEFT && (f.tcp.flags & LK_ACK))
         return 0;
-    result = __real_lk_clamp_mss(frame, len, max_seg_size);
-    if (fault == PARTIAL_SUM_UPDATED && result == 1 && f.transport_checksum == LK_LEFT_TO_DEVICE)
+    result = __real_lk_clamp_mss(frame, len, mss);
+    if (fault == PARTIAL_SUM_UPDATED && result == 1 && f.transport_checksum == LK_CHECKSUM_PARTIAL)
         frame[f.transport_offset + 16] ^= 1;
     return result;
 }
 
-int __wrap_lk_clamp_mss_as(uint8_t *frame, size_t len, uint16_t max_seg_size, int offload)
+int __wrap_lk_clamp_mss_as(uint8_t *frame, size_t len, uint16_t mss, int offload)
 {
     if (fault == OFFLOADED_CLAMP_GUESSED && offload == LK_OFFLOADED)
         offload = LK_GUESS;
-    return __real_lk_clamp_mss_as(frame, len, max_seg_size, offload);
+    return __real_lk_clamp_mss_as(frame, len, mss, offload);
 }
 
 /* Indexes the routes from the last to the first. */

@@ -36,7 +36,7 @@ const char *model_rejection_name(int rejection);
 const char *model_protocol_name(int protocol);
 const char *model_ethertype_name(int type);
 const char *model_tcp_flag_name(int flag);
-int model_contains(const struct lk_block *block, const struct lk_addr *addr);
+int model_contains(const struct lk_prefix *block, const struct lk_addr *addr);
 int model_is_multicast(const struct lk_addr *addr);
 int model_is_unicast(const struct lk_addr *addr);
 uint16_t model_checksum(const uint8_t *ptr, size_t len);
@@ -55,13 +55,13 @@ int model_compare_seq(uint32_t a, uint32_t b);
 /* ---- model_text.c ---- */
 
 int model_parse_addr(const char *text, size_t len, struct lk_addr *addr);
-int model_parse_block(const char *text, size_t len, struct lk_block *block);
+int model_parse_prefix(const char *text, size_t len, struct lk_prefix *block);
 int model_parse_endpoint(const char *text, size_t len, struct lk_endpoint *endpoint);
-int model_parse_ethernet(const char *text, size_t len, uint8_t *octets);
+int model_parse_mac(const char *text, size_t len, uint8_t *octets);
 ptrdiff_t model_print_addr(const struct lk_addr *addr, char *out, size_t cap);
-ptrdiff_t model_print_block(const struct lk_block *block, char *out, size_t cap);
+ptrdiff_t model_print_prefix(const struct lk_prefix *block, char *out, size_t cap);
 ptrdiff_t model_print_endpoint(const struct lk_endpoint *endpoint, char *out, size_t cap);
-ptrdiff_t model_print_ethernet(const uint8_t *octets, char *out, size_t cap);
+ptrdiff_t model_print_mac(const uint8_t *octets, char *out, size_t cap);
 ptrdiff_t model_print_frame(const struct lk_frame *frame, char *out, size_t cap);
 
 /* ---- model_options.c ---- */
@@ -196,7 +196,7 @@ int is_answered(const struct lk_interface *own, const struct lk_addr *src);
 
 /* ---- model_host.c ---- */
 
-void model_reply(struct lk_frame *frame);
+void model_make_reply(struct lk_frame *frame);
 ptrdiff_t model_rebuild(const uint8_t *ptr, size_t len, uint8_t *out, size_t cap);
 ptrdiff_t model_answer(const struct lk_host *host, const uint8_t *ptr, size_t len, uint8_t *out, size_t cap);
 
@@ -217,8 +217,8 @@ void write_end(uint8_t *octets, const struct lk_frame *frame, int side, const st
 
 int model_forward(uint8_t *octets, size_t len, const uint8_t *src, const uint8_t *dst);
 int model_translate(uint8_t *octets, size_t len, int side, const struct lk_endpoint *end);
-int model_clamp_mss(uint8_t *octets, size_t len, uint16_t max_seg_size);
-int model_clamp_mss_as(uint8_t *octets, size_t len, uint16_t max_seg_size, int offload);
+int model_clamp_mss(uint8_t *octets, size_t len, uint16_t mss);
+int model_clamp_mss_as(uint8_t *octets, size_t len, uint16_t mss, int offload);
 
 /* The model has no index and no table: it searches the routes one by one. */
 ptrdiff_t model_index_routes(const struct lk_route *routes, size_t count, size_t node_count);
@@ -273,7 +273,7 @@ struct model_table_of_partials {
 
 ptrdiff_t model_reassemble(struct model_table_of_partials *table, size_t count, size_t memory_len, uint64_t now,
                            const uint8_t *octets, size_t len, uint8_t *out, size_t cap);
-size_t model_expire(struct model_table_of_partials *table, size_t count, uint64_t now, uint8_t *out, size_t cap);
+size_t model_expire_reassembly(struct model_table_of_partials *table, size_t count, uint64_t now, uint8_t *out, size_t cap);
 
 /* ---- model_nat.c ---- */
 

@@ -45,7 +45,7 @@ uint16_t icmp_sum(const struct lk_addr *src, const struct lk_addr *dst, const ui
 const char *model_failure_name(ptrdiff_t failure)
 {
     static const char *const names[] = {
-        "LK_NO_VERSION", "LK_TWO_VERSIONS", "LK_BAD_PREFIX", "LK_NO_PORT", "LK_NO_HOP_LIMIT", "LK_BAD_FIELD",
+        "LK_NO_VERSION", "LK_TWO_VERSIONS", "LK_BAD_PREFIX", "LK_EMIT_PORT_ZERO", "LK_NO_HOP_LIMIT", "LK_BAD_FIELD",
         "LK_TWO_CONTROLS", "LK_OPTIONS_TOO_LONG", "LK_PAYLOAD_TOO_LONG", "LK_NO_HEADER", "LK_NO_ROOM",
         "LK_DONT_FRAGMENT", "LK_DROPPED",
     };
@@ -68,9 +68,9 @@ const char *model_reason_name(int reason)
 const char *model_rejection_name(int rejection)
 {
     static const char *const names[LK_REJECTION_COUNT] = {
-        "LK_NOT_REJECTED", "LK_NO_IPV4", "LK_NOT_IP", "LK_BAD_HEADER", "LK_WRONG_CHECKSUM", "LK_EXPIRED", "LK_FRAGMENT",
-        "LK_OTHER_PROTOCOL", "LK_BAD_TRANSPORT", "LK_ZERO_PORT", "LK_NO_MAPPING", "LK_NO_FREE_PORT", "LK_MARTIAN",
-        "LK_NO_ROUTE", "LK_OTHER_INTERFACE",
+        "LK_NOT_REJECTED", "LK_NO_IPV4", "LK_NOT_IP", "LK_BAD_HEADER", "LK_WRONG_CHECKSUM", "LK_HOP_LIMIT_TOO_LOW", "LK_FRAGMENT",
+        "LK_OTHER_PROTOCOL", "LK_BAD_TRANSPORT", "LK_NAT_PORT_ZERO", "LK_NO_MAPPING", "LK_NO_FREE_PORT", "LK_MARTIAN",
+        "LK_NO_ROUTE_TO_SOURCE", "LK_OTHER_INTERFACE",
     };
     /* Open: LK_NOT_REJECTED. */
     return rejection >= LK_NOT_REJECTED && rejection < LK_REJECTION_COUNT ? names[rejection] : "no rejection";
@@ -129,7 +129,7 @@ static int get_bit(const uint8_t *octets, size_t bit)
     return octets[bit / 8] >> (7 - bit % 8) & 1;
 }
 
-int model_contains(const struct lk_block *block, const struct lk_addr *addr)
+int model_contains(const struct lk_prefix *block, const struct lk_addr *addr)
 {
     size_t len = addr_len(addr);
     if (len == 0 || addr->version != block->addr.version || block->prefix_len > 8 * len)
@@ -142,8 +142,8 @@ int model_contains(const struct lk_block *block, const struct lk_addr *addr)
 
 int is_in(const struct lk_addr *addr, const char *text)
 {
-    struct lk_block block;
-    return model_parse_block(text, strlen(text), &block) && model_contains(&block, addr);
+    struct lk_prefix block;
+    return model_parse_prefix(text, strlen(text), &block) && model_contains(&block, addr);
 }
 
 int model_is_multicast(const struct lk_addr *addr)

@@ -114,7 +114,7 @@ ptrdiff_t model_fragment(const uint8_t *octets, size_t len, size_t mtu, int64_t 
     model_read_plain(octets, used_len(len), &frame);
     if (frame.network == LK_IPV6)
         return fragment_ipv6(octets, mtu, ident, number, out, cap);
-    if (frame.network != LK_IPV4 || frame.ipv4_checksum == LK_WRONG)
+    if (frame.network != LK_IPV4 || frame.ipv4_checksum == LK_CHECKSUM_INVALID)
         return LK_NO_HEADER;
     return fragment_ipv4(&frame, octets, mtu, ident, number, out, cap);
 }

@@ -11,7 +11,7 @@ static void exchange(void *a, void *b, size_t len)
 }
 
 /* Open: the IP fields become those of a new packet in a frame without an IP header too. */
-void model_reply(struct lk_frame *frame)
+void model_make_reply(struct lk_frame *frame)
 {
     exchange(frame->ethernet.src, frame->ethernet.dst, 6);
     exchange(&frame->src, &frame->dst, sizeof frame->src);
@@ -37,7 +37,7 @@ static ptrdiff_t finish(const uint8_t *octets, size_t len, uint8_t *out, size_t 
 
 static int is_valid(int verdict)
 {
-    return verdict == LK_RIGHT || verdict == LK_LEFT_OUT;
+    return verdict == LK_CHECKSUM_VALID || verdict == LK_CHECKSUM_OMITTED;
 }
 
 /* ---- rebuilding ---- */
@@ -161,7 +161,7 @@ static size_t answer_arp(const struct lk_host *host, struct lk_frame *frame, uin
     if (frame->arp.operation != 1 || !is_same(&frame->dst.addr, &host->ipv4) || !is_host(&host->ipv4) ||
         !is_unicast_hardware(frame->arp.src_hardware) || !(is_probe || is_answered(&own, &frame->src.addr)))
         return 0;
-    model_reply(frame);
+    model_make_reply(frame);
     memcpy(frame->arp.src_hardware, host->hardware, 6);
     memcpy(frame->ethernet.src, host->hardware, 6);
     memcpy(frame->ethernet.dst, frame->arp.dst_hardware, 6);
@@ -203,7 +203,7 @@ static size_t answer_udp(const struct lk_host *host, struct lk_frame *frame, con
         return put_icmp_error(&own, LK_PORT_CLOSED, 0, asked, asked_len, out);
     if (frame->dst.port != host->echo_port || frame->src.port < 1024 || frame->src.port <= host->echo_port)
         return 0;
-    model_reply(frame);
+    model_make_reply(frame);
     len = put_udp(&frame->src, &frame->dst, ptr + frame->payload_offset, frame->payload_len, 1, packet);
     return put_answer(frame, 17, 64, 0, packet, len, out);
 }
@@ -216,8 +216,8 @@ static void accept_syn(const struct lk_host *host, const struct lk_tcp_options *
     tcp->seq_number = host->seq_number;
     tcp->window_len = host->window_len;
     tcp->flags = LK_SYN | LK_ACK;
-    options->has_max_seg_size = 1;
-    options->max_seg_size = host->max_seg_size;
+    options->has_mss = 1;
+    options->mss = host->mss;
     options->has_window_scale = syn->has_window_scale;
     options->window_scale = host->window_scale > 14 ? 14 : host->window_scale;
     options->sack_permitted = syn->sack_permitted;
@@ -258,7 +258,7 @@ static size_t answer_tcp(const struct lk_host *host, struct lk_frame *frame, con
     else
         reset(frame->payload_len, &frame->tcp);
     frame->tcp.urgent_at = 0;
-    model_reply(frame);
+    model_make_reply(frame);
     len = put_tcp(&frame->tcp, &options, 1, &frame->src, &frame->dst, 0, 0, 1, segment);
     return put_answer(frame, 6, 64, 0, segment, len, out);
 }
@@ -273,7 +273,7 @@ static size_t answer_icmp(struct lk_frame *frame, const uint8_t *ptr, uint8_t *o
     if (frame->icmp.type != (is_ipv4 ? 8 : 128) || frame->icmp.code != 0)
         return 0;
     frame->icmp.type = is_ipv4 ? 0 : 129;
-    model_reply(frame);
+    model_make_reply(frame);
     len = put_icmp(&frame->icmp, &frame->src.addr, &frame->dst.addr, ptr + frame->payload_offset, frame->payload_len, 1,
                    message);
     return put_answer(frame, is_ipv4 ? 1 : 58, 64, frame->ip.dscp, message, len, out);
@@ -329,7 +329,7 @@ static int is_for(const struct lk_host *host, const struct lk_frame *frame)
     struct lk_interface own = interface_of(host);
     return memcmp(frame->ethernet.dst, host->hardware, 6) == 0 && is_unicast_hardware(frame->ethernet.src) &&
            (is_same(&frame->dst.addr, &host->ipv4) || is_same(&frame->dst.addr, &host->ipv6)) &&
-           is_host(&frame->dst.addr) && is_answered(&own, &frame->src.addr) && frame->ipv4_checksum != LK_WRONG &&
+           is_host(&frame->dst.addr) && is_answered(&own, &frame->src.addr) && frame->ipv4_checksum != LK_CHECKSUM_INVALID &&
            frame->transport != LK_NO_TRANSPORT && is_valid(frame->transport_checksum);
 }
 

@@ -53,7 +53,7 @@ int model_read_ndisc(const uint8_t *octets, size_t len, struct lk_ndisc *ndisc)
     size_t message_len;
     memset(&it, 0, sizeof it);
     model_read_plain(octets, len, &frame);
-    if (frame.network != LK_IPV6 || frame.transport != LK_ICMP || frame.transport_checksum != LK_RIGHT ||
+    if (frame.network != LK_IPV6 || frame.transport != LK_ICMP || frame.transport_checksum != LK_CHECKSUM_VALID ||
         frame.ip.hop_limit != 255 || frame.icmp.code != 0 || (frame.icmp.type != 135 && frame.icmp.type != 136))
         return 0;
     message = octets + frame.transport_offset;
@@ -180,7 +180,7 @@ int is_told_of(const struct lk_interface *own, const struct lk_frame *frame, con
 {
     const struct lk_addr *own_addr = frame->network == LK_IPV4 ? &own->ipv4 : &own->ipv6;
     if (memcmp(frame->ethernet.dst, own->hardware, 6) != 0 || !is_unicast_hardware(frame->ethernet.src) ||
-        frame->ipv4_checksum == LK_WRONG || !is_answered(own, &frame->src.addr) || !is_host(&frame->dst.addr) ||
+        frame->ipv4_checksum == LK_CHECKSUM_INVALID || !is_answered(own, &frame->src.addr) || !is_host(&frame->dst.addr) ||
         !is_host(own_addr))
         return 0;
     if (frame->network == LK_IPV6)

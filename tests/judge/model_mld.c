@@ -34,7 +34,7 @@ int model_read_mld_query(const uint8_t *octets, size_t len, const struct lk_addr
     size_t message_len;
     model_read_frame(octets, len, &frame);
     if (group->version != 6 || frame.network != LK_IPV6 || frame.transport != LK_ICMP || frame.icmp.type != 130 ||
-        frame.transport_checksum != LK_RIGHT || !is_in(&frame.src.addr, "fe80::/10") || frame.ip.hop_limit != 1)
+        frame.transport_checksum != LK_CHECKSUM_VALID || !is_in(&frame.src.addr, "fe80::/10") || frame.ip.hop_limit != 1)
         return -1;
     message = octets + frame.transport_offset;
     message_len = 8 + frame.payload_len;

@@ -183,7 +183,7 @@ static int error_rejection(uint8_t *octets, const struct lk_frame *frame, int si
     unsigned type = frame->icmp.type;
     if (frame->ip.protocol != 1 || (type != 3 && type != 11 && type != 12))
         return LK_OTHER_PROTOCOL;
-    if (frame->transport_checksum != LK_RIGHT)
+    if (frame->transport_checksum != LK_CHECKSUM_VALID)
         return LK_BAD_TRANSPORT;
     return find_quoted(octets + frame->payload_offset, frame->payload_len, side, quoted);
 }
@@ -283,7 +283,7 @@ int model_translate_out(const struct lk_nat *nat, struct model_table *table, siz
     if (rejection != LK_NOT_REJECTED)
         return rejection;
     if (frame.src.port == 0 && frame.transport != LK_ICMP)
-        return LK_ZERO_PORT;
+        return LK_NAT_PORT_ZERO;
     if (frame.transport == LK_ICMP && frame.icmp.type != 8)
         return LK_NO_MAPPING;
     packet = packet_of(&frame, &frame.src, &frame.dst);

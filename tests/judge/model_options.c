@@ -67,8 +67,8 @@ static void read_option(const uint8_t *option, struct lk_tcp_options *options)
 {
     switch (option[0]) {
     case MAX_SEG_SIZE:
-        options->has_max_seg_size = 1;
-        options->max_seg_size = (uint16_t)get_word(option + 2);
+        options->has_mss = 1;
+        options->mss = (uint16_t)get_word(option + 2);
         break;
     case WINDOW_SCALE: /* RFC 7323, section 2.3: more than 14 is used as 14. */
         options->has_window_scale = 1;
@@ -122,7 +122,7 @@ int model_next_tcp_option(const uint8_t *ptr, size_t len, struct lk_tcp_option *
 size_t options_len(const struct lk_tcp_options *options)
 {
     size_t len = 0;
-    if (options->has_max_seg_size)
+    if (options->has_mss)
         len += 4;
     if (options->has_window_scale)
         len += 3;
@@ -151,10 +151,10 @@ static uint8_t *put_sack_ranges(const struct lk_tcp_options *options, uint8_t *o
 void put_options(const struct lk_tcp_options *options, int has_ranges, uint8_t *out)
 {
     memset(out, 0, options_len(options)); /* end marks */
-    if (options->has_max_seg_size) {
+    if (options->has_mss) {
         *out++ = MAX_SEG_SIZE;
         *out++ = 4;
-        put_word(out, options->max_seg_size);
+        put_word(out, options->mss);
         out += 2;
     }
     if (options->has_window_scale) {

@@ -49,18 +49,18 @@ static void read_addr(struct lk_addr *addr, const uint8_t *octets, uint16_t vers
 /* ---- UDP and TCP ---- */
 
 /* `covered` bytes of the part are summed, with their pseudo-header. A UDP checksum of 0 over IPv6 is wrong (RFC 8200,
- * section 8.1). Open: a sum that is right and is that of the pseudo-header too is LK_RIGHT. */
+ * section 8.1). Open: a sum that is right and is that of the pseudo-header too is LK_CHECKSUM_VALID. */
 static int verdict(const struct lk_frame *frame, struct part part, size_t covered, size_t field_at)
 {
     unsigned field = get_word(part.ptr + field_at), protocol = frame->protocol;
     const struct lk_addr *src = &frame->src.addr, *dst = &frame->dst.addr;
     if (protocol == 17 && field == 0)
-        return frame->network == LK_IPV4 ? LK_LEFT_OUT : LK_WRONG;
+        return frame->network == LK_IPV4 ? LK_CHECKSUM_OMITTED : LK_CHECKSUM_INVALID;
     if (part.known < covered)
         return LK_CHECKSUM_CUT;
     if (pseudo_sum(src, dst, protocol, part.ptr, covered, covered) == 0xffff)
-        return LK_RIGHT;
-    return pseudo_sum(src, dst, protocol, part.ptr, covered, 0) == field ? LK_LEFT_TO_DEVICE : LK_WRONG;
+        return LK_CHECKSUM_VALID;
+    return pseudo_sum(src, dst, protocol, part.ptr, covered, 0) == field ? LK_CHECKSUM_PARTIAL : LK_CHECKSUM_INVALID;
 }
 
 static int udp_reason(struct part part)
@@ -163,8 +163,8 @@ static void read_icmp(const struct capture *capture, struct lk_frame *frame, siz
         frame->transport_checksum = LK_CHECKSUM_CUT;
     else
         frame->transport_checksum = icmp_sum(&frame->src.addr, &frame->dst.addr, part.ptr, len) == 0xffff
-                                        ? LK_RIGHT
-                                        : LK_WRONG;
+                                        ? LK_CHECKSUM_VALID
+                                        : LK_CHECKSUM_INVALID;
 }
 
 /* A fragment of which the last header names this protocol: only the first fragment begins with its ports. */
@@ -259,7 +259,7 @@ static void read_ipv4(const struct capture *capture, struct lk_frame *frame, siz
     len = get_word(part.ptr + 2) - header_len;
     frame->network = LK_IPV4;
     frame->network_offset = at;
-    frame->ipv4_checksum = model_checksum(part.ptr, header_len) == 0xffff ? LK_RIGHT : LK_WRONG;
+    frame->ipv4_checksum = model_checksum(part.ptr, header_len) == 0xffff ? LK_CHECKSUM_VALID : LK_CHECKSUM_INVALID;
     read_ipv4_fields(frame, part.ptr);
     carries(frame, at + header_len, len);
     frame->is_fragment = frame->ip.more_fragments || frame->ip.fragment_offset != 0;

@@ -29,7 +29,7 @@ static int read_fragment(const uint8_t *octets, size_t len, struct fragment *it)
     memset(it, 0, sizeof *it);
     it->packet = octets + 14;
     model_read_plain(octets, used_len(len), &it->frame);
-    if (it->frame.network == LK_IPV4 && it->frame.ipv4_checksum == LK_RIGHT) {
+    if (it->frame.network == LK_IPV4 && it->frame.ipv4_checksum == LK_CHECKSUM_VALID) {
         it->header_len = (it->packet[0] & 15) * 4u;
         total_len = get_word(it->packet + 2);
     } else if (is_ipv6(it) && it->frame.ip.protocol == 44 && get_word(it->packet + 4) >= FRAGMENT_HEADER) {
@@ -205,7 +205,7 @@ ptrdiff_t model_reassemble(struct model_table_of_partials *table, size_t count, 
     return written;
 }
 
-size_t model_expire(struct model_table_of_partials *table, size_t count, uint64_t now, uint8_t *out, size_t cap)
+size_t model_expire_reassembly(struct model_table_of_partials *table, size_t count, uint64_t now, uint8_t *out, size_t cap)
 {
     for (size_t i = 0; i < used_len(count); i++) {
         struct model_partial *one = &table->at[i];

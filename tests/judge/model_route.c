@@ -12,7 +12,7 @@ static int network_rejection(const uint8_t *octets, size_t len, struct lk_frame 
         return LK_NOT_IP;
     if (frame->network == LK_NO_NETWORK)
         return LK_BAD_HEADER;
-    return frame->ipv4_checksum == LK_WRONG ? LK_WRONG_CHECKSUM : LK_NOT_REJECTED;
+    return frame->ipv4_checksum == LK_CHECKSUM_INVALID ? LK_WRONG_CHECKSUM : LK_NOT_REJECTED;
 }
 
 /* A message of fewer than 8 bytes is payload. Its type and code are stored all the same, as far as they are there. The
@@ -26,7 +26,7 @@ static int icmp_rejection(const uint8_t *octets, struct lk_frame *frame)
         frame->icmp.code = octets[frame->payload_offset + 1];
     if ((frame->icmp.type != 8 && frame->icmp.type != 0) || frame->icmp.code != 0)
         return LK_OTHER_PROTOCOL;
-    if (is_short || frame->transport_checksum != LK_RIGHT)
+    if (is_short || frame->transport_checksum != LK_CHECKSUM_VALID)
         return LK_BAD_TRANSPORT;
     frame->src.port = frame->dst.port = (uint16_t)(frame->icmp.word >> 16);
     return LK_NOT_REJECTED;
@@ -45,7 +45,7 @@ int nat_rejection(const uint8_t *octets, size_t len, struct lk_frame *frame)
         return icmp_rejection(octets, frame);
     if (frame->ip.protocol != 6 && frame->ip.protocol != 17)
         return LK_OTHER_PROTOCOL;
-    if (frame->reason != LK_READ || (frame->transport_checksum != LK_RIGHT && frame->transport_checksum != LK_LEFT_OUT))
+    if (frame->reason != LK_READ || (frame->transport_checksum != LK_CHECKSUM_VALID && frame->transport_checksum != LK_CHECKSUM_OMITTED))
         return LK_BAD_TRANSPORT;
     return LK_NOT_REJECTED;
 }
@@ -61,7 +61,7 @@ int model_forward(uint8_t *octets, size_t len, const uint8_t *src, const uint8_t
     if (rejection != LK_NOT_REJECTED)
         return rejection;
     if (frame.ip.hop_limit <= 1)
-        return LK_EXPIRED;
+        return LK_HOP_LIMIT_TOO_LOW;
     memcpy(octets, dst, 6);
     memcpy(octets + 6, src, 6);
     if (frame.network == LK_IPV6) {
@@ -87,7 +87,7 @@ static uint8_t *max_seg_size_in(uint8_t *options, size_t len)
     return found;
 }
 
-int model_clamp_mss_as(uint8_t *octets, size_t len, uint16_t max_seg_size, int offload)
+int model_clamp_mss_as(uint8_t *octets, size_t len, uint16_t mss, int offload)
 {
     struct lk_frame frame;
     uint8_t *header, *size;
@@ -95,25 +95,25 @@ int model_clamp_mss_as(uint8_t *octets, size_t len, uint16_t max_seg_size, int o
     uint16_t before;
     int is_left;
     model_read_plain(octets, used_len(len), &frame);
-    if (frame.transport != LK_TCP || frame.ipv4_checksum == LK_WRONG || (frame.tcp.flags & LK_SYN) == 0)
+    if (frame.transport != LK_TCP || frame.ipv4_checksum == LK_CHECKSUM_INVALID || (frame.tcp.flags & LK_SYN) == 0)
         return 0;
     header = octets + frame.transport_offset;
     options_len = frame.payload_offset - frame.transport_offset - 20;
     size = max_seg_size_in(header + 20, options_len);
-    if (size == 0 || get_word(size) <= max_seg_size)
+    if (size == 0 || get_word(size) <= mss)
         return 0;
     before = model_checksum(header + 20, options_len);
-    put_word(size, max_seg_size);
-    is_left = offload == LK_OFFLOADED || (offload != LK_COMPLETE && frame.transport_checksum == LK_LEFT_TO_DEVICE);
+    put_word(size, mss);
+    is_left = offload == LK_OFFLOADED || (offload != LK_COMPLETE && frame.transport_checksum == LK_CHECKSUM_PARTIAL);
     if (!is_left)
         put_word(header + 16, model_update_checksum((uint16_t)get_word(header + 16), before,
                                                     model_checksum(header + 20, options_len)));
     return 1;
 }
 
-int model_clamp_mss(uint8_t *octets, size_t len, uint16_t max_seg_size)
+int model_clamp_mss(uint8_t *octets, size_t len, uint16_t mss)
 {
-    return model_clamp_mss_as(octets, len, max_seg_size, LK_GUESS);
+    return model_clamp_mss_as(octets, len, mss, LK_GUESS);
 }
 
 /* ---- NAT of one packet ---- */
@@ -165,7 +165,7 @@ int model_translate(uint8_t *octets, size_t len, int side, const struct lk_endpo
     if (rejection != LK_NOT_REJECTED)
         return rejection;
     if (end->port == 0 && frame.transport != LK_ICMP && (frame.transport == LK_TCP || side != LK_SOURCE))
-        return LK_ZERO_PORT;
+        return LK_NAT_PORT_ZERO;
     write_end(octets, &frame, side == LK_SOURCE ? LK_SOURCE : LK_DESTINATION, end);
     return LK_NOT_REJECTED;
 }
@@ -176,10 +176,10 @@ ptrdiff_t model_index_routes(const struct lk_route *routes, size_t count, size_t
 {
     size_t used = used_len(count);
     for (size_t i = 0; i < used; i++)
-        if (addr_len(&routes[i].block.addr) == 0)
+        if (addr_len(&routes[i].prefix.addr) == 0)
             return LK_NO_VERSION;
     for (size_t i = 0; i < used; i++)
-        if (routes[i].block.prefix_len > 8 * addr_len(&routes[i].block.addr))
+        if (routes[i].prefix.prefix_len > 8 * addr_len(&routes[i].prefix.addr))
             return LK_BAD_PREFIX;
     return count > node_count || node_count > LK_MAX_LEN ? LK_NO_ROOM : (ptrdiff_t)count;
 }
@@ -188,8 +188,8 @@ ptrdiff_t model_choose_route(const struct lk_route *routes, size_t count, const 
 {
     ptrdiff_t chosen = -1;
     for (size_t i = 0; i < count; i++)
-        if (model_contains(&routes[i].block, addr) &&
-            (chosen < 0 || routes[i].block.prefix_len > routes[chosen].block.prefix_len))
+        if (model_contains(&routes[i].prefix, addr) &&
+            (chosen < 0 || routes[i].prefix.prefix_len > routes[chosen].prefix.prefix_len))
             chosen = (ptrdiff_t)i;
     return chosen;
 }
@@ -221,6 +221,6 @@ int model_check_source(const struct lk_route *routes, size_t count, const struct
     if (is_martian(src))
         return LK_MARTIAN;
     if (route < 0)
-        return LK_NO_ROUTE;
+        return LK_NO_ROUTE_TO_SOURCE;
     return routes[route].interface == interface ? LK_NOT_REJECTED : LK_OTHER_INTERFACE;
 }

@@ -146,10 +146,10 @@ int model_parse_addr(const char *ptr, size_t len, struct lk_addr *addr)
     return 1;
 }
 
-int model_parse_block(const char *ptr, size_t len, struct lk_block *block)
+int model_parse_prefix(const char *ptr, size_t len, struct lk_prefix *block)
 {
     struct part text = {ptr, used_len(len)}, parts[2];
-    struct lk_block parsed;
+    struct lk_prefix parsed;
     long prefix_len;
     if (split(text, '/', parts, 2) != 2 || !parse_addr(parts[0], &parsed.addr))
         return 0;
@@ -185,7 +185,7 @@ int model_parse_endpoint(const char *ptr, size_t len, struct lk_endpoint *endpoi
     return 1;
 }
 
-int model_parse_ethernet(const char *ptr, size_t len, uint8_t *octets)
+int model_parse_mac(const char *ptr, size_t len, uint8_t *octets)
 {
     struct part text = {ptr, used_len(len)}, parts[6];
     uint8_t parsed[6];
@@ -272,7 +272,7 @@ ptrdiff_t model_print_addr(const struct lk_addr *addr, char *out, size_t cap)
     return finish(text, out, cap);
 }
 
-ptrdiff_t model_print_block(const struct lk_block *block, char *out, size_t cap)
+ptrdiff_t model_print_prefix(const struct lk_prefix *block, char *out, size_t cap)
 {
     char text[80];
     if (addr_len(&block->addr) == 0)
@@ -294,7 +294,7 @@ ptrdiff_t model_print_endpoint(const struct lk_endpoint *endpoint, char *out, si
     return finish(text, out, cap);
 }
 
-ptrdiff_t model_print_ethernet(const uint8_t *octets, char *out, size_t cap)
+ptrdiff_t model_print_mac(const uint8_t *octets, char *out, size_t cap)
 {
     char text[40];
     sprintf(text, "%02x-%02x-%02x-%02x-%02x-%02x", octets[0], octets[1], octets[2], octets[3], octets[4], octets[5]);
@@ -317,8 +317,8 @@ static void write_ends(const struct lk_frame *frame, unsigned transport, char *t
     int has_ports = transport == LK_UDP || transport == LK_TCP;
     char src[80], dst[80];
     if (addr_len(&frame->src.addr) == 0 || addr_len(&frame->dst.addr) == 0) {
-        model_print_ethernet(frame->ethernet.src, src, sizeof src);
-        model_print_ethernet(frame->ethernet.dst, dst, sizeof dst);
+        model_print_mac(frame->ethernet.src, src, sizeof src);
+        model_print_mac(frame->ethernet.dst, dst, sizeof dst);
         sprintf(text, "Ethernet %s > %s type=0x%04x", src, dst, frame->ethernet.type);
         return;
     }
@@ -343,7 +343,7 @@ static void write_tcp(const struct lk_tcp *tcp, char *text)
 static void write_network(const struct lk_frame *frame, char *text)
 {
     char hardware[40];
-    model_print_ethernet(frame->arp.src_hardware, hardware, sizeof hardware);
+    model_print_mac(frame->arp.src_hardware, hardware, sizeof hardware);
     text[0] = 0;
     if (frame->network == LK_ARP)
         sprintf(text, " op=%u hardware=%s", frame->arp.operation, hardware);
@@ -374,7 +374,7 @@ ptrdiff_t model_print_frame(const struct lk_frame *frame, char *out, size_t cap)
     else if (transport == LK_NO_TRANSPORT)
         write_network(frame, header);
     sprintf(text + strlen(text), "%s len=%zu%s%s%s", header, frame->payload_len,
-            frame->ipv4_checksum == LK_WRONG ? " (header checksum incorrect)" : "",
+            frame->ipv4_checksum == LK_CHECKSUM_INVALID ? " (header checksum incorrect)" : "",
             verdicts[frame->transport_checksum], reasons[frame->reason]);
     return finish(text, out, cap);
 }

@@ -8,7 +8,7 @@
 #include <unistd.h>
 #include "judge.h"
 
-_Static_assert(sizeof(struct lk_addr) == 18 && sizeof(struct lk_endpoint) == 20 && sizeof(struct lk_block) == 20,
+_Static_assert(sizeof(struct lk_addr) == 18 && sizeof(struct lk_endpoint) == 20 && sizeof(struct lk_prefix) == 20,
                "no padding");
 
 /* ---- random values ---- */
@@ -345,7 +345,7 @@ void same_frame(const struct lk_frame *wanted, const struct lk_frame *came)
 void same_options(const struct lk_tcp_options *wanted, const struct lk_tcp_options *came)
 {
     static const struct field fields[] = {
-        OPTIONS(has_max_seg_size), OPTIONS(max_seg_size), OPTIONS(has_window_scale), OPTIONS(window_scale),
+        OPTIONS(has_mss), OPTIONS(mss), OPTIONS(has_window_scale), OPTIONS(window_scale),
         OPTIONS(sack_permitted), OPTIONS(sack_range_count), OPTIONS(sack_ranges), OPTIONS(has_timestamp),
         OPTIONS(tsval), OPTIONS(tsecr),
     };

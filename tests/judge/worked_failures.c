@@ -21,7 +21,7 @@ enum wrong {
 };
 
 static const ptrdiff_t failures[WRONGS] = {
-    LK_NO_VERSION, LK_NO_VERSION, LK_TWO_VERSIONS, LK_BAD_PREFIX, LK_NO_PORT, LK_NO_PORT, LK_NO_HOP_LIMIT, LK_BAD_FIELD,
+    LK_NO_VERSION, LK_NO_VERSION, LK_TWO_VERSIONS, LK_BAD_PREFIX, LK_EMIT_PORT_ZERO, LK_EMIT_PORT_ZERO, LK_NO_HOP_LIMIT, LK_BAD_FIELD,
     LK_BAD_FIELD, LK_BAD_FIELD, LK_BAD_FIELD, LK_TWO_CONTROLS, LK_OPTIONS_TOO_LONG, LK_PAYLOAD_TOO_LONG, LK_NO_HEADER,
     LK_NO_ROOM,
 };
@@ -37,7 +37,7 @@ static struct input valid(unsigned version)
     in.frame.tcp.flags = LK_ACK;
     in.ndisc.target = dst.addr;
     for (int i = 0; i < 2; i++)
-        in.routes[i].block.addr = dst.addr, in.routes[i].block.prefix_len = 24;
+        in.routes[i].prefix.addr = dst.addr, in.routes[i].prefix.prefix_len = 24;
     in.host.ipv4 = in.own.ipv4 = addr("192.0.2.2");
     in.host.ipv6 = in.own.ipv6 = addr("2001:db8::2");
     memcpy(in.host.hardware, "\2\0\0\0\0\2", 6);
@@ -58,7 +58,7 @@ static void spoil_version(struct input *in, int is_dst)
         in->host.ipv6.version = in->own.ipv6.version = 0;
     } else {
         in->frame.src.addr.version = 0;
-        in->ndisc.target.version = in->routes[1].block.addr.version = 5;
+        in->ndisc.target.version = in->routes[1].prefix.addr.version = 5;
         in->host.ipv4.version = in->own.ipv4.version = 6;
     }
 }
@@ -69,7 +69,7 @@ static void spoil(struct input *in, enum wrong wrong)
     case SRC_VERSION:
     case DST_VERSION: spoil_version(in, wrong == DST_VERSION); break;
     case VERSIONS: in->frame.dst.addr = addr(in->frame.dst.addr.version == 4 ? "2001:db8::7" : "198.51.100.7"); break;
-    case PREFIX: in->routes[0].block.prefix_len = in->routes[1].block.prefix_len = 129; break;
+    case PREFIX: in->routes[0].prefix.prefix_len = in->routes[1].prefix.prefix_len = 129; break;
     case SRC_PORT: in->frame.src.port = 0; break;
     case DST_PORT: in->frame.dst.port = 0; break;
     case HOP_LIMIT: in->frame.ip.hop_limit = 0; break;
@@ -99,7 +99,7 @@ static char *const text = (char *)out;
 
 BY(print_addr, &in->frame.src.addr, text, in->cap)
 BY(print_endpoint, &in->frame.src, text, in->cap)
-BY(print_block, &in->routes[1].block, text, in->cap)
+BY(print_prefix, &in->routes[1].prefix, text, in->cap)
 BY(tcp_header_len, &in->options)
 BY(emit_ethernet, &in->frame.ethernet, WRITTEN)
 BY(emit_arp, &in->frame.arp, ADDRS, WRITTEN)
@@ -140,7 +140,7 @@ static const struct {
 } calls[] = {
     {by_print_addr, ONE, 0},
     {by_print_endpoint, ONE, 0},
-    {by_print_block, ONE | BIT(PREFIX), 0},
+    {by_print_prefix, ONE | BIT(PREFIX), 0},
     {by_tcp_header_len, BIT(OPTIONS), 0},
     {by_emit_ethernet, BIT(ROOM_LEFT), 0},
     {by_emit_arp, TWO, 4},

@@ -21,7 +21,7 @@ static struct lk_host asked_host(const uint16_t *ports, size_t count)
     host.seq_number = 0x0a0b0c0d;
     host.tsval = 0x55667788;
     host.window_len = 0x7210;
-    host.max_seg_size = 1460;
+    host.mss = 1460;
     host.window_scale = 7;
     return host;
 }
@@ -74,7 +74,7 @@ static void ignores(void)
 /* What an open port offers, and the checksum of its answer to `syn`. A scale above 14 is sent as 14. The
  * checksum of `syn_ack`, 0x3dcb, changes with each number as RFC 1624 says. */
 static const struct {
-    uint16_t max_seg_size, window_len;
+    uint16_t mss, window_len;
     uint8_t window_scale, sent, checksum[2];
 } offers[] = {
     {1460, 0x7210, 7, 7, {0x3d, 0xcb}},    {0, 0x7210, 7, 7, {0x43, 0x7f}},      {65535, 0x7210, 7, 7, {0x43, 0x7f}},
@@ -88,12 +88,12 @@ static void offers_of_hosts(void)
     for (size_t i = 0; i < sizeof offers / sizeof offers[0]; i++) {
         struct lk_host host = asked_host(ports, 1);
         struct octets expected = syn_ack;
-        host.max_seg_size = offers[i].max_seg_size;
+        host.mss = offers[i].mss;
         host.window_len = offers[i].window_len;
         host.window_scale = offers[i].window_scale;
         expected.at[48] = (uint8_t)(offers[i].window_len >> 8), expected.at[49] = (uint8_t)offers[i].window_len;
         memcpy(expected.at + 50, offers[i].checksum, 2);
-        expected.at[56] = (uint8_t)(offers[i].max_seg_size >> 8), expected.at[57] = (uint8_t)offers[i].max_seg_size;
+        expected.at[56] = (uint8_t)(offers[i].mss >> 8), expected.at[57] = (uint8_t)offers[i].mss;
         expected.at[60] = offers[i].sent;
         ANSWERS(host, syn, expected);
     }
@@ -266,7 +266,7 @@ static struct lk_host read_host(void)
     const char *hardware;
     memset(&host, 0, sizeof host);
     hardware = word();
-    CHECK(both_parse_ethernet(hardware, strlen(hardware), host.hardware) == 1);
+    CHECK(both_parse_mac(hardware, strlen(hardware), host.hardware) == 1);
     host.ipv4 = addr(word());
     host.ipv6 = addr(word());
     host.echo_port = (uint16_t)number();
@@ -276,7 +276,7 @@ static struct lk_host read_host(void)
     host.open_ports = ports;
     host.seq_number = (uint32_t)number();
     host.window_len = (uint16_t)number();
-    host.max_seg_size = (uint16_t)number();
+    host.mss = (uint16_t)number();
     host.window_scale = (uint8_t)number();
     host.tsval = (uint32_t)number();
     return host;

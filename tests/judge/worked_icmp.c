@@ -18,7 +18,7 @@ static void is_payload(int line, const struct lk_frame *frame, size_t offset, si
 {
     const struct lk_icmp *icmp = &frame->icmp;
     check(__FILE__, line, 0, frame->transport == LK_NO_TRANSPORT && frame->rejected == LK_NO_TRANSPORT);
-    check(__FILE__, line, 1, frame->reason == LK_READ && frame->transport_checksum == LK_NO_CHECKSUM);
+    check(__FILE__, line, 1, frame->reason == LK_READ && frame->transport_checksum == LK_CHECKSUM_NOT_READ);
     check(__FILE__, line, 2, icmp->word == 0 && icmp->type == 0 && icmp->code == 0 && frame->transport_offset == 0);
     check(__FILE__, line, 3, frame->payload_offset == offset && frame->payload_len == len);
 }
@@ -41,17 +41,17 @@ static struct lk_frame read_changed(struct octets frame, size_t at, uint8_t octe
 static void read_messages(void)
 {
     struct lk_frame frame = read(&echo_request);
-    is_echo(__LINE__, &frame, 8, 34, LK_RIGHT);
+    is_echo(__LINE__, &frame, 8, 34, LK_CHECKSUM_VALID);
     CHECK(both_read_packet(echo_request.at + 14, echo_request.len - 14, &frame) == LK_READ);
-    is_echo(__LINE__, &frame, 8, 20, LK_RIGHT);
+    is_echo(__LINE__, &frame, 8, 20, LK_CHECKSUM_VALID);
     frame = read(&echo_reply6);
-    is_echo(__LINE__, &frame, 129, 54, LK_RIGHT);
+    is_echo(__LINE__, &frame, 129, 54, LK_CHECKSUM_VALID);
     frame = read_changed(echo_request, 46, 0);
-    is_echo(__LINE__, &frame, 8, 34, LK_WRONG);
+    is_echo(__LINE__, &frame, 8, 34, LK_CHECKSUM_INVALID);
     frame = read_changed(echo_request6, 37, 3); /* another source address */
-    is_echo(__LINE__, &frame, 128, 54, LK_WRONG);
+    is_echo(__LINE__, &frame, 128, 54, LK_CHECKSUM_INVALID);
     frame = read_changed(echo_request, 35, 9);
-    CHECK(frame.transport == LK_ICMP && frame.icmp.code == 9 && frame.transport_checksum == LK_WRONG);
+    CHECK(frame.transport == LK_ICMP && frame.icmp.code == 9 && frame.transport_checksum == LK_CHECKSUM_INVALID);
     frame = read(&expired);
     CHECK(frame.icmp.type == 11 && frame.payload_offset == 42);
     CHECK(memcmp(expired.at + 42, last_hop.at + 14, frame.payload_len) == 0);
@@ -86,7 +86,7 @@ static void read_captured(void)
     CHECK(both_read_captured(ptr, 42, len, &frame) == LK_READ);
     is_echo(__LINE__, &frame, 8, 34, LK_CHECKSUM_CUT);
     CHECK(both_read_captured(ptr, 47, len, &frame) == LK_READ); /* only padding was cut */
-    is_echo(__LINE__, &frame, 8, 34, LK_RIGHT);
+    is_echo(__LINE__, &frame, 8, 34, LK_CHECKSUM_VALID);
     CHECK(both_read_captured_packet(echo_request6.at + 14, 50, echo_request6.len - 14, &frame) == LK_READ);
     is_echo(__LINE__, &frame, 128, 40, LK_CHECKSUM_CUT);
     CHECK(both_read_captured(ptr, 41, len, &frame) == LK_READ);
@@ -109,7 +109,7 @@ static void write_messages(void)
     WRITES(message, both_emit_icmp(&ipv4.icmp, &ipv4.src.addr, &ipv4.dst.addr, data, 5, 1, out, cap));
     message.at[2] = message.at[3] = 0;
     WRITES(message, both_emit_icmp(&ipv4.icmp, &ipv4.src.addr, &ipv4.dst.addr, data, 5, 0, out, cap));
-    both_reply(&ipv6);
+    both_make_reply(&ipv6);
     CHECK(ipv6.icmp.type == 128 && ipv6.icmp.word == 0xb5e30007 && ipv6.ip.hop_limit == 64);
     ipv6.icmp.type = 129;
     WRITES(echo_reply6, both_emit_icmp_frame(&ipv6, data, 5, out, cap));
@@ -186,14 +186,14 @@ static void write_errors(void)
     ERROR(expired, LK_HOP_LIMIT_EXPIRED, 0, last_hop);
     ERROR(expired, LK_HOP_LIMIT_EXPIRED, 0, padded);
     ERROR(too_big, LK_PACKET_TOO_BIG, 32, last_hop);
-    ERROR(no_route, LK_ROUTE_MISSING, 0, last_hop);
+    ERROR(no_route, LK_NO_ROUTE_TO_DESTINATION, 0, last_hop);
     ERROR(no_neighbour, LK_NEIGHBOUR_MISSING, 9, last_hop);
     ERROR(port_closed, LK_PORT_CLOSED, 0, last_hop);
     ERROR(prohibited, LK_PROHIBITED, 0, last_hop);
     ERROR(no_others, LK_FRAGMENT_MISSING, 0, first_part);
     ERROR(expired6, LK_HOP_LIMIT_EXPIRED, 0, last_hop6);
     ERROR(too_big6, LK_PACKET_TOO_BIG, 50, last_hop6);
-    ERROR(no_route6, LK_ROUTE_MISSING, 0, last_hop6);
+    ERROR(no_route6, LK_NO_ROUTE_TO_DESTINATION, 0, last_hop6);
     ERROR(no_neighbour6, LK_NEIGHBOUR_MISSING, 0, last_hop6);
     ERROR(port_closed6, LK_PORT_CLOSED, 0, last_hop6);
     ERROR(prohibited6, LK_PROHIBITED, 0, last_hop6);
@@ -225,11 +225,11 @@ static void write_no_errors(void)
     NO_ERROR(LK_PACKET_TOO_BIG, 33, last_hop);
     NO_ERROR(LK_PACKET_TOO_BIG, 53, last_hop6);
     for (size_t i = 0; i < sizeof frames / sizeof frames[0]; i++)
-        NO_ERROR(LK_ROUTE_MISSING, 0, frames[i]);
+        NO_ERROR(LK_NO_ROUTE_TO_DESTINATION, 0, frames[i]);
     own.ipv4 = addr("127.0.0.1"); /* no address of an interface */
     own.ipv6 = addr("::1");
-    NO_ERROR(LK_ROUTE_MISSING, 0, last_hop);
-    NO_ERROR(LK_ROUTE_MISSING, 0, last_hop6);
+    NO_ERROR(LK_NO_ROUTE_TO_DESTINATION, 0, last_hop);
+    NO_ERROR(LK_NO_ROUTE_TO_DESTINATION, 0, last_hop6);
 }
 
 /* Whether an error about the frame with another byte is written. */

@@ -80,7 +80,7 @@ static const struct {
     {0, 0, 0, IN, 0, &query, BETWEEN, &query, DELIVERED, {300000}},
     /* Frames that do not go out make no mapping. The last one finds the only port in use. */
     {40000, 1, 0, OUT, LK_BAD_TRANSPORT, &query, {{45, 0x68}}, 0, AS_IT_IS, {0}},
-    {0, 0, 0, OUT, LK_ZERO_PORT, &query, FROM_0, 0, AS_IT_IS, {0}},
+    {0, 0, 0, OUT, LK_NAT_PORT_ZERO, &query, FROM_0, 0, AS_IT_IS, {0}},
     {0, 0, 0, OUT, 0, &query, AS_IT_IS, &query_out, AS_IT_IS, {300000}},
     {0, 0, 9, OUT, LK_NO_FREE_PORT, &query, FROM_46564, 0, AS_IT_IS, {300000}},
     {0, 0, 9, IN, 0, &response_in, AS_IT_IS, &response, AS_IT_IS, {300000}},
@@ -493,12 +493,12 @@ static void take_any_bytes(void)
     const struct lk_endpoint inside = inside_of((struct end){2, 1024}), stranger = {{{255, 255, 255, 255}, 4}, 0};
     struct lk_endpoint outside = {{{203, 0, 113, 9}, 4}, 1027};
     begin_nat(1024, 14);
-    CHECK(passes_by(&strange, IN, FIN, &outside) == LK_ZERO_PORT);
+    CHECK(passes_by(&strange, IN, FIN, &outside) == LK_NAT_PORT_ZERO);
     CHECK(passes_by(&strange, IN, ECHO, &outside) == 0 && passed_to == 0);
     outside.port = 1028;
     CHECK(passes_by(&strange, IN, FIN, &outside) == LK_NO_MAPPING);
     outside.port = 1024;
-    CHECK(passes_by(&to_0, IN, UDP, &outside) == LK_ZERO_PORT);
+    CHECK(passes_by(&to_0, IN, UDP, &outside) == LK_NAT_PORT_ZERO);
     CHECK(passes_by(&strange, OUT, SYN, &inside) == LK_NO_FREE_PORT);
     CHECK(passes_by(&strange, OUT, ECHO, &stranger) == 0 && passed_to == 1026); /* its first row begins there */
     begin_nat(0, 14);

@@ -188,16 +188,16 @@ static void translate_ports_of_0(void)
     struct lk_endpoint no_port = outside;
     struct octets frame = query;
     no_port.port = 0;
-    CHECK(translate(&frame, LK_DESTINATION, &no_port) == LK_ZERO_PORT && is_now(&frame, &query));
+    CHECK(translate(&frame, LK_DESTINATION, &no_port) == LK_NAT_PORT_ZERO && is_now(&frame, &query));
     CHECK(translate(&frame, LK_SOURCE, &no_port) == 0 && frame.at[34] == 0 && frame.at[35] == 0);
     CHECK(translate(&frame, LK_SOURCE, &inside) == 0 && is_now(&frame, &query));
     frame = syn;
-    CHECK(translate(&frame, LK_SOURCE, &no_port) == LK_ZERO_PORT && is_now(&frame, &syn));
-    CHECK(translate(&frame, LK_DESTINATION, &no_port) == LK_ZERO_PORT && is_now(&frame, &syn));
+    CHECK(translate(&frame, LK_SOURCE, &no_port) == LK_NAT_PORT_ZERO && is_now(&frame, &syn));
+    CHECK(translate(&frame, LK_DESTINATION, &no_port) == LK_NAT_PORT_ZERO && is_now(&frame, &syn));
     frame = response_in;
-    CHECK(translate(&frame, LK_DESTINATION, &no_port) == LK_ZERO_PORT && is_now(&frame, &response_in));
+    CHECK(translate(&frame, LK_DESTINATION, &no_port) == LK_NAT_PORT_ZERO && is_now(&frame, &response_in));
     frame = data_in;
-    CHECK(translate(&frame, LK_DESTINATION, &no_port) == LK_ZERO_PORT && is_now(&frame, &data_in));
+    CHECK(translate(&frame, LK_DESTINATION, &no_port) == LK_NAT_PORT_ZERO && is_now(&frame, &data_in));
     frame = changed(query, 40, 0xd3); /* a wrong checksum is the reason before it */
     CHECK(translate(&frame, LK_DESTINATION, &no_port) == LK_BAD_TRANSPORT);
 }
@@ -342,8 +342,8 @@ static void translate_by_table_rejects(void)
         CHECK_ROW(i, goes_out(0, &before, &frame) == not_translated[i].rejection && is_now(&frame, &before));
         CHECK_ROW(i, comes_in(0, &before, &frame) == not_translated[i].rejection && is_now(&frame, &before));
     }
-    CHECK(goes_out(0, &no_source, &frame) == LK_ZERO_PORT);
-    CHECK(both_translate_out(&nat, 0, 0, 0, frame.at, frame.len) == LK_ZERO_PORT);
+    CHECK(goes_out(0, &no_source, &frame) == LK_NAT_PORT_ZERO);
+    CHECK(both_translate_out(&nat, 0, 0, 0, frame.at, frame.len) == LK_NAT_PORT_ZERO);
     CHECK(goes_out(0, &nat_reply_in, &frame) == LK_NO_MAPPING);
     CHECK(both_translate_out(&nat, 0, 0, 0, frame.at, frame.len) == LK_NO_MAPPING);
     CHECK(comes_in(0, &query, &frame) == LK_NO_MAPPING); /* for another address */

@@ -14,11 +14,11 @@ static struct lk_tcp_options ranges(uint8_t count)
     return options;
 }
 
-static struct lk_tcp_options size_and_scale(uint16_t max_seg_size, uint8_t window_scale)
+static struct lk_tcp_options size_and_scale(uint16_t mss, uint8_t window_scale)
 {
     struct lk_tcp_options options = ranges(0);
-    options.max_seg_size = max_seg_size;
-    options.has_max_seg_size = max_seg_size != 0;
+    options.mss = mss;
+    options.has_mss = mss != 0;
     options.window_scale = window_scale;
     options.has_window_scale = 1;
     return options;

@@ -66,7 +66,7 @@ static struct lk_frame ipv4(uint8_t protocol, size_t header_len, size_t payload_
     frame.ip.dscp = 0x2e;
     frame.ip.ecn = 1;
     frame.ip.dont_fragment = 1;
-    frame.ipv4_checksum = LK_RIGHT;
+    frame.ipv4_checksum = LK_CHECKSUM_VALID;
     return frame;
 }
 
@@ -170,7 +170,7 @@ static struct lk_frame with_ports(struct lk_frame frame, uint16_t src, uint16_t 
 
 static struct lk_frame with_bad_ipv4_checksum(struct lk_frame frame)
 {
-    frame.ipv4_checksum = LK_WRONG;
+    frame.ipv4_checksum = LK_CHECKSUM_INVALID;
     return frame;
 }
 
@@ -208,13 +208,13 @@ static void reads(int line, const struct octets *frame, struct lk_frame expected
 static void reads_frames(void)
 {
     READS(arp4, arp());
-    READS(udp4, udp(ipv4(17, 24, 0), LK_RIGHT));
+    READS(udp4, udp(ipv4(17, 24, 0), LK_CHECKSUM_VALID));
     READS(other4, fragment(ipv4(1, 20, 3), 0, 0));
     READS(fragment_of_ipv4, ipv4(44, 20, 8));
-    READS(udp6, udp(ipv6(17, 0), LK_RIGHT));
+    READS(udp6, udp(ipv6(17, 0), LK_CHECKSUM_VALID));
     READS(other6, ipv6(58, 3));
-    READS(tcp4, tcp(ipv4(6, 20, 0), 24, 0xd8, LK_RIGHT));
-    READS(tcp6, tcp(ipv6(6, 0), 28, 0x32, LK_RIGHT));
+    READS(tcp4, tcp(ipv4(6, 20, 0), 24, 0xd8, LK_CHECKSUM_VALID));
+    READS(tcp6, tcp(ipv6(6, 0), 28, 0x32, LK_CHECKSUM_VALID));
     READS(unknown_type, ethernet(0x88b5, 3));
 }
 
@@ -231,14 +231,14 @@ static void reads_fragments(void)
 
 static void reads_checksums(void)
 {
-    READS(udp4_bad_ip, with_bad_ipv4_checksum(udp(ipv4(17, 20, 0), LK_RIGHT)));
-    READS(udp4_wrong, udp(ipv4(17, 20, 0), LK_WRONG));
-    READS(udp4_left_out, udp(ipv4(17, 20, 0), LK_LEFT_OUT));
-    READS(udp4_left_to_device, udp(ipv4(17, 20, 0), LK_LEFT_TO_DEVICE));
-    READS(udp6_zero, udp(ipv6(17, 0), LK_WRONG));
-    READS(udp6_left_to_device, udp(ipv6(17, 0), LK_LEFT_TO_DEVICE));
-    READS(tcp4_wrong, tcp(ipv4(6, 20, 0), 20, 0x10, LK_WRONG));
-    READS(tcp4_left_to_device, tcp(ipv4(6, 20, 0), 20, 0x10, LK_LEFT_TO_DEVICE));
+    READS(udp4_bad_ip, with_bad_ipv4_checksum(udp(ipv4(17, 20, 0), LK_CHECKSUM_VALID)));
+    READS(udp4_wrong, udp(ipv4(17, 20, 0), LK_CHECKSUM_INVALID));
+    READS(udp4_left_out, udp(ipv4(17, 20, 0), LK_CHECKSUM_OMITTED));
+    READS(udp4_left_to_device, udp(ipv4(17, 20, 0), LK_CHECKSUM_PARTIAL));
+    READS(udp6_zero, udp(ipv6(17, 0), LK_CHECKSUM_INVALID));
+    READS(udp6_left_to_device, udp(ipv6(17, 0), LK_CHECKSUM_PARTIAL));
+    READS(tcp4_wrong, tcp(ipv4(6, 20, 0), 20, 0x10, LK_CHECKSUM_INVALID));
+    READS(tcp4_left_to_device, tcp(ipv4(6, 20, 0), 20, 0x10, LK_CHECKSUM_PARTIAL));
 }
 
 static void tells_valid(const struct octets *frame, int expected)
@@ -287,28 +287,28 @@ static void rejects_udp_headers(void)
 {
     struct lk_frame frame = ipv4(17, 20, 11);
     READS(udp4_too_short, rejected(ipv4(17, 20, 7), LK_TOO_SHORT));
-    READS(udp4_bad_length, rejected(udp_header(frame, LK_NO_CHECKSUM), LK_BAD_LENGTH));
-    READS(udp4_past_end, rejected(udp_header(frame, LK_NO_CHECKSUM), LK_BAD_LENGTH));
-    READS(udp4_port_zero, rejected(with_ports(udp_header(frame, LK_RIGHT), 0x3132, 0), LK_PORT_ZERO));
-    READS(udp4_no_source, with_ports(udp(frame, LK_RIGHT), 0, 0x4142));
+    READS(udp4_bad_length, rejected(udp_header(frame, LK_CHECKSUM_NOT_READ), LK_BAD_LENGTH));
+    READS(udp4_past_end, rejected(udp_header(frame, LK_CHECKSUM_NOT_READ), LK_BAD_LENGTH));
+    READS(udp4_port_zero, rejected(with_ports(udp_header(frame, LK_CHECKSUM_VALID), 0x3132, 0), LK_PORT_ZERO));
+    READS(udp4_no_source, with_ports(udp(frame, LK_CHECKSUM_VALID), 0, 0x4142));
     frame = ipv6(17, 11);
-    READS(udp6_port_zero, rejected(with_ports(udp_header(frame, LK_WRONG), 0x3132, 0), LK_PORT_ZERO));
+    READS(udp6_port_zero, rejected(with_ports(udp_header(frame, LK_CHECKSUM_INVALID), 0x3132, 0), LK_PORT_ZERO));
 }
 
 static void rejects_tcp_headers(void)
 {
     struct lk_frame frame = ipv4(6, 20, 23);
-    struct lk_frame header = tcp_header(frame, 20, 0x10, LK_RIGHT);
+    struct lk_frame header = tcp_header(frame, 20, 0x10, LK_CHECKSUM_VALID);
     READS(tcp4_too_short, rejected(ipv4(6, 20, 19), LK_TOO_SHORT));
-    READS(tcp4_bad_length, rejected(tcp_header(frame, 16, 0x10, LK_RIGHT), LK_BAD_LENGTH));
-    READS(tcp4_past_end, rejected(tcp_header(frame, 24, 0x10, LK_RIGHT), LK_BAD_LENGTH));
+    READS(tcp4_bad_length, rejected(tcp_header(frame, 16, 0x10, LK_CHECKSUM_VALID), LK_BAD_LENGTH));
+    READS(tcp4_past_end, rejected(tcp_header(frame, 24, 0x10, LK_CHECKSUM_VALID), LK_BAD_LENGTH));
     READS(tcp4_no_source, rejected(with_ports(header, 0, 0x4344), LK_PORT_ZERO));
     READS(tcp4_port_zero, rejected(with_ports(header, 0x3334, 0), LK_PORT_ZERO));
-    READS(tcp4_syn_fin, rejected(tcp_header(frame, 20, 0x03, LK_RIGHT), LK_BAD_FLAGS));
-    READS(tcp4_fin_rst, rejected(tcp_header(frame, 20, 0x05, LK_RIGHT), LK_BAD_FLAGS));
-    READS(tcp6_syn_rst, rejected(tcp_header(ipv6(6, 23), 20, 0x16, LK_RIGHT), LK_BAD_FLAGS));
+    READS(tcp4_syn_fin, rejected(tcp_header(frame, 20, 0x03, LK_CHECKSUM_VALID), LK_BAD_FLAGS));
+    READS(tcp4_fin_rst, rejected(tcp_header(frame, 20, 0x05, LK_CHECKSUM_VALID), LK_BAD_FLAGS));
+    READS(tcp6_syn_rst, rejected(tcp_header(ipv6(6, 23), 20, 0x16, LK_CHECKSUM_VALID), LK_BAD_FLAGS));
     frame = ipv4(6, 20, 27);
-    READS(tcp4_bad_options, rejected(tcp_header(frame, 24, 0x10, LK_RIGHT), LK_BAD_OPTIONS));
+    READS(tcp4_bad_options, rejected(tcp_header(frame, 24, 0x10, LK_CHECKSUM_VALID), LK_BAD_OPTIONS));
 }
 
 /* Each flag by itself. The checksum is that of the segment with another flag. */
@@ -316,7 +316,7 @@ static void reads_each_flag(void)
 {
     for (unsigned flag = 1; flag < 0x100; flag *= 2) {
         struct octets frame = changed(tcp4_wrong, 47, (uint8_t)flag);
-        READS(frame, tcp(ipv4(6, 20, 0), 20, (uint8_t)flag, LK_WRONG));
+        READS(frame, tcp(ipv4(6, 20, 0), 20, (uint8_t)flag, LK_CHECKSUM_INVALID));
     }
 }
 
@@ -328,36 +328,36 @@ static const struct {
     struct change changes[CHANGES];
     uint8_t ipv4, transport;
 } checksums[] = {
-    {&arp4, {{0, 0}}, LK_NO_CHECKSUM, LK_NO_CHECKSUM},                    /* ARP */
-    {&other4, {{0, 0}}, LK_RIGHT, LK_NO_CHECKSUM},                        /* IPv4 */
-    {&other4, {{25, 0x3c}}, LK_WRONG, LK_NO_CHECKSUM},                    /* IPv4: one more */
-    {&other4, {{24, 0}, {25, 0}}, LK_WRONG, LK_NO_CHECKSUM},              /* IPv4: 0 */
-    {&fragment4_first, {{0, 0}}, LK_RIGHT, LK_NO_CHECKSUM},               /* IPv4: a fragment */
-    {&udp4, {{35, 0}}, LK_WRONG, LK_RIGHT},                               /* IPv4: a bit of an option */
-    {&other6, {{0, 0}}, LK_NO_CHECKSUM, LK_NO_CHECKSUM},                  /* IPv6 */
-    {&udp4, {{0, 0}}, LK_RIGHT, LK_RIGHT},                                /* UDP */
-    {&udp4, {{49, 0x55}}, LK_RIGHT, LK_RIGHT},                            /* UDP: padding */
-    {&udp4, {{48, 0x55}}, LK_RIGHT, LK_WRONG},                            /* UDP: payload */
-    {&udp4, {{29, 0x1c}}, LK_WRONG, LK_WRONG},                            /* UDP: an address */
-    {&udp4_wrong, {{40, 0}, {41, 0}}, LK_RIGHT, LK_LEFT_OUT},             /* UDP: 0 */
-    {&udp4_wrong, {{40, 0x8c}, {41, 0xac}}, LK_RIGHT, LK_LEFT_TO_DEVICE}, /* UDP: the pseudo-header */
-    {&udp4_wrong, {{39, 7}}, LK_RIGHT, LK_NO_CHECKSUM},                   /* UDP: length 7 */
-    {&udp6, {{0, 0}}, LK_NO_CHECKSUM, LK_RIGHT},                          /* UDP over IPv6 */
-    {&udp6, {{64, 0x55}}, LK_NO_CHECKSUM, LK_WRONG},                      /* UDP over IPv6: payload */
-    {&udp6, {{60, 0}, {61, 0}}, LK_NO_CHECKSUM, LK_WRONG},                /* UDP over IPv6: 0 */
-    {&udp6, {{60, 0xf3}, {61, 0x1e}}, LK_NO_CHECKSUM, LK_LEFT_TO_DEVICE}, /* UDP over IPv6: the pseudo-header */
-    {&udp6, {{59, 7}}, LK_NO_CHECKSUM, LK_NO_CHECKSUM},                   /* UDP over IPv6: length 7 */
-    {&tcp4, {{0, 0}}, LK_RIGHT, LK_RIGHT},                                /* TCP */
-    {&tcp4, {{61, 0x55}}, LK_RIGHT, LK_RIGHT},                            /* TCP: padding */
-    {&tcp4, {{60, 0x55}}, LK_RIGHT, LK_WRONG},                            /* TCP: payload */
-    {&tcp4, {{50, 0}, {51, 0}}, LK_RIGHT, LK_WRONG},                      /* TCP: 0 */
-    {&tcp4_wrong, {{50, 0}, {51, 0}, {52, 0x08}, {53, 0x11}}, LK_RIGHT, LK_RIGHT}, /* TCP: a right 0 */
-    {&tcp4_wrong, {{50, 0x8c}, {51, 0xad}}, LK_RIGHT, LK_LEFT_TO_DEVICE},          /* TCP: the pseudo-header */
-    {&tcp6, {{0, 0}}, LK_NO_CHECKSUM, LK_RIGHT},                                   /* TCP over IPv6 */
-    {&tcp6, {{84, 0x55}}, LK_NO_CHECKSUM, LK_WRONG},                               /* TCP over IPv6: payload */
-    {&tcp6, {{70, 0}, {71, 0}}, LK_NO_CHECKSUM, LK_WRONG},                         /* TCP over IPv6: 0 */
-    {&tcp6, {{70, 0}, {71, 0}, {72, 0x76}, {73, 0x70}}, LK_NO_CHECKSUM, LK_RIGHT}, /* TCP over IPv6: a right 0 */
-    {&tcp6, {{70, 0xf3}, {71, 0x27}}, LK_NO_CHECKSUM, LK_LEFT_TO_DEVICE}, /* TCP over IPv6: the pseudo-header */
+    {&arp4, {{0, 0}}, LK_CHECKSUM_NOT_READ, LK_CHECKSUM_NOT_READ},                    /* ARP */
+    {&other4, {{0, 0}}, LK_CHECKSUM_VALID, LK_CHECKSUM_NOT_READ},                        /* IPv4 */
+    {&other4, {{25, 0x3c}}, LK_CHECKSUM_INVALID, LK_CHECKSUM_NOT_READ},                    /* IPv4: one more */
+    {&other4, {{24, 0}, {25, 0}}, LK_CHECKSUM_INVALID, LK_CHECKSUM_NOT_READ},              /* IPv4: 0 */
+    {&fragment4_first, {{0, 0}}, LK_CHECKSUM_VALID, LK_CHECKSUM_NOT_READ},               /* IPv4: a fragment */
+    {&udp4, {{35, 0}}, LK_CHECKSUM_INVALID, LK_CHECKSUM_VALID},                               /* IPv4: a bit of an option */
+    {&other6, {{0, 0}}, LK_CHECKSUM_NOT_READ, LK_CHECKSUM_NOT_READ},                  /* IPv6 */
+    {&udp4, {{0, 0}}, LK_CHECKSUM_VALID, LK_CHECKSUM_VALID},                                /* UDP */
+    {&udp4, {{49, 0x55}}, LK_CHECKSUM_VALID, LK_CHECKSUM_VALID},                            /* UDP: padding */
+    {&udp4, {{48, 0x55}}, LK_CHECKSUM_VALID, LK_CHECKSUM_INVALID},                            /* UDP: payload */
+    {&udp4, {{29, 0x1c}}, LK_CHECKSUM_INVALID, LK_CHECKSUM_INVALID},                            /* UDP: an address */
+    {&udp4_wrong, {{40, 0}, {41, 0}}, LK_CHECKSUM_VALID, LK_CHECKSUM_OMITTED},             /* UDP: 0 */
+    {&udp4_wrong, {{40, 0x8c}, {41, 0xac}}, LK_CHECKSUM_VALID, LK_CHECKSUM_PARTIAL}, /* UDP: the pseudo-header */
+    {&udp4_wrong, {{39, 7}}, LK_CHECKSUM_VALID, LK_CHECKSUM_NOT_READ},                   /* UDP: length 7 */
+    {&udp6, {{0, 0}}, LK_CHECKSUM_NOT_READ, LK_CHECKSUM_VALID},                          /* UDP over IPv6 */
+    {&udp6, {{64, 0x55}}, LK_CHECKSUM_NOT_READ, LK_CHECKSUM_INVALID},                      /* UDP over IPv6: payload */
+    {&udp6, {{60, 0}, {61, 0}}, LK_CHECKSUM_NOT_READ, LK_CHECKSUM_INVALID},                /* UDP over IPv6: 0 */
+    {&udp6, {{60, 0xf3}, {61, 0x1e}}, LK_CHECKSUM_NOT_READ, LK_CHECKSUM_PARTIAL}, /* UDP over IPv6: the pseudo-header */
+    {&udp6, {{59, 7}}, LK_CHECKSUM_NOT_READ, LK_CHECKSUM_NOT_READ},                   /* UDP over IPv6: length 7 */
+    {&tcp4, {{0, 0}}, LK_CHECKSUM_VALID, LK_CHECKSUM_VALID},                                /* TCP */
+    {&tcp4, {{61, 0x55}}, LK_CHECKSUM_VALID, LK_CHECKSUM_VALID},                            /* TCP: padding */
+    {&tcp4, {{60, 0x55}}, LK_CHECKSUM_VALID, LK_CHECKSUM_INVALID},                            /* TCP: payload */
+    {&tcp4, {{50, 0}, {51, 0}}, LK_CHECKSUM_VALID, LK_CHECKSUM_INVALID},                      /* TCP: 0 */
+    {&tcp4_wrong, {{50, 0}, {51, 0}, {52, 0x08}, {53, 0x11}}, LK_CHECKSUM_VALID, LK_CHECKSUM_VALID}, /* TCP: a right 0 */
+    {&tcp4_wrong, {{50, 0x8c}, {51, 0xad}}, LK_CHECKSUM_VALID, LK_CHECKSUM_PARTIAL},          /* TCP: the pseudo-header */
+    {&tcp6, {{0, 0}}, LK_CHECKSUM_NOT_READ, LK_CHECKSUM_VALID},                                   /* TCP over IPv6 */
+    {&tcp6, {{84, 0x55}}, LK_CHECKSUM_NOT_READ, LK_CHECKSUM_INVALID},                               /* TCP over IPv6: payload */
+    {&tcp6, {{70, 0}, {71, 0}}, LK_CHECKSUM_NOT_READ, LK_CHECKSUM_INVALID},                         /* TCP over IPv6: 0 */
+    {&tcp6, {{70, 0}, {71, 0}, {72, 0x76}, {73, 0x70}}, LK_CHECKSUM_NOT_READ, LK_CHECKSUM_VALID}, /* TCP over IPv6: a right 0 */
+    {&tcp6, {{70, 0xf3}, {71, 0x27}}, LK_CHECKSUM_NOT_READ, LK_CHECKSUM_PARTIAL}, /* TCP over IPv6: the pseudo-header */
 };
 
 static void reads_verdicts(void)

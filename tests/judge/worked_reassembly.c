@@ -83,7 +83,7 @@ static const char six_odd[] =
     "6000000000142c4020010db800000000000000000000000120010db800000000000000000000000211000001123456780fa00007002010"
     "0200010203";
 
-/* A fragment that comes, or without a packet a call of lk_expire. It begins an empty table of so many packets, or the
+/* A fragment that comes, or without a packet a call of lk_expire_reassembly. It begins an empty table of so many packets, or the
  * table stays. The result is a failure, a whole packet, or 0. */
 static const struct step {
     size_t begins;
@@ -91,7 +91,7 @@ static const struct step {
     const char *packet;
     ptrdiff_t failure;
     const char *whole;
-    size_t since; /* of lk_expire: how many steps ago its packet began */
+    size_t since; /* of lk_expire_reassembly: how many steps ago its packet began */
 } steps[] = {
     {2, 0, plain0, 0, 0, 0},
     {0, 1, plain1, 0, plain, 0},
@@ -191,7 +191,7 @@ static const struct step {
     {0, 61000, third0, 0, 0, 0},
     {0, 61000, second1, 0, second, 0},
     {0, 61000, third1, 0, third, 0},
-    {2, 1000, plain0, 0, 0, 0}, /* but it stays for lk_expire while another place is free */
+    {2, 1000, plain0, 0, 0, 0}, /* but it stays for lk_expire_reassembly while another place is free */
     {0, 61000, second0, 0, 0, 0},
     {0, 61000, third0, 0, 0, 0}, /* it makes room, and not the packet that came later */
     {0, 61000, 0, 0, 0, 0},
@@ -227,7 +227,7 @@ static const struct step {
 
 /* Room for 64 bytes of each packet. */
 enum { MOST = 2, PER_PACKET = 72 };
-static struct lk_partial partials[MOST];
+static struct lk_reassembly partials[MOST];
 static uint8_t memory[MOST * PER_PACKET];
 
 static void begin_table(void)
@@ -262,7 +262,7 @@ static void make_step(size_t i)
         begin_table();
     if (step->packet == 0) {
         clear();
-        CHECK_ROW(i, holds(&wanted, (ptrdiff_t)both_expire(partials, MOST, memory, sizeof memory, step->now, out, ROOM)));
+        CHECK_ROW(i, holds(&wanted, (ptrdiff_t)both_expire_reassembly(partials, MOST, memory, sizeof memory, step->now, out, ROOM)));
     } else if (step->whole) {
         CHECK_ROW(i, take(&frame, step->now, wanted.len - 1) == LK_NO_ROOM && holds(&nothing, 0));
         CHECK_ROW(i, holds(&wanted, take(&frame, step->now, wanted.len)));
@@ -274,8 +274,8 @@ static void make_step(size_t i)
 /* Packets of more than 65,535 bytes. */
 static void make_long(void)
 {
-    static struct lk_partial one;
-    static uint8_t room[LK_PARTIAL_MEMORY];
+    static struct lk_reassembly one;
+    static uint8_t room[LK_REASSEMBLY_MEMORY];
     const struct {
         const char *packet;
         ptrdiff_t result;
@@ -305,7 +305,7 @@ void worked_reassembly(void)
     struct octets frame = frame_of(plain0, 0), whole = frame_of(plain, 0);
     FAILS(LK_PAYLOAD_TOO_LONG, both_reassemble(partials, 0, memory, sizeof memory, 0, frame.at, frame.len, out, ROOM));
     FAILS(LK_PAYLOAD_TOO_LONG, both_reassemble(partials, MOST, memory, 35, 0, frame.at, frame.len, out, ROOM));
-    CHECK(both_expire(partials, 0, memory, sizeof memory, 60000, out, ROOM) == 0);
+    CHECK(both_expire_reassembly(partials, 0, memory, sizeof memory, 60000, out, ROOM) == 0);
     WRITES(whole, both_reassemble(partials, 0, memory, 0, 0, whole.at, whole.len, out, cap));
     frame = changed(frame, 24, 0); /* a wrong header checksum */
     FAILS(LK_NO_HEADER, both_reassemble(partials, MOST, memory, sizeof memory, 0, frame.at, frame.len, out, ROOM));

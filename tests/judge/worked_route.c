@@ -21,13 +21,13 @@ static const struct {
     {&query, 46, {{14, 0x44}}, LK_BAD_HEADER},
     {&query, 46, {{17, 19}}, LK_BAD_HEADER},
     {&query, 46, {{25, 0xd5}, {22, 1}}, LK_WRONG_CHECKSUM},
-    {&query, 46, {{22, 0x01}, {24, 0x5f}}, LK_EXPIRED},
-    {&query, 46, {{22, 0x00}, {24, 0x60}}, LK_EXPIRED},
+    {&query, 46, {{22, 0x01}, {24, 0x5f}}, LK_HOP_LIMIT_TOO_LOW},
+    {&query, 46, {{22, 0x00}, {24, 0x60}}, LK_HOP_LIMIT_TOO_LOW},
     {&router_solicit, 53, {{0, 0}}, LK_BAD_HEADER},
     {&router_solicit, 69, {{21, 0}}, LK_BAD_HEADER},
     {&router_solicit, 70, {{14, 0x40}}, LK_BAD_HEADER},
-    {&router_solicit, 70, {{21, 1}}, LK_EXPIRED},
-    {&router_solicit, 70, {{21, 0}}, LK_EXPIRED},
+    {&router_solicit, 70, {{21, 1}}, LK_HOP_LIMIT_TOO_LOW},
+    {&router_solicit, 70, {{21, 0}}, LK_HOP_LIMIT_TOO_LOW},
     {&query, 46, {{12, 0x86}}, LK_NOT_IP},
     {&query, 46, {{14, 0x65}}, LK_BAD_HEADER},
     {&query, 46, {{17, 0x21}}, LK_BAD_HEADER},
@@ -68,7 +68,7 @@ static void forward_until_it_expires(void)
         forwards(__LINE__, frame, &expected);
         frame = expected;
     }
-    CHECK(frame.at[22] == 1 && both_forward(frame.at, frame.len, src, dst) == LK_EXPIRED);
+    CHECK(frame.at[22] == 1 && both_forward(frame.at, frame.len, src, dst) == LK_HOP_LIMIT_TOO_LOW);
     CHECK(memcmp(frame.at, expected.at, frame.len) == 0);
 }
 
@@ -99,7 +99,7 @@ static const struct {
     const struct octets *frame;
     size_t len;
     struct change before[CHANGES];
-    uint16_t max_seg_size;
+    uint16_t mss;
     struct change after[CHANGES];
 } clamped[] = {
     {&syn, 74, {{0, 0}}, 1260, {{50, 0xd9}, {51, 0x85}, {56, 0x04}, {57, 0xec}}},
@@ -135,9 +135,9 @@ static void clamp_mss(void)
     for (size_t i = 0; i < sizeof clamped / sizeof clamped[0]; i++) {
         struct octets frame = cut(clamped[i].frame, clamped[i].len, clamped[i].before);
         struct octets expected = cut(&frame, frame.len, clamped[i].after);
-        CHECK_ROW(i, both_clamp_mss(frame.at, frame.len, clamped[i].max_seg_size) == (clamped[i].after[0].at != 0));
+        CHECK_ROW(i, both_clamp_mss(frame.at, frame.len, clamped[i].mss) == (clamped[i].after[0].at != 0));
         CHECK_ROW(i, memcmp(frame.at, expected.at, frame.len) == 0);
-        CHECK_ROW(i, both_clamp_mss(frame.at, frame.len, clamped[i].max_seg_size) == 0);
+        CHECK_ROW(i, both_clamp_mss(frame.at, frame.len, clamped[i].mss) == 0);
     }
 }
 
@@ -275,7 +275,7 @@ static void choose_among_hosts(void)
     struct lk_addr addr = {{198, 51, 100}, 4};
     for (size_t i = 1; i < COUNT; i++) {
         addr.octets[3] = (uint8_t)(2 * i - 1);
-        hosts[i].block = (struct lk_block){addr, 32};
+        hosts[i].prefix = (struct lk_prefix){addr, 32};
     }
     CHECK(both_index_routes(hosts, COUNT, host_nodes, COUNT) == COUNT);
     CHECK(both_make_route_table(host_nodes, COUNT, host_cells, HOST_CELLS) == HOST_CELLS);
@@ -295,7 +295,7 @@ static const struct {
     {{{10, 0, 0, 1}, 4}, 3, LK_OTHER_INTERFACE},
     {{{10, 1, 2, 3}, 4}, 4, LK_NOT_REJECTED},
     {{{10, 1, 2, 3}, 4}, 2, LK_OTHER_INTERFACE},
-    {{{11, 0, 0, 1}, 4}, 1, LK_NO_ROUTE},
+    {{{11, 0, 0, 1}, 4}, 1, LK_NO_ROUTE_TO_SOURCE},
     {{{0x20, 0x01}, 6}, 65535, LK_NOT_REJECTED},
     {{{127, 0, 0, 1}, 4}, 1, LK_MARTIAN},
     {{{127, 0, 0, 1}, 4}, 2, LK_MARTIAN},
@@ -327,10 +327,10 @@ static void check_sources(void)
         CHECK_ROW(i, both_check_source_by_table(routes, ROUTES, nodes, ROUTES, cells, CELLS - 1, src, interface) ==
                          sources[i].rejection);
     }
-    CHECK(both_check_source(0, 0, 0, 0, &sources[0].src, 1) == LK_NO_ROUTE);
-    CHECK(both_check_source(routes, ROUTES, nodes, LK_MAX_LEN + 1, &sources[0].src, 1) == LK_NO_ROUTE);
-    CHECK(both_check_source_by_table(0, 0, 0, 0, 0, 0, &sources[0].src, 1) == LK_NO_ROUTE);
-    CHECK(both_check_source_by_table(routes, ROUTES, nodes, LK_MAX_LEN + 1, 0, 0, &sources[0].src, 1) == LK_NO_ROUTE);
+    CHECK(both_check_source(0, 0, 0, 0, &sources[0].src, 1) == LK_NO_ROUTE_TO_SOURCE);
+    CHECK(both_check_source(routes, ROUTES, nodes, LK_MAX_LEN + 1, &sources[0].src, 1) == LK_NO_ROUTE_TO_SOURCE);
+    CHECK(both_check_source_by_table(0, 0, 0, 0, 0, 0, &sources[0].src, 1) == LK_NO_ROUTE_TO_SOURCE);
+    CHECK(both_check_source_by_table(routes, ROUTES, nodes, LK_MAX_LEN + 1, 0, 0, &sources[0].src, 1) == LK_NO_ROUTE_TO_SOURCE);
 }
 
 /* ---- routes of Linux ---- */
@@ -392,7 +392,7 @@ static void index_linux(size_t first, size_t len)
     memset(linux_routes, 0, sizeof linux_routes);
     for (size_t i = 0; i < len; i++) {
         const char *block = given_routes[first + i].block, *next_hop = given_routes[first + i].next_hop;
-        CHECK_ROW(i, both_parse_block(block, strlen(block), &linux_routes[i].block) == 1);
+        CHECK_ROW(i, both_parse_prefix(block, strlen(block), &linux_routes[i].prefix) == 1);
         if (next_hop)
             linux_routes[i].next_hop = addr(next_hop);
         linux_routes[i].interface = given_routes[first + i].interface;

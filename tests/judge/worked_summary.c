@@ -98,8 +98,8 @@ static void print_longest(void)
     frame.src.addr.version = frame.dst.addr.version = 6;
     frame.network = LK_IPV6;
     frame.transport = LK_TCP;
-    frame.ipv4_checksum = LK_WRONG;
-    frame.transport_checksum = LK_LEFT_TO_DEVICE;
+    frame.ipv4_checksum = LK_CHECKSUM_INVALID;
+    frame.transport_checksum = LK_CHECKSUM_PARTIAL;
     frame.reason = LK_UNKNOWN_LINK;
     CHECK(sizeof line == LK_FRAME_TEXT && prints(&frame, line));
 }

@@ -4,13 +4,13 @@
 /* Parses `text` as a block, and prints it as `printed`. The block contains 10.255.0.1 if `member`. */
 static int is_block(const char *text, const char *printed, int member)
 {
-    struct lk_block block;
+    struct lk_prefix block;
     struct lk_addr ten = addr("10.255.0.1");
     char text_out[43];
     memset(&block, OLD, sizeof block);
-    if (!both_parse_block(text, strlen(text), &block))
+    if (!both_parse_prefix(text, strlen(text), &block))
         return 0;
-    ptrdiff_t len = both_print_block(&block, text_out, sizeof text_out);
+    ptrdiff_t len = both_print_prefix(&block, text_out, sizeof text_out);
     return len == (ptrdiff_t)strlen(printed) && memcmp(text_out, printed, strlen(printed)) == 0 &&
            both_contains(&block, &ten) == member;
 }
@@ -49,8 +49,8 @@ static void texts(void)
     CHECK(is_block("10.255.0.0/31", "10.255.0.0/31", 1) && is_block("::1/128", "::1/128", 0));
     CHECK(is_endpoint("192.0.2.1:65535", "192.0.2.1:65535", 65535) && is_endpoint("192.0.2.1", "192.0.2.1:0", 0));
     CHECK(is_endpoint("[FE80::1]:80", "[fe80::1]:80", 80) && is_endpoint("fe80::1", "[fe80::1]:0", 0));
-    CHECK(both_parse_ethernet("AB-cd-ef-0-0-1", 14, octets) == 1 && memcmp(octets, "\xab\xcd\xef\0\0\1", 6) == 0);
-    CHECK(both_print_ethernet(octets, text, 17) == 17 && memcmp(text, "ab-cd-ef-00-00-01", 17) == 0);
+    CHECK(both_parse_mac("AB-cd-ef-0-0-1", 14, octets) == 1 && memcmp(octets, "\xab\xcd\xef\0\0\1", 6) == 0);
+    CHECK(both_print_mac(octets, text, 17) == 17 && memcmp(text, "ab-cd-ef-00-00-01", 17) == 0);
 }
 
 /* The texts of the header's table, and the calls that parse them: addresses, endpoints, blocks and Ethernet addresses. */
@@ -97,15 +97,15 @@ static void table_of_texts(void)
     };
     struct lk_addr a;
     struct lk_endpoint e;
-    struct lk_block b;
+    struct lk_prefix b;
     uint8_t octets[6];
     for (size_t i = 0; i < sizeof rows / sizeof rows[0]; i++) {
         const char *text = rows[i].text;
         size_t len = strlen(text);
         CHECK_ROW(i, both_parse_addr(text, len, &a) == rows[i].is_addr);
         CHECK_ROW(i, both_parse_endpoint(text, len, &e) == rows[i].is_endpoint);
-        CHECK_ROW(i, both_parse_block(text, len, &b) == rows[i].is_block);
-        CHECK_ROW(i, both_parse_ethernet(text, len, octets) == rows[i].is_ethernet);
+        CHECK_ROW(i, both_parse_prefix(text, len, &b) == rows[i].is_block);
+        CHECK_ROW(i, both_parse_mac(text, len, octets) == rows[i].is_ethernet);
     }
 }
 
@@ -134,11 +134,11 @@ static void rejected_texts(void)
         const char *text = no_texts[i].text;
         size_t len = no_texts[i].len;
         struct lk_endpoint endpoint = {{{1}, 2}, 3};
-        struct lk_block block = {{{1}, 2}, 3};
+        struct lk_prefix block = {{{1}, 2}, 3};
         uint8_t octets[6] = {1};
-        CHECK_ROW(i, both_parse_addr(text, len, &block.addr) == 0 && both_parse_block(text, len, &block) == 0);
+        CHECK_ROW(i, both_parse_addr(text, len, &block.addr) == 0 && both_parse_prefix(text, len, &block) == 0);
         CHECK_ROW(i, both_parse_endpoint(text, len, &endpoint) == 0);
-        CHECK_ROW(i, both_parse_ethernet(text, len, octets) == 0);
+        CHECK_ROW(i, both_parse_mac(text, len, octets) == 0);
         CHECK_ROW(i, block.addr.version == 2 && block.prefix_len == 3 && endpoint.port == 3 && octets[0] == 1);
     }
 }

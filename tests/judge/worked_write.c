@@ -55,9 +55,9 @@ static struct lk_tcp_options options(void)
     options.sack_range_count = 1;
     options.tsval = 0x01020304;
     options.tsecr = 0x0a0b0c0d;
-    options.max_seg_size = 1460;
+    options.mss = 1460;
     options.window_scale = 7;
-    options.has_max_seg_size = 2;
+    options.has_mss = 2;
     options.has_window_scale = 1;
     options.has_timestamp = 255;
     return options;
@@ -156,8 +156,8 @@ static void longest_headers(void)
     struct lk_tcp data = tcp(LK_PSH + LK_ACK + LK_ECE, 0xcafe);
     struct lk_tcp_options four, three;
     memset(&four, 0, sizeof four);
-    four.has_max_seg_size = 1;
-    four.max_seg_size = 1460;
+    four.has_mss = 1;
+    four.mss = 1460;
     for (uint8_t i = 0; i < 3; i++)
         four.sack_ranges[i].left = 0x10203040u + i, four.sack_ranges[i].right = 0x50607080u + i;
     three = four;
@@ -184,8 +184,8 @@ static void longest_headers(void)
 /* An option list of 4 bytes. A scale above 14 is read as 14 (RFC 7323, section 2.3), and written as it is. */
 static const struct {
     uint8_t octets[4];
-    uint16_t max_seg_size;
-    uint8_t has_max_seg_size, window_scale, has_window_scale, scale_read;
+    uint16_t mss;
+    uint8_t has_mss, window_scale, has_window_scale, scale_read;
 } limits[] = {
     {{2, 4, 0, 0}, 0, 1, 0, 0, 0},           /* size 0 */
     {{2, 4, 0, 1}, 1, 1, 0, 0, 0},           /* size 1 */
@@ -203,7 +203,7 @@ static void limits_of_options(void)
     for (size_t i = 0; i < sizeof limits / sizeof limits[0]; i++) {
         struct lk_tcp_options written, read;
         memset(&written, 0, sizeof written);
-        written.max_seg_size = limits[i].max_seg_size, written.has_max_seg_size = limits[i].has_max_seg_size;
+        written.mss = limits[i].mss, written.has_mss = limits[i].has_mss;
         written.window_scale = limits[i].window_scale, written.has_window_scale = limits[i].has_window_scale;
         CHECK_ROW(i, both_emit_tcp(&header, &written, &end, &end, NULL, 0, 1, clear(), ROOM) == 24);
         CHECK_ROW(i, memcmp(out + 20, limits[i].octets, 4) == 0);
@@ -279,7 +279,7 @@ static void longest_packets(void)
                     v6 = headers("[2001:db8::1]:5353", "[2001:db8:ffff::7]:53");
     struct lk_tcp_options none, full;
     memset(&none, 0, sizeof none);
-    full = none, full.sack_range_count = 4, full.has_max_seg_size = 1;
+    full = none, full.sack_range_count = 4, full.has_mss = 1;
     v6.ip = ip(0, 0xabcde, 0);
     AT_MOST(65515, 20, both_emit_ip(&v4.ip, &v4.src.addr, &v4.dst.addr, len, 1, room, cap));
     AT_MOST(65535, 40, both_emit_ip(&v6.ip, &v6.src.addr, &v6.dst.addr, len, 1, room, cap));
@@ -332,7 +332,7 @@ static void replies(void)
     static const struct lk_ip fresh = {0, 0, 0, 6, 64, 46, 0, 0, 1};
     struct lk_frame frame = headers("192.0.2.1:5353", "198.51.100.7:53"), reply = frame, back;
     frame.ip.protocol = reply.ip.protocol = 6;
-    both_reply(&reply);
+    both_make_reply(&reply);
     CHECK(memcmp(&reply.src, &frame.dst, sizeof frame.dst) == 0 &&
           memcmp(&reply.dst, &frame.src, sizeof frame.src) == 0);
     CHECK(memcmp(reply.ethernet.src, ethernet.dst, 6) == 0 && memcmp(reply.ethernet.dst, ethernet.src, 6) == 0);
@@ -342,7 +342,7 @@ static void replies(void)
     CHECK(memcmp(&reply.tcp, &frame.tcp, sizeof frame.tcp) == 0 && reply.payload_len == frame.payload_len);
     CHECK(reply.network_offset == frame.network_offset && reply.transport_checksum == frame.transport_checksum);
     back = reply;
-    both_reply(&back);
+    both_make_reply(&back);
     CHECK(memcmp(&back.src, &frame.src, sizeof frame.src) == 0 &&
           memcmp(&back.ethernet, &ethernet, sizeof ethernet) == 0);
 }

@@ -72,7 +72,7 @@ WRAPPED(int, lk_forward(uint8_t *frame, size_t len, const uint8_t *src, const ui
     uint8_t before[HEADER + 20] = {0};
     memcpy(before, frame, len < sizeof before ? len : sizeof before);
     int rejection = __real_lk_forward(frame, len, src, dst), is_v4 = is_ipv4(frame, len);
-    if (rejection == LK_EXPIRED && fault() == EXPIRED_PASSES && is_v4) {
+    if (rejection == LK_HOP_LIMIT_TOO_LOW && fault() == EXPIRED_PASSES && is_v4) {
         set_word(frame, HOP_LIMIT, 2, frame[HOP_LIMIT + 1]);
         return __real_lk_forward(frame, len, src, dst);
     }
@@ -97,7 +97,7 @@ static ptrdiff_t emit_any_error(const struct lk_interface *own, const uint8_t *f
 {
     struct lk_frame f;
     lk_read_frame(frame, len, &f);
-    lk_reply(&f);
+    lk_make_reply(&f);
     f.ip.dscp = 0;
     f.src.addr = f.network == LK_IPV4 ? own->ipv4 : own->ipv6;
     f.icmp = (struct lk_icmp){.type = f.network == LK_IPV4 ? 3 : 1};
@@ -170,7 +170,7 @@ WRAPPED(int, lk_translate_in(const struct lk_nat *nat, struct lk_mapping *mappin
     return rejection;
 }
 
-WRAPPED(ptrdiff_t, lk_reassemble(struct lk_partial *partials, size_t count, uint8_t *memory, size_t memory_len,
+WRAPPED(ptrdiff_t, lk_reassemble(struct lk_reassembly *partials, size_t count, uint8_t *memory, size_t memory_len,
                                  uint64_t now, const uint8_t *frame, size_t len, uint8_t *out, size_t cap))
 {
     static unsigned next; /* the offset of the next fragment, in units of 8 bytes */

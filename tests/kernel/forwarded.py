@@ -70,7 +70,7 @@ class Router:
     # The MTU of each interface that clamps.
     clamps = {}
     # The errors about packets that are dropped.
-    errors = {"LK_EXPIRED": icmp.EXPIRED, "too long": icmp.TOO_BIG, "no route": icmp.NO_ROUTE, "no neighbour": icmp.NO_NEIGHBOUR}
+    errors = {"LK_HOP_LIMIT_TOO_LOW": icmp.EXPIRED, "too long": icmp.TOO_BIG, "no route": icmp.NO_ROUTE, "no neighbour": icmp.NO_NEIGHBOUR}
 
     def __init__(self, hardware, addresses, routes, neighbours):
         self.hardware, self.neighbours = hardware, neighbours
@@ -108,7 +108,7 @@ class Router:
         if self.takes_any_way:
             return None
         route = self.choose(addr)
-        return "LK_NO_ROUTE" if route is None else None if route[2] == came_in else "LK_OTHER_INTERFACE"
+        return "LK_NO_ROUTE_TO_SOURCE" if route is None else None if route[2] == came_in else "LK_OTHER_INTERFACE"
 
     def refused(self, packet, came_in):
         """Why the router drops a packet before it looks for a route, or None."""
@@ -167,7 +167,7 @@ class Router:
         if packet.total_len > self.longest:
             return "too long", None
         if packet.hop_limit <= 1:
-            return "LK_EXPIRED", None
+            return "LK_HOP_LIMIT_TOO_LOW", None
         _, next_hop, name = route
         next_hop = next_hop or self.neighbours.get(packet.dst)
         if next_hop is None:

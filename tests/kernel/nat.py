@@ -91,7 +91,7 @@ class Nat(Router):
         if not why and packet.protocol == ICMP:
             why = "LK_NO_MAPPING" if packet.payload[0] == 0 else None
         elif not why and port_of(packet, SOURCE) == 0:
-            why = "LK_ZERO_PORT"
+            why = "LK_NAT_PORT_ZERO"
         return (why, None) if why else (None, translated(frame, SOURCE, self.outside.packed, self.outside_port(packet)))
 
     def comes_in(self, frame):

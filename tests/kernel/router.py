@@ -246,7 +246,7 @@ def last_hop(router):
         sock.setsockopt(socket.IPPROTO_IP, socket.IP_TTL, 1)
         for _ in range(20):
             sock.sendto(b"x", ("10.2.0.2", 7))
-        compare_counters(router, before, ["LK_EXPIRED"] * 20)  # the kernel counts an ICMP error that finds no socket
+        compare_counters(router, before, ["LK_HOP_LIMIT_TOO_LOW"] * 20)  # the kernel counts an ICMP error that finds no socket
 
 
 def asked_for(side, addr):

@@ -113,7 +113,7 @@ static void act_ours(struct socket *s)
     size_t left = state != LK_CLOSED ? side->habit.read : WHOLE, n; /* its place may be given to another one */
     for (; (n = read_bytes(s, bytes, least(left, sizeof bytes))) > 0; left -= n)
         got(t, OURS, bytes, n);
-    side->has_end = lk_connection_is_ended(&s->tcp);
+    side->has_end = lk_connection_at_eof(&s->tcp);
     size_t len = least(side->habit.write, side->habit.size - side->written);
     side->written += write_bytes(s, side->text + side->written, len);
     if (may_close(side) && state > LK_SYN_SENT) {

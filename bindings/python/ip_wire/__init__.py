@@ -25,8 +25,8 @@ Calls by task; `help(ip_wire.parse_frame)` describes one call:
     router              Routes.choose, Routes.check_source, forward, clamp_mss
     NAT                 Nat.translate_out, Nat.translate_in, Nat.shrink_reach, translate
     fragments           fragments, Reassembler.reassemble, Reassembler.expire
-    texts               parse_addr, print_addr, parse_endpoint, str(endpoint), parse_block, print_block,
-                        parse_ethernet, print_ethernet
+    texts               parse_addr, print_addr, parse_endpoint, str(endpoint), parse_prefix, print_prefix,
+                        parse_mac, print_mac
     addresses           contains, is_unicast, is_multicast
     header fields       Ethertype, Protocol, ArpOperation, IcmpType, IcmpCode, Icmpv6Type, Icmpv6Code, Linktype,
                         ETHERNET_HEADER_LEN and others of the module `numbers`
@@ -41,10 +41,10 @@ type raises TypeError. A value that does not fit into its field raises ValueErro
 WireError, which is a ValueError too. `man ip_wire` and ip_wire.h describe the calls.
 """
 from ._c import VERSION as __version__
-from ._convert import Address, AnyBlock, Block, Data, WireError
+from ._convert import Address, AnyPrefix, Prefix, Data, WireError
 from .addresses import (
-    Endpoint, contains, is_multicast, is_unicast, parse_addr, parse_block, parse_endpoint, parse_ethernet, print_addr,
-    print_block, print_ethernet,
+    Endpoint, contains, is_multicast, is_unicast, parse_addr, parse_prefix, parse_endpoint, parse_mac, print_addr,
+    print_prefix, print_mac,
 )  # fmt: skip
 from .arithmetic import add_seq, checksum, compare_seq, subtract_seq, update_checksum, update_checksum_bytes
 from .connections import Connection, ConnectionState, Segment, Socket, Stack
@@ -70,7 +70,7 @@ from .writing import (
 )  # fmt: skip
 
 __all__ = [
-    "__version__", "ARP_LEN", "Address", "AnyBlock", "Arp", "ArpOperation", "Block", "Connection", "ConnectionState",
+    "__version__", "ARP_LEN", "Address", "AnyPrefix", "Arp", "ArpOperation", "Prefix", "Connection", "ConnectionState",
     "Data", "ETHERNET_HEADER_LEN", "Endpoint", "Ethernet", "Ethertype", "Frame", "Headers", "Host", "ICMP_HEADER_LEN",
     "IPV4_HEADER_LEN", "IPV6_HEADER_LEN", "Icmp", "IcmpCode", "IcmpType", "Icmpv6Code", "Icmpv6Type", "Interface",
     "Ip", "Ipv6Header", "Link", "Linktype", "Nat", "Ndisc", "Network", "Offload", "Problem", "Protocol", "RawOption",
@@ -79,10 +79,10 @@ __all__ = [
     "add_seq", "checksum", "clamp_mss", "compare_seq", "contains", "emit_arp", "emit_arp_packet",
     "emit_ethernet_header", "emit_icmp", "emit_icmp_message", "emit_ip_header", "emit_mld_report", "emit_ndisc",
     "emit_tcp", "emit_tcp_segment", "emit_udp", "emit_udp_packet", "ethertype_name", "fill_checksum", "forward",
-    "fragments", "ipv6_headers", "is_multicast", "is_unicast", "parse_addr", "parse_block", "parse_captured",
-    "parse_endpoint", "parse_ethernet", "parse_frame", "parse_frame_options", "parse_frames", "parse_link",
+    "fragments", "ipv6_headers", "is_multicast", "is_unicast", "parse_addr", "parse_prefix", "parse_captured",
+    "parse_endpoint", "parse_mac", "parse_frame", "parse_frame_options", "parse_frames", "parse_link",
     "parse_linktype", "parse_mld_query", "parse_ndisc", "parse_packet", "parse_tcp_options", "print_addr",
-    "print_block", "print_ethernet", "protocol_name", "raw_tcp_options", "rebuild", "set_addr", "set_bytes",
+    "print_prefix", "print_mac", "protocol_name", "raw_tcp_options", "rebuild", "set_addr", "set_bytes",
     "set_dscp", "set_hop_limit", "set_port", "subtract_seq", "tcp_header_len", "translate", "update_checksum",
     "update_checksum_bytes", "wrap_tcp", "wrap_udp",
 ]  # fmt: skip

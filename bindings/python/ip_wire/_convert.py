@@ -2,7 +2,7 @@
 
 - `bytes`, `bytearray` and `memoryview` are bytes with a length, or an Ethernet address.
 - An int, an enum and a bool are numbers.
-- Addresses of `ipaddress` are `struct lk_addr`, and interfaces and networks are `struct lk_block`.
+- Addresses of `ipaddress` are `struct lk_addr`, and interfaces and networks are `struct lk_prefix`.
 - Objects of a class with `@represents` are the struct, by the names of its fields. None is a field whose `has_..` is 0.
 - Tuples are the other structs and arrays, by position.
 
@@ -22,8 +22,8 @@ from typing import Any, Callable, Dict, Iterable, List, Tuple, Type, TypeVar, Un
 from . import _c as c
 
 Address = Union[IPv4Address, IPv6Address]
-Block = Union[IPv4Interface, IPv6Interface]
-AnyBlock = Union[Block, IPv4Network, IPv6Network]
+Prefix = Union[IPv4Interface, IPv6Interface]
+AnyPrefix = Union[Prefix, IPv4Network, IPv6Network]
 Data = Union[bytes, bytearray, memoryview]
 T = TypeVar("T")
 
@@ -33,7 +33,7 @@ _classes: Dict[Any, type] = {}  # of a struct, the class that represents it
 
 
 class WireError(ValueError):
-    """A call of the library failed. `name` is the name of the failure in ip_wire.h, as "LK_NO_PORT"."""
+    """A call of the library failed. `name` is the name of the failure in ip_wire.h, as "LK_EMIT_PORT_ZERO"."""
 
     def __init__(self, name: str) -> None:
         super().__init__(name)
@@ -99,7 +99,7 @@ def to_c(kind: Any, value: Any, what: str, **others: Any) -> Any:
         return value
     if kind is c.Addr:
         return _addr(value, what)
-    if kind is c.Block:
+    if kind is c.Prefix:
         return _block(value, what)
     if issubclass(kind, ctypes.Array):
         return _array(kind, value, what)
@@ -114,10 +114,10 @@ def _addr(value: Any, what: str) -> Any:
 
 def _block(value: Any, what: str) -> Any:
     if isinstance(value, (IPv4Network, IPv6Network)):
-        return c.Block(_addr(value.network_address, what), value.prefixlen)
+        return c.Prefix(_addr(value.network_address, what), value.prefixlen)
     if not isinstance(value, (IPv4Interface, IPv6Interface)):
         raise _wrong_type(what, "an IP interface or network", value)
-    return c.Block(_addr(value.ip, what), value.network.prefixlen)
+    return c.Prefix(_addr(value.ip, what), value.network.prefixlen)
 
 
 def _array(kind: Any, value: Any, what: str) -> Any:

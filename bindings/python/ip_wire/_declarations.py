@@ -16,7 +16,7 @@ def _many(kind: Any) -> Tuple[Any, Any]:
 Hardware = c_uint8 * 6
 Addr = _declare("lk_addr", octets=c_uint8 * 16, version=c_uint16)
 Endpoint = _declare("lk_endpoint", addr=Addr, port=c_uint16)
-Block = _declare("lk_block", addr=Addr, prefix_len=c_uint16)
+Prefix = _declare("lk_prefix", addr=Addr, prefix_len=c_uint16)
 Ethernet = _declare("lk_ethernet", src=Hardware, dst=Hardware, type=c_uint16)
 Arp = _declare("lk_arp", operation=c_uint16, src_hardware=Hardware, dst_hardware=Hardware)
 Ip = _declare(
@@ -29,9 +29,8 @@ Tcp = _declare(
 )
 SackRange = _declare("lk_sack_range", left=c_uint32, right=c_uint32)
 TcpOptions = _declare(
-    "lk_tcp_options", sack_ranges=SackRange * 4, tsval=c_uint32, tsecr=c_uint32, max_seg_size=c_uint16,
-    window_scale=c_uint8, sack_permitted=c_uint8, sack_range_count=c_uint8, has_max_seg_size=c_uint8,
-    has_window_scale=c_uint8, has_timestamp=c_uint8
+    "lk_tcp_options", sack_ranges=SackRange * 4, tsval=c_uint32, tsecr=c_uint32, mss=c_uint16, window_scale=c_uint8,
+    sack_permitted=c_uint8, sack_range_count=c_uint8, has_mss=c_uint8, has_window_scale=c_uint8, has_timestamp=c_uint8
 )
 Icmp = _declare("lk_icmp", word=c_uint32, type=c_uint8, code=c_uint8)
 Ndisc = _declare(
@@ -50,15 +49,15 @@ TcpOption = _declare("lk_tcp_option", offset=c_uint8, kind=c_uint8, len=c_uint8)
 Host = _declare(
     "lk_host", open_ports=POINTER(c_uint16), open_port_count=c_size_t, open_udp_ports=POINTER(c_uint16),
     open_udp_port_count=c_size_t, ipv4=Addr, ipv6=Addr, hardware=Hardware, echo_port=c_uint16, seq_number=c_uint32,
-    tsval=c_uint32, window_len=c_uint16, max_seg_size=c_uint16, window_scale=c_uint8, is_router=c_uint8
+    tsval=c_uint32, window_len=c_uint16, mss=c_uint16, window_scale=c_uint8, is_router=c_uint8
 )
 Interface = _declare("lk_interface", ipv4=Addr, ipv6=Addr, hardware=Hardware)
-Partial = _declare(
-    "lk_partial", expires=c_uint64, ident=c_uint32, version=c_uint8, protocol=c_uint8, unused1=c_uint8 * 2,
+Reassembly = _declare(
+    "lk_reassembly", expires=c_uint64, ident=c_uint32, version=c_uint8, protocol=c_uint8, unused1=c_uint8 * 2,
     src=c_uint8 * 16, dst=c_uint8 * 16, len=c_size_t, high=c_size_t, header=c_uint8 * 60, not_ect=c_uint8, ce=c_uint8,
     unused2=c_uint8 * 2, dropped=c_uint8, link=c_uint8 * 14, unused3=c_uint8
 )
-Route = _declare("lk_route", block=Block, next_hop=Addr, interface=c_uint16)
+Route = _declare("lk_route", prefix=Prefix, next_hop=Addr, interface=c_uint16)
 RouteNode = _declare(
     "lk_route_node", high=c_uint64, low=c_uint64, route=c_uint32, above=c_uint32, version=c_uint8, prefix_len=c_uint8,
     unused=c_uint8 * 2, hint=c_uint32
@@ -84,13 +83,13 @@ CALLS: Dict[str, Tuple[Any, ...]] = {
     "lk_failure_name": (c_char_p, c_ssize_t),
     "lk_parse_addr": (c_int, DATA, Addr),
     "lk_print_addr": (c_ssize_t, Addr, OUT),
-    "lk_parse_block": (c_int, DATA, Block),
-    "lk_print_block": (c_ssize_t, Block, OUT),
-    "lk_contains": (c_int, Block, Addr),
+    "lk_parse_prefix": (c_int, DATA, Prefix),
+    "lk_print_prefix": (c_ssize_t, Prefix, OUT),
+    "lk_contains": (c_int, Prefix, Addr),
     "lk_parse_endpoint": (c_int, DATA, Endpoint),
     "lk_print_endpoint": (c_ssize_t, Endpoint, OUT),
-    "lk_parse_ethernet": (c_int, DATA, Hardware),
-    "lk_print_ethernet": (c_ssize_t, Hardware, OUT),
+    "lk_parse_mac": (c_int, DATA, Hardware),
+    "lk_print_mac": (c_ssize_t, Hardware, OUT),
     "lk_is_multicast": (c_int, Addr),
     "lk_is_unicast": (c_int, Addr),
     "lk_reason_name": (c_char_p, c_int),
@@ -108,7 +107,7 @@ CALLS: Dict[str, Tuple[Any, ...]] = {
     "lk_read_tcp_options": (c_int, DATA, TcpOptions),
     "lk_read_frame_options": (c_int, DATA, Frame, TcpOptions),
     "lk_next_tcp_option": (c_int, DATA, TcpOption),
-    "lk_reply": (None, Frame),
+    "lk_make_reply": (None, Frame),
     "lk_emit_udp_frame": (c_ssize_t, Frame, DATA, OUT),
     "lk_emit_tcp_frame": (c_ssize_t, Frame, TcpOptions, DATA, OUT),
     "lk_wrap_udp_frame": (c_ssize_t, Frame, c_size_t, OUT),
@@ -144,8 +143,8 @@ CALLS: Dict[str, Tuple[Any, ...]] = {
     "lk_translate": (c_int, OUT, c_int, Endpoint),
     "lk_clamp_mss_as": (c_int, OUT, c_uint16, c_int),
     "lk_fragment": (c_ssize_t, DATA, c_size_t, c_int64, c_size_t, OUT),
-    "lk_reassemble": (c_ssize_t, _many(Partial), OUT, c_uint64, DATA, OUT),
-    "lk_expire": (c_size_t, _many(Partial), DATA, c_uint64, OUT),
+    "lk_reassemble": (c_ssize_t, _many(Reassembly), OUT, c_uint64, DATA, OUT),
+    "lk_expire_reassembly": (c_size_t, _many(Reassembly), DATA, c_uint64, OUT),
     "lk_set_hop_limit": (c_int, OUT, c_uint8),
     "lk_set_dscp": (c_int, OUT, c_uint8),
     "lk_set_addr_as": (c_int, OUT, c_int, Addr, c_int),
@@ -167,9 +166,9 @@ CALLS: Dict[str, Tuple[Any, ...]] = {
     "lk_connection_abort": (c_int, Connection, Segment),
     "lk_connection_write": (c_ssize_t, Connection, OUT, DATA),
     "lk_connection_read": (c_ssize_t, Connection, DATA, OUT),
-    "lk_connection_due": (c_uint64, Connection),
+    "lk_connection_next_timeout": (c_uint64, Connection),
     "lk_connection_state": (c_int, Connection),
-    "lk_connection_is_ended": (c_int, Connection),
-    "lk_connection_waiting": (c_size_t, Connection),
+    "lk_connection_at_eof": (c_int, Connection),
+    "lk_connection_unacked": (c_size_t, Connection),
     "lk_connection_too_big": (c_int, Connection, c_uint32, c_uint16),
 }

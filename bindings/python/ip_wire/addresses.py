@@ -5,7 +5,7 @@ from ipaddress import ip_interface
 from typing import Any, NamedTuple
 
 from . import _c as c
-from ._convert import Address, AnyBlock, Block, address_of, call, from_c, parsed, represents, written
+from ._convert import Address, AnyPrefix, Prefix, address_of, call, from_c, parsed, represents, written
 
 
 @represents(c.Endpoint)
@@ -35,20 +35,20 @@ def parse_endpoint(text: str) -> Endpoint:
     return from_c(Endpoint, parsed(c.Endpoint(), "lk_parse_endpoint", text))
 
 
-def parse_block(text: str) -> Block:
-    """Parses a CIDR block. It keeps all bits of its address."""
-    block: Any = parsed(c.Block(), "lk_parse_block", text)
-    return ip_interface((address_of(bytes(block.addr)), block.prefix_len))
+def parse_prefix(text: str) -> Prefix:
+    """Parses a prefix (CIDR block). It keeps all bits of its address."""
+    prefix: Any = parsed(c.Prefix(), "lk_parse_prefix", text)
+    return ip_interface((address_of(bytes(prefix.addr)), prefix.prefix_len))
 
 
-def print_block(block: AnyBlock) -> str:
-    """Prints a CIDR block, with all bits of its address."""
-    return written(44, "lk_print_block", block).decode()
+def print_prefix(prefix: AnyPrefix) -> str:
+    """Prints a prefix (CIDR block), with all bits of its address."""
+    return written(44, "lk_print_prefix", prefix).decode()
 
 
-def contains(block: AnyBlock, addr: Address) -> bool:
-    """Whether the address is in the block. No address is in a block of the other version."""
-    return bool(call("lk_contains", block, addr))
+def contains(prefix: AnyPrefix, addr: Address) -> bool:
+    """Whether the address has the prefix. No address has one of the other version."""
+    return bool(call("lk_contains", prefix, addr))
 
 
 def is_multicast(addr: Address) -> bool:
@@ -61,11 +61,11 @@ def is_unicast(addr: Address) -> bool:
     return bool(call("lk_is_unicast", addr))
 
 
-def parse_ethernet(text: str) -> bytes:
+def parse_mac(text: str) -> bytes:
     """Parses six groups of 1 or 2 hex digits, all joined by '-' or all by ':'."""
-    return bytes(parsed(c.Hardware(), "lk_parse_ethernet", text))
+    return bytes(parsed(c.Hardware(), "lk_parse_mac", text))
 
 
-def print_ethernet(octets: bytes) -> str:
+def print_mac(octets: bytes) -> str:
     """Prints six pairs of hex digits, joined by '-'."""
-    return written(18, "lk_print_ethernet", octets).decode()
+    return written(18, "lk_print_mac", octets).decode()

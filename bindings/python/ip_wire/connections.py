@@ -54,12 +54,12 @@ class Connection:
     """One end of a TCP connection (RFC 9293), with its timers, congestion control, selective acknowledgements, window scale
     and timestamps. It sends nothing itself: a `Stack` has connections over a device.
 
-    - `max_seg_size` is the largest segment in bytes: the MTU without the IP and TCP header. `keep_alive` is how long a peer
-      may be silent until it is probed, in seconds. `is_eager` turns Nagle's algorithm off, as TCP_NODELAY does.
+    - `mss` is the largest segment in bytes: the MTU without the IP and TCP header. `keep_alive_s` is how long a peer
+      may be silent until it is probed, in seconds. `no_delay` turns Nagle's algorithm off, as TCP_NODELAY does.
     - `outgoing` and `incoming` are the sizes of the buffers, in bytes: at least 1, and less than 2^30.
     - `now` is a clock in milliseconds that never goes back, by default `time.monotonic`. `iss` and `fresh` are initial
       sequence numbers, by default random ones.
-    - What a call returns has to be sent. After each other call, and when the time `due` has come, call `tick` until it
+    - What a call returns has to be sent. After each other call, and when the time `next_timeout` has come, call `tick` until it
       returns None.
 
     Two threads must not use one connection at once.
@@ -68,16 +68,16 @@ class Connection:
     def __init__(
         self,
         *,
-        max_seg_size: int = 1220,
-        keep_alive: int = 7200,
-        is_eager: bool = False,
+        mss: int = 1220,
+        keep_alive_s: int = 7200,
+        no_delay: bool = False,
         outgoing: int = 65536,
         incoming: int = 65536,
     ) -> None:
         self._memory = c.Connection()
         self._outgoing, self._incoming = _ring(outgoing, "outgoing"), _ring(incoming, "incoming")
         self._rings = self._memory, self._outgoing, self._incoming
-        call("lk_connection_init", self._memory, max_seg_size, keep_alive, is_eager)
+        call("lk_connection_init", self._memory, mss, keep_alive_s, no_delay)
 
     def listen(self) -> None:
         """Waits for the SYN of a peer: CLOSED becomes LISTEN. In another state nothing happens."""
@@ -112,7 +112,7 @@ class Connection:
         return call("lk_connection_write", self._memory, self._outgoing, data)
 
     def read(self, size: int = 65536) -> bytes:
-        """The next bytes of the peer, at most `size`. If there are none, `is_ended` tells whether the peer writes no more."""
+        """The next bytes of the peer, at most `size`. If there are none, `at_eof` tells whether the peer writes no more."""
         out = ctypes.create_string_buffer(min(number_of(ctypes.c_size_t, size, "size"), len(self._incoming)))
         length = call("lk_connection_read", self._memory, self._incoming, out)
         return out.raw[:length]
@@ -127,10 +127,10 @@ class Connection:
         return bool(call("lk_connection_too_big", self._memory, seq_number, mss))
 
     @property
-    def due(self) -> Optional[int]:
+    def next_timeout(self) -> Optional[int]:
         """When `tick` has something to do, if no other call comes before. None: never."""
-        due = call("lk_connection_due", self._memory)
-        return None if due == _NEVER else due
+        time = call("lk_connection_next_timeout", self._memory)
+        return None if time == _NEVER else time
 
     @property
     def state(self) -> ConnectionState:
@@ -138,14 +138,14 @@ class Connection:
         return ConnectionState(call("lk_connection_state", self._memory))
 
     @property
-    def is_ended(self) -> bool:
+    def at_eof(self) -> bool:
         """Whether all that the peer wrote was read, and it writes no more."""
-        return bool(call("lk_connection_is_ended", self._memory))
+        return bool(call("lk_connection_at_eof", self._memory))
 
     @property
-    def waiting(self) -> int:
+    def unacked(self) -> int:
         """How much the peer has not acknowledged: each byte that was written counts, and a SYN or FIN too."""
-        return call("lk_connection_waiting", self._memory)
+        return call("lk_connection_unacked", self._memory)
 
     def _stored(self, name: str, *values: Any) -> Optional[Segment]:
         """The segment that a call stores, if it stores one."""
@@ -284,11 +284,11 @@ class Stack:
         """Takes an Ethernet frame that came, and sends what answers it."""
         data = data_of(frame)
         parsed, options = parse_frame_options(data)
-        if self.partial_checksums and parsed.reason is None and parsed.transport_checksum == Verdict.LEFT_TO_DEVICE:
+        if self.partial_checksums and parsed.reason is None and parsed.transport_checksum == Verdict.PARTIAL:
             data = fill_checksum(data)
             parsed, options = parse_frame_options(data)
-        is_right = parsed.transport_checksum == Verdict.RIGHT  # one that is left to a device is wrong, as for the host
-        if is_right and parsed.reason is None and parsed.ipv4_checksum != Verdict.WRONG:
+        is_right = parsed.transport_checksum == Verdict.VALID  # one that is left to a device is wrong, as for the host
+        if is_right and parsed.reason is None and parsed.ipv4_checksum != Verdict.INVALID:
             socket = self._found(parsed)
             if socket is not None and parsed.tcp is not None and options is not None:
                 socket.send(socket.step(Segment(parsed.tcp, options, parsed.payload), self.clock()))
@@ -319,7 +319,7 @@ class Stack:
         for socket in self._sockets:
             socket.send(None)
         self._sockets = [socket for socket in self._sockets if socket.state != ConnectionState.CLOSED]
-        return min((due for due in [socket.due for socket in self._sockets] if due is not None), default=None)
+        return min((due for due in [socket.next_timeout for socket in self._sockets] if due is not None), default=None)
 
     def _found(self, frame: Frame) -> Optional[Socket]:
         """The socket of a segment: that of its endpoints, or one that listens."""

@@ -32,12 +32,12 @@ class Transport(NamedInt):
 class Verdict(NamedInt):
     """What a checksum says."""
 
-    NO_CHECKSUM = 0
-    RIGHT = 1
-    WRONG = 2
-    LEFT_OUT = 3
-    LEFT_TO_DEVICE = 4
-    CHECKSUM_CUT = 5
+    NOT_READ = 0
+    VALID = 1
+    INVALID = 2
+    OMITTED = 3
+    PARTIAL = 4
+    CUT = 5
 
 
 @dataclass(frozen=True)
@@ -117,7 +117,7 @@ class Frame:
 
     def check(self) -> None:
         """Raises Rejected if a header was rejected or a checksum is wrong."""
-        if self.reason is not None or Verdict.WRONG in (self.ipv4_checksum, self.transport_checksum):
+        if self.reason is not None or Verdict.INVALID in (self.ipv4_checksum, self.transport_checksum):
             raise Rejected(self.reason)
 
     def headers(self) -> Headers:
@@ -131,7 +131,7 @@ class Frame:
         """The headers of a reply: addresses and ports are exchanged. The IP header is that of a new packet, with the same
         DSCP. Raises ValueError unless it is an IP packet."""
         frame = to_c(c.Frame, self.headers(), "headers")
-        call("lk_reply", frame)
+        call("lk_make_reply", frame)
         ends = from_c(Endpoint, frame.src), from_c(Endpoint, frame.dst)
         return Headers(from_c(Ethernet, frame.ethernet), *ends, from_c(Ip, frame.ip))
 

@@ -34,15 +34,15 @@ class Rejection(NamedInt):
     NOT_IP = 2
     BAD_HEADER = 3
     WRONG_CHECKSUM = 4
-    EXPIRED = 5
+    HOP_LIMIT_TOO_LOW = 5
     FRAGMENT = 6
     OTHER_PROTOCOL = 7
     BAD_TRANSPORT = 8
-    ZERO_PORT = 9
+    PORT_ZERO = 9
     NO_MAPPING = 10
     NO_FREE_PORT = 11
     MARTIAN = 12
-    NO_ROUTE = 13
+    NO_ROUTE_TO_SOURCE = 13
     OTHER_INTERFACE = 14
 
 
@@ -156,7 +156,7 @@ class Icmp:
 class TcpOptions:
     """The options of a TCP header. A SACK range is from its first number up to the second, without it."""
 
-    max_seg_size: Optional[int] = None
+    mss: Optional[int] = None
     window_scale: Optional[int] = None
     sack_permitted: bool = False
     sack_ranges: Tuple[Tuple[int, int], ...] = ()
@@ -192,7 +192,7 @@ def tcp_header_len(options: TcpOptions) -> int:
 def options_from_c(options: Any) -> TcpOptions:
     """The options in a struct."""
     return TcpOptions(
-        options.max_seg_size if options.has_max_seg_size else None,
+        options.mss if options.has_mss else None,
         options.window_scale if options.has_window_scale else None,
         bool(options.sack_permitted),
         tuple((r.left, r.right) for r in options.sack_ranges[: options.sack_range_count]),

@@ -58,7 +58,7 @@ class Problem(NamedInt):
 
     HOP_LIMIT_EXPIRED = 1
     PACKET_TOO_BIG = 2
-    ROUTE_MISSING = 3
+    NO_ROUTE_TO_DESTINATION = 3
     NEIGHBOUR_MISSING = 4
     PORT_CLOSED = 5
     PROHIBITED = 6
@@ -94,7 +94,7 @@ class Host:
     echo_port: int = 0  # of UDP; 0: none
     tsval: int = 0
     window_len: int = 65535
-    max_seg_size: int = 1220
+    mss: int = 1220
     window_scale: int = 0
     open_udp_ports: Tuple[int, ...] = ()  # packets to them get no reply
     is_router: bool = False  # it forwards packets, and its neighbour advertisements have the flag R

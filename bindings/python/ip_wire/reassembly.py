@@ -24,7 +24,7 @@ class Reassembler:
     def __init__(self, packets: int = 64, longest: int = 65535) -> None:
         count = number_of(ctypes.c_uint16, packets, "packets")
         blocks = (number_of(ctypes.c_uint16, longest, "longest") + 7) // 8
-        self._partials = (c.Partial * count)()
+        self._reassemblies = (c.Reassembly * count)()
         self._memory = ctypes.create_string_buffer(count * blocks * 9)
 
     def reassemble(self, frame: Data, now: Optional[int] = None) -> Optional[bytes]:
@@ -32,14 +32,14 @@ class Reassembler:
         missing. A packet that is not fragmented is returned at once: of IPv4 each, of IPv6 one with an atomic fragment
         header. Fails with LK_PAYLOAD_TOO_LONG, LK_NO_HEADER or LK_DROPPED."""
         data = data_of(frame)
-        return written(_LONGEST_FRAME, "lk_reassemble", self._partials, self._memory, _time(now), data) or None
+        return written(_LONGEST_FRAME, "lk_reassemble", self._reassemblies, self._memory, _time(now), data) or None
 
     def expire(self, now: Optional[int] = None) -> List[bytes]:
         """Frees the packets whose time is over. Returns the frames with their fragments of offset 0, as far as these were
         received: an ICMP error tells their senders (time exceeded, code 1)."""
         found: List[bytes] = []
         out = ctypes.create_string_buffer(_LONGEST_FRAME)
-        while length := call("lk_expire", self._partials, self._memory, _time(now), out):
+        while length := call("lk_expire_reassembly", self._reassemblies, self._memory, _time(now), out):
             found.append(out.raw[:length])
         return found
 

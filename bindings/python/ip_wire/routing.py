@@ -12,7 +12,7 @@ from ipaddress import IPv4Address
 from typing import Any, Iterable, Optional, Tuple
 
 from . import _c as c
-from ._convert import Address, AnyBlock, Data, NamedInt, call, copied, data_of, member_of, number_of, represents, succeeded, to_c
+from ._convert import Address, AnyPrefix, Data, NamedInt, call, copied, data_of, member_of, number_of, represents, succeeded, to_c
 from .addresses import Endpoint
 from .headers import Rejected, Rejection
 
@@ -43,8 +43,8 @@ class Offload(NamedInt):
     COMPLETE = 2
 
 
-def clamp_mss(frame: Data, max_seg_size: int, *, offload: Offload = Offload.GUESS) -> bytes:
-    """The Ethernet frame, where the maximum segment size of a TCP SYN is `max_seg_size` at most. A router does so with each
+def clamp_mss(frame: Data, mss: int, *, offload: Offload = Offload.GUESS) -> bytes:
+    """The Ethernet frame, where the maximum segment size of a TCP SYN is `mss` at most. A router does so with each
     frame that comes in or leaves by a link with a smaller MTU: to the MTU less 40 over IPv4, and less 60 over IPv6.
 
     - Of several such options the last counts. A SYN without one stays as it is.
@@ -53,7 +53,7 @@ def clamp_mss(frame: Data, max_seg_size: int, *, offload: Offload = Offload.GUES
       or has IPv6 extension headers before TCP.
     """
     out = copied(frame)
-    call("lk_clamp_mss_as", out, max_seg_size, member_of(Offload, offload, "offload"))
+    call("lk_clamp_mss_as", out, mss, member_of(Offload, offload, "offload"))
     return bytes(out)
 
 
@@ -63,9 +63,9 @@ def clamp_mss(frame: Data, max_seg_size: int, *, offload: Offload = Offload.GUES
 @represents(c.Route)
 @dataclass(frozen=True)
 class Route:
-    """A route to the addresses of a block. `interface` is a number that the caller chooses."""
+    """A route to the addresses with a prefix. `interface` is a number that the caller chooses."""
 
-    block: AnyBlock
+    prefix: AnyPrefix
     interface: int
     next_hop: Optional[Address] = None  # None: the destinations are on the link
 

@@ -75,8 +75,8 @@ class Sockets(unittest.TestCase):
         for own, peer in (("192.0.2.1:4000", "192.0.2.2:80"), ("[2001:db8::1]:4000", "[2001:db8::2]:80")):
             network, read = Network(0.02), [b"", b""]
             written = [rng.getrandbits(8_000_000).to_bytes(1_000_000, "big") for _ in range(2)]
-            server = network.stacks[1].listen(80, outgoing=100_000, max_seg_size=1440)
-            client = network.stacks[0].connect(headers(own, peer), incoming=50_000, max_seg_size=1440)
+            server = network.stacks[1].listen(80, outgoing=100_000, mss=1440)
+            client = network.stacks[0].connect(headers(own, peer), incoming=50_000, mss=1440)
             left = [*written]
 
             def work():
@@ -91,8 +91,8 @@ class Sockets(unittest.TestCase):
 
             network.run(work)
             self.assertEqual((server.headers.dst, server.headers.ethernet.dst), (ip_wire.parse_endpoint(own), CLIENT))
-            self.assertTrue(read == written[::-1] and client.is_ended and server.is_ended)
-            self.assertEqual([client.state, server.state, client.due], [ConnectionState.CLOSED, ConnectionState.CLOSED, None])
+            self.assertTrue(read == written[::-1] and client.at_eof and server.at_eof)
+            self.assertEqual([client.state, server.state, client.next_timeout], [ConnectionState.CLOSED, ConnectionState.CLOSED, None])
             self.assertEqual({stack.send_error.errno for stack in network.stacks}, {errno.ENOBUFS})
 
     def test_frames_that_are_not_sent(self):
@@ -117,7 +117,7 @@ class Sockets(unittest.TestCase):
         failing.append(BlockingIOError(errno.EAGAIN, "Resource temporarily unavailable"))
         self.assertEqual((server.read(1500), failing), (b"x" * 1500, []))
         network.run()
-        self.assertEqual((server.read(), client.waiting), (b"x" * 500, 0))
+        self.assertEqual((server.read(), client.unacked), (b"x" * 500, 0))
         self.assertEqual([stack.send_error.errno for stack in network.stacks], [errno.ENOBUFS, errno.EAGAIN])
 
     def test_old_routers(self):
@@ -125,8 +125,8 @@ class Sockets(unittest.TestCase):
         for told in (0, 20, 39, 68, 300, 575):
             network, sockets = Network(0, mtu=300, told=told), []
             for port in (80, 81):
-                server = network.stacks[1].listen(port, max_seg_size=1460)
-                client = network.stacks[0].connect(headers(f"192.0.2.1:{port}", f"192.0.2.2:{port}"), max_seg_size=1460)
+                server = network.stacks[1].listen(port, mss=1460)
+                client = network.stacks[0].connect(headers(f"192.0.2.1:{port}", f"192.0.2.2:{port}"), mss=1460)
                 sockets.append((client, server))
             network.run()
             for client, _ in sockets:
@@ -168,18 +168,18 @@ class Sockets(unittest.TestCase):
 
 class Connections(unittest.TestCase):
     def test_calls(self):
-        client, server = Connection(is_eager=True), Connection()
+        client, server = Connection(no_delay=True), Connection()
         server.listen()
-        self.assertEqual((server.state, server.write(b"a"), server.read(), server.due), (ConnectionState.LISTEN, 0, b"", None))
+        self.assertEqual((server.state, server.write(b"a"), server.read(), server.next_timeout), (ConnectionState.LISTEN, 0, b"", None))
         syn = client.connect(0, 5)
-        self.assertEqual((syn.tcp.seq_number, syn.tcp.flags, syn.options.max_seg_size), (5, TcpFlag.SYN, 1220))
-        self.assertEqual((client.waiting, client.due, client.connect(0)), (1, 1000, None))  # RFC 6298, section 2
+        self.assertEqual((syn.tcp.seq_number, syn.tcp.flags, syn.options.mss), (5, TcpFlag.SYN, 1220))
+        self.assertEqual((client.unacked, client.next_timeout, client.connect(0)), (1, 1000, None))  # RFC 6298, section 2
         answer = server.step(syn, 0, 9)
         self.assertEqual((answer.tcp.seq_number, answer.tcp.ack_number), (9, 6))
         self.assertIsNone(server.step(client.step(answer, 0), 0))
         self.assertEqual(client.write(b"ping"), 4)
         self.assertIsNone(server.step(client.tick(0), 0))
-        self.assertEqual((server.read(3), server.read(), server.is_ended), (b"pin", b"g", False))
+        self.assertEqual((server.read(3), server.read(), server.at_eof), (b"pin", b"g", False))
         self.assertEqual(client.abort().tcp.flags & TcpFlag.RST, TcpFlag.RST)
         self.assertEqual(client.state, ConnectionState.CLOSED)
         reset = client.step(Segment(Tcp(1, flags=TcpFlag.SYN)), 0)

@@ -71,7 +71,7 @@ class Reading(unittest.TestCase):
             self.assertEqual((frame.src, frame.dst, frame.payload), (headers.src, headers.dst, b"ping"))
             self.assertEqual((frame.ethernet.src, frame.ethernet.dst), (CLIENT, SERVER))
             self.assertEqual((frame.ip.protocol, frame.ip.hop_limit, frame.headers().src), (17, 64, headers.src))
-            self.assertEqual((frame.tcp, frame.arp, frame.transport_checksum), (None, None, Verdict.RIGHT))
+            self.assertEqual((frame.tcp, frame.arp, frame.transport_checksum), (None, None, Verdict.VALID))
             self.assertEqual(ip_wire.parse_packet(bytearray(data[14:])).payload, b"ping")
             self.assertIsNone(ip_wire.parse_packet(memoryview(data)[14:]).ethernet)
 
@@ -109,7 +109,7 @@ class Reading(unittest.TestCase):
             frame = ip_wire.parse_frame(data)
             frame.check()
             self.assertEqual((frame.transport, frame.icmp, frame.payload), (Transport.ICMP, echo, b"data"))
-            self.assertEqual((frame.ip.protocol, frame.tcp, frame.transport_checksum), (protocol, None, Verdict.RIGHT))
+            self.assertEqual((frame.ip.protocol, frame.tcp, frame.transport_checksum), (protocol, None, Verdict.VALID))
             self.assertEqual((frame.src.port, frame.payload_offset), (0, frame.transport_offset + 8))
             with self.assertRaises(Rejected):
                 ip_wire.parse_frame(data[:-1] + b"b").check()
@@ -124,7 +124,7 @@ class Reading(unittest.TestCase):
             self.assertEqual((quoted.ethernet, quoted.network, quoted.parse_quoted()), (None, frame.network, None))
             quoted = ip_wire.parse_captured(data[:-4], sys.maxsize).parse_quoted()
             self.assertEqual((quoted.dst.port, quoted.payload, quoted.payload_len), (5353, b"", 4))
-            self.assertEqual(quoted.transport_checksum, Verdict.CHECKSUM_CUT)
+            self.assertEqual(quoted.transport_checksum, Verdict.CUT)
             others = (bytes([*data[:place], kind, *data[place + 1 :]]) for kind in range(256))
             errors = [kind for kind, other in enumerate(others) if ip_wire.parse_frame(other).parse_quoted()]
             self.assertEqual(errors, [3, 4, 5, 11, 12] if place == 34 else list(range(128)))
@@ -159,7 +159,7 @@ class Reading(unittest.TestCase):
         data = ip_wire.emit_udp(IPV4, b"ping")
         frame = ip_wire.parse_captured(data[:44], len(data))
         self.assertEqual((frame.payload, frame.payload_len), (b"pi", 4))
-        self.assertEqual(frame.transport_checksum, Verdict.CHECKSUM_CUT)
+        self.assertEqual(frame.transport_checksum, Verdict.CUT)
         self.assertEqual(ip_wire.parse_captured(data[:41], len(data)).reason, Reason.HEADER_CUT)
         packet = ip_wire.parse_captured(data[14:43], len(data) - 14, is_packet=True)
         self.assertEqual((packet.payload, packet.ethernet), (b"p", None))
@@ -221,7 +221,7 @@ class Values(unittest.TestCase):
             text,
             "Frame(reason=<Reason.TOO_SHORT: 1>, ethernet=None, network=None, arp=None, ip=None, src=None, dst=None, "
             "protocol=None, is_fragment=False, transport=None, rejected=None, tcp=None, tcp_header=b'', icmp=None, "
-            "ipv4_checksum=<Verdict.NO_CHECKSUM: 0>, transport_checksum=<Verdict.NO_CHECKSUM: 0>, network_offset=None, "
+            "ipv4_checksum=<Verdict.NOT_READ: 0>, transport_checksum=<Verdict.NOT_READ: 0>, network_offset=None, "
             "transport_offset=None, payload_offset=0, payload_len=5)",
         )
 
@@ -270,7 +270,7 @@ class Writing(unittest.TestCase):
     def test_failures(self):
         cases = [
             (replace(IPV4, dst=IPV6.dst), b"", "LK_TWO_VERSIONS"),
-            (replace(IPV4, dst=Endpoint(IPV4.dst.addr, 0)), b"", "LK_NO_PORT"),
+            (replace(IPV4, dst=Endpoint(IPV4.dst.addr, 0)), b"", "LK_EMIT_PORT_ZERO"),
             (replace(IPV4, ip=Ip(hop_limit=0)), b"", "LK_NO_HOP_LIMIT"),
             (replace(IPV4, ip=Ip(ecn=4)), b"", "LK_BAD_FIELD"),
             (IPV4, bytes(65508), "LK_PAYLOAD_TOO_LONG"),
@@ -297,7 +297,7 @@ class Writing(unittest.TestCase):
         self.assertRaises(TypeError, ip_wire.parse_frame, 5)
 
     def test_host(self):
-        host = Host(SERVER, IPv4Address("192.0.2.2"), IPv6Address("2001:db8::2"), 99, (80, 443), 7, max_seg_size=1400)
+        host = Host(SERVER, IPv4Address("192.0.2.2"), IPv6Address("2001:db8::2"), 99, (80, 443), 7, mss=1400)
         echo = ip_wire.parse_frame(host.answer(ip_wire.emit_udp(IPV6, b"ping")))
         self.assertEqual((echo.payload, echo.dst), (b"ping", IPV6.src))
         for port, flags in [(443, TcpFlag.SYN | TcpFlag.ACK), (22, TcpFlag.RST | TcpFlag.ACK)]:
@@ -345,7 +345,7 @@ class Writing(unittest.TestCase):
     def test_errors(self):
         own = Interface(SERVER, IPv4Address("192.0.2.254"))
         packet = ip_wire.emit_udp(IPV4, b"ping")
-        for problem, code, mtu in [(Problem.ROUTE_MISSING, 0, 0), (Problem.NEIGHBOUR_MISSING, 1, 0),
+        for problem, code, mtu in [(Problem.NO_ROUTE_TO_DESTINATION, 0, 0), (Problem.NEIGHBOUR_MISSING, 1, 0),
                                    (Problem.PORT_CLOSED, 3, 0), (Problem.PACKET_TOO_BIG, 4, 30),
                                    (Problem.PROHIBITED, 13, 0)]:  # fmt: skip
             error = ip_wire.parse_frame(own.emit_error(problem, packet, mtu))
@@ -357,7 +357,7 @@ class Writing(unittest.TestCase):
         self.assertEqual((error.icmp, len(error.data)), (Icmp(11), 14 + 576))
         self.assertIsNone(own.emit_error(Problem.HOP_LIMIT_EXPIRED, packet))
         self.assertIsNone(own.emit_error(Problem.PACKET_TOO_BIG, packet, 32))
-        self.assertIsNone(own.emit_error(Problem.ROUTE_MISSING, ip_wire.emit_udp(IPV6, b"ping")))
+        self.assertIsNone(own.emit_error(Problem.NO_ROUTE_TO_DESTINATION, ip_wire.emit_udp(IPV6, b"ping")))
         self.assertRaises(ValueError, own.emit_error, Problem.PACKET_TOO_BIG, packet, -1)
 
     def test_rebuild(self):

@@ -28,7 +28,7 @@ class Forwarding(Case):
                 before = model.udp_frame(src, dst, b"data", hops)
                 after = NEXT[1] + NEXT[0] + model.udp_frame(src, dst, b"data", hops - 1)[12:]
                 self.assertEqual(ip_wire.forward(before + b"\0", *NEXT), after + b"\0")
-            self.rejects(Rejection.EXPIRED, ip_wire.forward, model.udp_frame(src, dst, b"", 1), *NEXT)
+            self.rejects(Rejection.HOP_LIMIT_TOO_LOW, ip_wire.forward, model.udp_frame(src, dst, b"", 1), *NEXT)
         wrong = bytearray(model.udp_frame(*ENDS[0], b""))
         wrong[24] ^= 1
         for data, rejection in [(b"", Rejection.NOT_IP), (CLIENT + SERVER + b"\x08\x06" + bytes(28), Rejection.NOT_IP),
@@ -72,7 +72,7 @@ class Forwarding(Case):
             ("10.1.2.3", 1, None),
             ("2001:db8::1", 2, None),
             ("10.1.2.3", 2, Rejection.OTHER_INTERFACE),
-            ("192.0.3.1", 1, Rejection.NO_ROUTE),
+            ("192.0.3.1", 1, Rejection.NO_ROUTE_TO_SOURCE),
             ("127.0.0.1", 1, Rejection.MARTIAN),  # RFC 1122, section 3.2.1.3
             ("255.255.255.255", 1, Rejection.MARTIAN),
             ("::1", 1, Rejection.MARTIAN),  # RFC 4291, section 2.5.3
@@ -98,7 +98,7 @@ class Translating(Case):
         udp = model.udp_frame(INSIDE, REMOTE, b"data")
         for frame, to, rejection in [
             (udp, end("::1", 1), Rejection.NO_IPV4),
-            (udp, end("203.0.113.9", 0), Rejection.ZERO_PORT),
+            (udp, end("203.0.113.9", 0), Rejection.PORT_ZERO),
             (udp[:-1] + b"b", OUTSIDE, Rejection.BAD_TRANSPORT),
             (model.frame(model.ip(INSIDE[0], REMOTE[0], 47, b"data")), OUTSIDE, Rejection.OTHER_PROTOCOL),
             (model.udp_frame(*ENDS[1], b""), OUTSIDE, Rejection.NOT_IP),
@@ -142,7 +142,7 @@ class Translating(Case):
             with self.subTest(settings):
                 self.assertRaises(error, lambda: Nat(**{"outside": IPv4Address("203.0.113.9"), **settings}))
         self.assertRaises(TypeError, Routes, [None])
-        self.assertRaisesRegex(WireError, "LK_NO_VERSION", Routes, [Route(ip_wire._c.Block(), 1)])
+        self.assertRaisesRegex(WireError, "LK_NO_VERSION", Routes, [Route(ip_wire._c.Prefix(), 1)])
 
 
 if __name__ == "__main__":

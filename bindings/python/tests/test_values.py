@@ -22,6 +22,11 @@ HEADERS = [os.path.join(TOP, folder, "ip_wire.h") for folder in ("c", "include")
 HEADER = os.environ.get("IP_WIRE_HEADER") or next(filter(os.path.exists, HEADERS), HEADERS[0])
 
 
+def own_name(name):
+    """The name of a number in its enum of the package. Those of C have a prefix, because all enums are beside each other."""
+    return re.sub("^(LK_)?((CHECKSUM|NAT)_(?=[A-Z]))?", "", name)
+
+
 class Declarations(unittest.TestCase):
     """The numbers are those of ip_wire.h."""
 
@@ -46,12 +51,12 @@ class Declarations(unittest.TestCase):
                  "lk_side": (Side, 0), "lk_offload": (Offload, 0), "lk_connection_state": (ConnectionState, 0)}  # fmt: skip
         for name, (enum, first) in enums.items():
             words = re.findall(r"LK_(\w+)", re.search(rf"enum {name} {{(.*?)}}", self.header, re.S).group(1))
-            self.assertEqual([member.name for member in enum], words[first:])
+            self.assertEqual([member.name for member in enum], [own_name(word) for word in words[first:]])
             self.assertEqual([member.value for member in enum], list(range(first, len(words))))
         flags = re.findall(r"LK_(\w+) = (\d+)", re.search("enum lk_tcp_flag {(.*?)}", self.header, re.S).group(1))
         self.assertEqual([(member.name, str(member.value)) for member in TcpFlag], flags)
         for enum, name_of in [(Reason, c.library.lk_reason_name), (Rejection, c.library.lk_rejection_name)]:
-            self.assertEqual([name_of(member) for member in enum], [b"LK_" + member.name.encode() for member in enum])
+            self.assertEqual([own_name(name_of(member).decode()) for member in enum], [member.name for member in enum])
         self.assertEqual([c.library.lk_tcp_flag_name(flag) for flag in TcpFlag], [flag.name.encode() for flag in TcpFlag])
         self.assertEqual(set(ip_wire.__all__), {name for name in vars(ip_wire) if name in ip_wire.__all__})
 
@@ -63,7 +68,7 @@ class Texts(unittest.TestCase):
             self.assertEqual((ip_wire.parse_addr(text), ip_wire.print_addr(addr)), (addr, text))
             self.assertEqual(ip_wire.parse_endpoint(str(Endpoint(addr, 80))), Endpoint(addr, 80))
             block = ip_interface(text + "/20")
-            self.assertEqual((ip_wire.parse_block(text + "/20"), ip_wire.print_block(block)), (block, text + "/20"))
+            self.assertEqual((ip_wire.parse_prefix(text + "/20"), ip_wire.print_prefix(block)), (block, text + "/20"))
             self.assertEqual(ip_wire.is_multicast(addr), addr.is_multicast)
             others = addr.is_multicast or addr.is_unspecified or addr == IPv4Address("255.255.255.255")
             self.assertEqual(ip_wire.is_unicast(addr), not others)
@@ -83,8 +88,8 @@ class Texts(unittest.TestCase):
 
     def test_ethernet(self):
         octets = bytes.fromhex("abcdef000001")
-        self.assertEqual(ip_wire.parse_ethernet("AB:cd:ef:0:00:1"), octets)
-        self.assertEqual(ip_wire.print_ethernet(bytearray(octets)), "ab-cd-ef-00-00-01")
+        self.assertEqual(ip_wire.parse_mac("AB:cd:ef:0:00:1"), octets)
+        self.assertEqual(ip_wire.print_mac(bytearray(octets)), "ab-cd-ef-00-00-01")
 
     def test_names(self):
         protocols = [(6, "TCP"), (17, "UDP"), (58, "IPv6-ICMP"), (255, "unknown"), (-1, "unknown")]
@@ -103,13 +108,13 @@ class Texts(unittest.TestCase):
         self.assertEqual(str(ip_wire.parse_frame(b"").reason), "TOO_SHORT")
 
     def test_rejected(self):
-        for parse in (ip_wire.parse_addr, ip_wire.parse_endpoint, ip_wire.parse_block, ip_wire.parse_ethernet):
+        for parse in (ip_wire.parse_addr, ip_wire.parse_endpoint, ip_wire.parse_prefix, ip_wire.parse_mac):
             for text in ("", "1.2.3", "::1%lo", "1.2.3.4\0", "\udc80", "10.0.0.0/33"):
                 with self.subTest(text=text):
                     self.assertRaisesRegex(ValueError, "does not parse", parse, text)
 
     def test_blocks(self):
-        block = ip_wire.parse_block("192.0.2.77/24")
+        block = ip_wire.parse_prefix("192.0.2.77/24")
         for addr, is_in in [("192.0.2.255", True), ("192.0.3.0", False), ("::1", False)]:
             self.assertEqual(ip_wire.contains(block, ip_address(addr)), is_in)
             self.assertEqual(ip_wire.contains(ip_network("192.0.2.0/24"), ip_address(addr)), is_in)
@@ -153,9 +158,9 @@ ROUTES, NAT = ip_wire.Routes([]), ip_wire.Nat(ADDR, ports=1)
 CONNECTION, STACK = ip_wire.Connection(), ip_wire.Stack(len, HOST)
 # Of each call good arguments.
 ARGUMENTS = [
-    (ip_wire.parse_addr, "::"), (ip_wire.parse_endpoint, "::"), (ip_wire.parse_block, "::/0"),
-    (ip_wire.parse_ethernet, "1-2-3-4-5-6"), (ip_wire.print_addr, ADDR), (ip_wire.print_block, BLOCK),
-    (ip_wire.print_ethernet, HARDWARE), (ip_wire.contains, BLOCK, ADDR), (ip_wire.is_multicast, ADDR),
+    (ip_wire.parse_addr, "::"), (ip_wire.parse_endpoint, "::"), (ip_wire.parse_prefix, "::/0"),
+    (ip_wire.parse_mac, "1-2-3-4-5-6"), (ip_wire.print_addr, ADDR), (ip_wire.print_prefix, BLOCK),
+    (ip_wire.print_mac, HARDWARE), (ip_wire.contains, BLOCK, ADDR), (ip_wire.is_multicast, ADDR),
     (ip_wire.is_unicast, ADDR), (ip_wire.parse_frame, b""), (ip_wire.parse_packet, b""), (ip_wire.parse_captured, b"", 0),
     (ip_wire.parse_link, 228, b""), (ip_wire.parse_linktype, 1, b""), (ip_wire.parse_frame_options, b""),
     (ip_wire.parse_tcp_options, b""), (ip_wire.tcp_header_len, OPTIONS), (ip_wire.emit_udp, HEADERS, b""),
@@ -168,7 +173,7 @@ ARGUMENTS = [
     (ip_wire.wrap_tcp, HEADERS, Tcp(), OPTIONS, 0, bytearray(114)), (ip_wire.rebuild, bytes(14)),
     (ip_wire.emit_mld_report, HARDWARE, IPV6, IPV6), (ip_wire.parse_mld_query, b"", IPV6),
     (ip_wire.parse_ndisc, b""), (ip_wire.emit_ndisc, HEADERS.ethernet, IPV6, IPV6, Ndisc(IPV6)),
-    (OWN.emit_error, Problem.ROUTE_MISSING, b"", 0), (HOST.answer, b""), (ip_wire.clamp_mss, b"", 0),
+    (OWN.emit_error, Problem.NO_ROUTE_TO_DESTINATION, b"", 0), (HOST.answer, b""), (ip_wire.clamp_mss, b"", 0),
     (ROUTES.choose, ADDR), (NAT.translate_out, b""), (ip_wire.checksum, b""), (ip_wire.update_checksum, 0, 0, 0),
     (ip_wire.update_checksum, 0, ADDR, ADDR), (ip_wire.update_checksum_bytes, 0, 0, b"", b""), (ip_wire.add_seq, 0, 0), (ip_wire.subtract_seq, 0, 0),
     (ip_wire.compare_seq, 0, 0), (ip_wire.forward, b"", HARDWARE, HARDWARE),
@@ -182,7 +187,7 @@ OBJECTS = [
     (HEADERS, lambda it: ip_wire.emit_udp(it, b"")), (Ip(), lambda it: ip_wire.emit_ip_header(it, ADDR, ADDR, 0)),
     (Tcp(), lambda it: ip_wire.emit_tcp(HEADERS, it)), (Icmp(8), lambda it: ip_wire.emit_icmp(HEADERS, it)),
     (Ndisc(IPV6, HARDWARE), lambda it: ip_wire.emit_ndisc(HEADERS.ethernet, IPV6, IPV6, it)),
-    (OWN, lambda it: it.emit_error(Problem.ROUTE_MISSING, b"")), (HOST, lambda it: it.answer(b"")),
+    (OWN, lambda it: it.emit_error(Problem.NO_ROUTE_TO_DESTINATION, b"")), (HOST, lambda it: it.answer(b"")),
     (ip_wire.Route(BLOCK, 1, ADDR), lambda it: ip_wire.Routes([it])),
 ]  # fmt: skip
 

@@ -1,4 +1,4 @@
-//! Addresses, CIDR blocks and endpoints, and their texts.
+//! Addresses, CIDR prefixes and endpoints, and their texts.
 
 use crate::sys::{self, library, Library};
 use crate::Error;
@@ -152,7 +152,7 @@ impl FromStr for EthernetAddr {
     fn from_str(text: &str) -> Result<Self, ParseError> {
         // SAFETY: the text has `len` bytes, and `octets` has the 6 that are written.
         parse(text, |c, ptr, len, octets: &mut [u8; 6]| unsafe {
-            c.lk_parse_ethernet(ptr, len, octets.as_mut_ptr())
+            c.lk_parse_mac(ptr, len, octets.as_mut_ptr())
         })
         .map(Self)
     }
@@ -161,25 +161,25 @@ impl FromStr for EthernetAddr {
 impl fmt::Display for EthernetAddr {
     fn fmt(&self, f: &mut fmt::Formatter<'_>) -> fmt::Result {
         // SAFETY: there are the 6 bytes that are read, and `cap` bytes at `out`.
-        print::<17>(f, |c, out, cap| unsafe { c.lk_print_ethernet(self.0.as_ptr(), out, cap) })
+        print::<17>(f, |c, out, cap| unsafe { c.lk_print_mac(self.0.as_ptr(), out, cap) })
     }
 }
 
-/// A CIDR block: the addresses that have the first `prefix_len` bits of `addr`.
+/// A prefix (CIDR block): the addresses that have the first `prefix_len` bits of `addr`.
 ///
 /// ```
-/// let block: ip_wire_c::Block = "10.1.2.3/8".parse().unwrap();
-/// assert!(block.contains("10.255.0.1".parse().unwrap()));
-/// assert_eq!(block.to_string(), "10.1.2.3/8"); // the address keeps all its bits
+/// let prefix: ip_wire_c::Prefix = "10.1.2.3/8".parse().unwrap();
+/// assert!(prefix.contains("10.255.0.1".parse().unwrap()));
+/// assert_eq!(prefix.to_string(), "10.1.2.3/8"); // the address keeps all its bits
 /// ```
 #[derive(Clone, Copy, Debug, PartialEq, Eq, Hash)]
-pub struct Block {
+pub struct Prefix {
     addr: IpAddr,
     prefix_len: u8,
 }
 
-impl Block {
-    /// The block of this address and prefix length.
+impl Prefix {
+    /// The prefix of this address and prefix length.
     ///
     /// # Errors
     ///
@@ -204,7 +204,7 @@ impl Block {
         self.prefix_len
     }
 
-    /// Whether the address is in the block. No address is in a block of the other version.
+    /// Whether the address is in the prefix. No address is in a prefix of the other version.
     #[must_use]
     pub fn contains(&self, addr: IpAddr) -> bool {
         // SAFETY: the call reads only both values.
@@ -212,25 +212,25 @@ impl Block {
     }
 }
 
-impl From<Block> for sys::Block {
-    fn from(block: Block) -> Self {
-        Self { addr: block.addr.into(), prefix_len: block.prefix_len.into() }
+impl From<Prefix> for sys::Prefix {
+    fn from(prefix: Prefix) -> Self {
+        Self { addr: prefix.addr.into(), prefix_len: prefix.prefix_len.into() }
     }
 }
 
-impl sys::Block {
-    /// The block, if it has an address and its prefix is not too long.
-    pub fn block(&self) -> Option<Block> {
-        Block::new(self.addr.ip()?, self.prefix_len.try_into().ok()?).ok()
+impl sys::Prefix {
+    /// The prefix, if it has an address and its prefix is not too long.
+    pub fn prefix(&self) -> Option<Prefix> {
+        Prefix::new(self.addr.ip()?, self.prefix_len.try_into().ok()?).ok()
     }
 
-    /// The block of a value that was made from one.
-    pub fn valid(&self) -> Block {
-        self.block().expect("an address and its prefix")
+    /// The prefix of a value that was made from one.
+    pub fn valid(&self) -> Prefix {
+        self.prefix().expect("an address and its prefix")
     }
 }
 
-impl TryFrom<(IpAddr, u8)> for Block {
+impl TryFrom<(IpAddr, u8)> for Prefix {
     type Error = Error;
 
     fn try_from((addr, prefix_len): (IpAddr, u8)) -> Result<Self, Error> {
@@ -238,20 +238,20 @@ impl TryFrom<(IpAddr, u8)> for Block {
     }
 }
 
-impl FromStr for Block {
+impl FromStr for Prefix {
     type Err = ParseError;
 
     fn from_str(text: &str) -> Result<Self, ParseError> {
-        // SAFETY: the text has `len` bytes, and only `block` is written.
-        let block: sys::Block =
-            parse(text, |c, ptr, len, block| unsafe { c.lk_parse_block(ptr, len, block) })?;
-        block.block().ok_or(ParseError)
+        // SAFETY: the text has `len` bytes, and only `prefix` is written.
+        let prefix: sys::Prefix =
+            parse(text, |c, ptr, len, prefix| unsafe { c.lk_parse_prefix(ptr, len, prefix) })?;
+        prefix.prefix().ok_or(ParseError)
     }
 }
 
-impl fmt::Display for Block {
+impl fmt::Display for Prefix {
     fn fmt(&self, f: &mut fmt::Formatter<'_>) -> fmt::Result {
-        // SAFETY: the call reads only the block, and there are `cap` bytes at `out`.
-        print::<43>(f, |c, out, cap| unsafe { c.lk_print_block(&(*self).into(), out, cap) })
+        // SAFETY: the call reads only the prefix, and there are `cap` bytes at `out`.
+        print::<43>(f, |c, out, cap| unsafe { c.lk_print_prefix(&(*self).into(), out, cap) })
     }
 }

@@ -12,17 +12,17 @@ use core::time::Duration;
 pub struct ConnectionConfig {
     /// The largest segment that it takes and sends, in bytes: the MTU without the IP and TCP header, 1460 for IPv4 over
     /// Ethernet and 1440 for IPv6. 0 is 536.
-    pub max_seg_size: u16,
+    pub mss: u16,
     /// How long a peer may be silent until it is probed, in whole seconds, at least 1.
     pub keep_alive: Duration,
     /// Whether small segments go at once, as with `TCP_NODELAY`: Nagle's algorithm is off.
-    pub is_eager: bool,
+    pub no_delay: bool,
 }
 
 impl Default for ConnectionConfig {
     /// Segments of 1220 bytes, which fit each MTU of IPv6; probes after two hours; Nagle's algorithm.
     fn default() -> Self {
-        Self { max_seg_size: 1220, keep_alive: Duration::from_secs(7200), is_eager: false }
+        Self { mss: 1220, keep_alive: Duration::from_secs(7200), no_delay: false }
     }
 }
 
@@ -62,7 +62,7 @@ impl<'a> Segment<'a> {
 /// least 1 byte. At most the first 2^30 - 1 bytes of each are used.
 ///
 /// - `now` is the time since a fixed moment, and never goes back.
-/// - What a call returns has to be sent. After each other call, and when the time of [`due`](Self::due) has come, call
+/// - What a call returns has to be sent. After each other call, and when the time of [`next_timeout`](Self::next_timeout) has come, call
 ///   [`tick`](Self::tick) until it returns `None`.
 ///
 /// ```
@@ -109,9 +109,9 @@ impl<M: AsMut<[u8]>> Connection<M> {
         unsafe {
             library().lk_connection_init(
                 &mut fields,
-                config.max_seg_size,
+                config.mss,
                 u32::try_from(seconds).unwrap_or(u32::MAX),
-                config.is_eager.into(),
+                config.no_delay.into(),
             );
         }
         Self { fields, outgoing, incoming }
@@ -177,7 +177,7 @@ impl<M: AsMut<[u8]>> Connection<M> {
     }
 
     /// Copies the next bytes of the peer to the beginning of `out`, and returns how many. 0: none is there yet, or the peer
-    /// writes no more ([`is_ended`](Self::is_ended)).
+    /// writes no more ([`at_eof`](Self::at_eof)).
     pub fn read(&mut self, out: &mut [u8]) -> usize {
         let ring = ring(&mut self.incoming);
         // SAFETY: the ring and `out` have these lengths, and only `out` and `fields` are written.
@@ -202,9 +202,9 @@ impl<M: AsMut<[u8]>> Connection<M> {
 
     /// When [`tick`](Self::tick) has something to do, if no other call comes before. `None`: never.
     #[must_use]
-    pub fn due(&self) -> Option<Duration> {
+    pub fn next_timeout(&self) -> Option<Duration> {
         // SAFETY: the call only reads `fields`.
-        let due = unsafe { library().lk_connection_due(&self.fields) };
+        let due = unsafe { library().lk_connection_next_timeout(&self.fields) };
         (due != u64::MAX).then(|| Duration::from_millis(due))
     }
 
@@ -218,16 +218,16 @@ impl<M: AsMut<[u8]>> Connection<M> {
 
     /// Whether all that the peer wrote was read, and it writes no more.
     #[must_use]
-    pub fn is_ended(&self) -> bool {
+    pub fn at_eof(&self) -> bool {
         // SAFETY: the call only reads `fields`.
-        unsafe { library().lk_connection_is_ended(&self.fields) != 0 }
+        unsafe { library().lk_connection_at_eof(&self.fields) != 0 }
     }
 
     /// How much the peer has not acknowledged: each byte that was written counts, and a SYN or FIN too.
     #[must_use]
-    pub fn waiting(&self) -> usize {
+    pub fn unacked(&self) -> usize {
         // SAFETY: the call only reads `fields`.
-        unsafe { library().lk_connection_waiting(&self.fields) }
+        unsafe { library().lk_connection_unacked(&self.fields) }
     }
 
     /// An ICMP error says that the segment with this number, which it quotes, was too big (RFC 1191, RFC 8201). `mss` is

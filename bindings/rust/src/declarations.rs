@@ -18,7 +18,7 @@ structs! {
     }
 
     #[derive(Default)]
-    struct Block {
+    struct Prefix {
         addr: Addr,
         prefix_len: u16,
     }
@@ -71,11 +71,11 @@ structs! {
         sack_ranges: [SackRange; 4],
         tsval: u32,
         tsecr: u32,
-        max_seg_size: u16,
+        mss: u16,
         window_scale: u8,
         sack_permitted: u8,
         sack_range_count: u8,
-        has_max_seg_size: u8,
+        has_mss: u8,
         has_window_scale: u8,
         has_timestamp: u8,
     }
@@ -158,7 +158,7 @@ structs! {
         seq_number: u32,
         tsval: u32,
         window_len: u16,
-        max_seg_size: u16,
+        mss: u16,
         window_scale: u8,
         is_router: u8,
     }
@@ -170,7 +170,7 @@ structs! {
         hardware: [u8; 6],
     }
 
-    struct Partial {
+    struct Reassembly {
         expires: u64,
         ident: u32,
         version: u8,
@@ -191,7 +191,7 @@ structs! {
 
     #[derive(Default)]
     struct Route {
-        block: Block,
+        prefix: Prefix,
         next_hop: Addr,
         interface: u16,
     }
@@ -246,12 +246,12 @@ structs! {
 
 calls! {
     fn lk_parse_addr(text: *const c_char, len: usize, addr: &mut Addr) -> c_int;
-    fn lk_parse_block(text: *const c_char, len: usize, block: &mut Block) -> c_int;
-    fn lk_print_block(block: &Block, out: *mut c_char, cap: usize) -> isize;
-    fn lk_contains(block: &Block, addr: &Addr) -> c_int;
+    fn lk_parse_prefix(text: *const c_char, len: usize, prefix: &mut Prefix) -> c_int;
+    fn lk_print_prefix(prefix: &Prefix, out: *mut c_char, cap: usize) -> isize;
+    fn lk_contains(prefix: &Prefix, addr: &Addr) -> c_int;
     fn lk_parse_endpoint(text: *const c_char, len: usize, endpoint: &mut Endpoint) -> c_int;
-    fn lk_parse_ethernet(text: *const c_char, len: usize, octets: *mut u8) -> c_int;
-    fn lk_print_ethernet(octets: *const u8, out: *mut c_char, cap: usize) -> isize;
+    fn lk_parse_mac(text: *const c_char, len: usize, octets: *mut u8) -> c_int;
+    fn lk_print_mac(octets: *const u8, out: *mut c_char, cap: usize) -> isize;
     fn lk_is_unicast(addr: &Addr) -> c_int;
     fn lk_read_frame(ptr: *const u8, len: usize, frame: &mut Frame) -> c_int;
     fn lk_read_packet(ptr: *const u8, len: usize, frame: &mut Frame) -> c_int;
@@ -266,7 +266,7 @@ calls! {
     fn lk_read_tcp_options(ptr: *const u8, len: usize, options: &mut TcpOptions) -> c_int;
     fn lk_read_frame_options(ptr: *const u8, len: usize, frame: &mut Frame, options: &mut TcpOptions) -> c_int;
     fn lk_next_tcp_option(ptr: *const u8, len: usize, option: &mut TcpOption) -> c_int;
-    fn lk_reply(frame: &mut Frame);
+    fn lk_make_reply(frame: &mut Frame);
     fn lk_emit_udp_frame(headers: &Frame, ptr: *const u8, len: usize, out: *mut u8, cap: usize) -> isize;
     fn lk_emit_tcp_frame(
         headers: &Frame, options: &TcpOptions, ptr: *const u8, len: usize, out: *mut u8, cap: usize
@@ -316,17 +316,18 @@ calls! {
     ) -> isize;
     fn lk_forward(frame: *mut u8, len: usize, src: *const u8, dst: *const u8) -> c_int;
     fn lk_translate(frame: *mut u8, len: usize, side: c_int, end: &Endpoint) -> c_int;
-    fn lk_clamp_mss(frame: *mut u8, len: usize, max_seg_size: u16) -> c_int;
-    fn lk_clamp_mss_as(frame: *mut u8, len: usize, max_seg_size: u16, offload: c_int) -> c_int;
+    fn lk_clamp_mss(frame: *mut u8, len: usize, mss: u16) -> c_int;
+    fn lk_clamp_mss_as(frame: *mut u8, len: usize, mss: u16, offload: c_int) -> c_int;
     fn lk_fragment(
         frame: *const u8, len: usize, mtu: usize, ident: i64, number: usize, out: *mut u8, cap: usize
     ) -> isize;
     fn lk_reassemble(
-        partials: *mut Partial, count: usize, memory: *mut u8, memory_len: usize, now: u64, frame: *const u8,
+        reassemblies: *mut Reassembly, count: usize, memory: *mut u8, memory_len: usize, now: u64, frame: *const u8,
         len: usize, out: *mut u8, cap: usize
     ) -> isize;
-    fn lk_expire(
-        partials: *mut Partial, count: usize, memory: *const u8, memory_len: usize, now: u64, out: *mut u8, cap: usize
+    fn lk_expire_reassembly(
+        reassemblies: *mut Reassembly, count: usize, memory: *const u8, memory_len: usize, now: u64, out: *mut u8,
+        cap: usize
     ) -> usize;
     fn lk_set_hop_limit(frame: *mut u8, len: usize, hop_limit: u8) -> c_int;
     fn lk_set_dscp(frame: *mut u8, len: usize, dscp: u8) -> c_int;
@@ -351,7 +352,7 @@ calls! {
     fn lk_translate_out(nat: &Nat, mappings: *mut Mapping, count: usize, now: u64, frame: *mut u8, len: usize) -> c_int;
     fn lk_translate_in(nat: &Nat, mappings: *mut Mapping, count: usize, now: u64, frame: *mut u8, len: usize) -> c_int;
     fn lk_shrink_reach(nat: &Nat, mappings: *mut Mapping, count: usize, now: u64);
-    fn lk_connection_init(connection: &mut Connection, mss: u16, keep_alive: u32, is_eager: c_int);
+    fn lk_connection_init(connection: &mut Connection, mss: u16, keep_alive_s: u32, no_delay: c_int);
     fn lk_connection_listen(connection: &mut Connection);
     fn lk_connection_connect(
         connection: &mut Connection, outgoing: *const u8, outgoing_len: usize, incoming: *mut u8, incoming_len: usize,
@@ -373,9 +374,9 @@ calls! {
     fn lk_connection_read(
         connection: &mut Connection, incoming: *const u8, incoming_len: usize, out: *mut u8, cap: usize
     ) -> isize;
-    fn lk_connection_due(connection: &Connection) -> u64;
+    fn lk_connection_next_timeout(connection: &Connection) -> u64;
     fn lk_connection_state(connection: &Connection) -> c_int;
-    fn lk_connection_is_ended(connection: &Connection) -> c_int;
-    fn lk_connection_waiting(connection: &Connection) -> usize;
+    fn lk_connection_at_eof(connection: &Connection) -> c_int;
+    fn lk_connection_unacked(connection: &Connection) -> usize;
     fn lk_connection_too_big(connection: &mut Connection, seq_number: u32, mss: u16) -> c_int;
 }

@@ -5,7 +5,7 @@
 //!
 //! - A valid checksum stays valid, and a wrong one stays wrong. UDP's 0 over IPv4 stays 0. The exception is an ICMP
 //!   message whose other bytes are all 0.
-//! - A TCP or UDP checksum that is [left to the device](crate::Verdict::LeftToDevice) stays so: an address changes it, as
+//! - A TCP or UDP checksum that is [left to the device](crate::Verdict::Partial) stays so: an address changes it, as
 //!   part of the pseudo-header, and nothing else does. The calls guess which it is ([`Offload::Guess`]). To those with
 //!   `_as` the caller says it.
 //! - The IP header must be one that [`Frame::parse`](crate::Frame::parse) does not reject. The TCP, UDP or ICMP header
@@ -31,7 +31,7 @@
 //!
 //! let frame = Frame::parse(bytes);
 //! assert_eq!(frame.src(), "203.0.113.9:5353".parse().ok());
-//! assert_eq!(frame.transport_checksum(), Some(Verdict::Right));
+//! assert_eq!(frame.transport_checksum(), Some(Verdict::Valid));
 //! # Ok::<(), std::net::AddrParseError>(())
 //! ```
 
@@ -122,7 +122,7 @@ pub fn set_bytes_as(frame: &mut [u8], offset: usize, bytes: &[u8], offload: Offl
 }
 
 /// Computes the TCP, UDP, ICMP or `ICMPv6` checksum anew, as a device does for
-/// [`LeftToDevice`](crate::Verdict::LeftToDevice), also where UDP has none. Returns `false` for fragments other than atomic
+/// [`Partial`](crate::Verdict::Partial), also where UDP has none. Returns `false` for fragments other than atomic
 /// ones, and for UDP whose length does not fit.
 ///
 /// If an IPv4 source route has hops left, the result covers the next hop, and the last receiver rejects it.

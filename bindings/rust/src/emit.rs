@@ -22,7 +22,7 @@ impl Headers {
     /// # Errors
     ///
     /// - [`Error::TwoVersions`]
-    /// - [`Error::NoPort`]: the destination port is 0.
+    /// - [`Error::PortZero`]: the destination port is 0.
     /// - [`Error::NoHopLimit`]
     /// - [`Error::BadField`]: a field of `ip` has more bits than the header, or says that this is a fragment.
     /// - [`Error::PayloadTooLong`]: more than 65507 bytes over IPv4, or 65527 over IPv6.
@@ -52,7 +52,7 @@ impl Headers {
     ///
     /// # Errors
     ///
-    /// Those of [`Headers::emit_udp`], also [`Error::NoPort`] for a source port of 0. Header and payload have at most
+    /// Those of [`Headers::emit_udp`], also [`Error::PortZero`] for a source port of 0. Header and payload have at most
     /// 65515 bytes over IPv4, 65535 over IPv6. Also [`Error::TwoControls`] and [`Error::OptionsTooLong`].
     pub fn emit_tcp<'o>(
         &self,
@@ -72,7 +72,7 @@ impl Headers {
     ///
     /// # Errors
     ///
-    /// Those of [`Headers::emit_udp`], but no [`Error::NoPort`].
+    /// Those of [`Headers::emit_udp`], but no [`Error::PortZero`].
     pub fn emit_icmp<'o>(
         &self,
         icmp: &Icmp,

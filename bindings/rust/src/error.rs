@@ -38,7 +38,7 @@ numbered! {
         NoVersion: "an address has another version than the call can write",
         TwoVersions: "one address is IPv4, the other IPv6",
         BadPrefix: "the prefix length is above 32 for IPv4, or above 128 for IPv6",
-        NoPort: "a port is 0 that a receiver rejects",
+        PortZero: "a port is 0 that a receiver rejects",
         NoHopLimit: "the hop limit is 0",
         BadField: "a field of the IP header has a value that this header has no place for",
         TwoControls: "more than one of SYN, FIN and RST is set",
@@ -87,15 +87,15 @@ numbered! {
         NotIp: "the frame has no IPv4 or IPv6 packet, or for NAT no IPv4 packet",
         BadHeader: "the version of the IP header does not match the EtherType, or its lengths do not fit",
         WrongChecksum: "the checksum of the IPv4 header is wrong",
-        Expired: "the hop limit is 0 or 1",
+        HopLimitTooLow: "the hop limit is 0 or 1",
         Fragment: "the packet is a fragment, which NAT does not translate",
         OtherProtocol: "the packet has no UDP, no TCP and no ICMP message that is translated",
         BadTransport: "the UDP or TCP header is rejected, a checksum is wrong, or an ICMP error quotes too little",
-        ZeroPort: "a port is 0",
+        PortZero: "a port is 0",
         NoMapping: "no live mapping has this outside address and port",
         NoFreePort: "no outside port is free for this endpoint",
         Martian: "no host may send from this address",
-        NoRoute: "there is no route back to the source",
+        NoRouteToSource: "there is no route back to the source",
         OtherInterface: "the route back to the source leads to another interface",
     }
 }
@@ -112,11 +112,11 @@ impl Rejection {
 numbered! {
     /// What a checksum says.
     enum Verdict {
-        Right: "the checksum is right",
-        Wrong: "the checksum is wrong",
-        LeftOut: "the sender computed no checksum (UDP over IPv4)",
-        LeftToDevice: "only the pseudo-header is summed (checksum offload)",
-        ChecksumCut: "not all bytes that the checksum covers were captured",
+        Valid: "the checksum is right",
+        Invalid: "the checksum is wrong",
+        Omitted: "the sender computed no checksum (UDP over IPv4)",
+        Partial: "only the pseudo-header is summed (checksum offload)",
+        Cut: "not all bytes that the checksum covers were captured",
     }
 }
 

@@ -171,7 +171,7 @@ impl<'a> Frame<'a> {
     /// # let ethernet = Ethernet::new(EthernetAddr([2, 0, 0, 0, 0, 9]), hardware);
     /// # let sent = Headers { ethernet, src, dst, ip: Ip::default() }.emit_udp(b"ping", &mut out).unwrap();
     /// # let own = Interface { hardware, ipv4: [192, 0, 2, 254].into(), ipv6: 0.into() };
-    /// # let bytes = own.emit_error(Problem::RouteMissing, sent, &mut error).unwrap().unwrap();
+    /// # let bytes = own.emit_error(Problem::NoRouteToDestination, sent, &mut error).unwrap().unwrap();
     /// let frame = Frame::parse(bytes);
     /// frame.check()?;
     /// if let Some(quoted) = frame.parse_quoted() {
@@ -227,7 +227,7 @@ impl<'a> Frame<'a> {
     /// Whether the checksum of IPv4, UDP, TCP or ICMP is wrong.
     #[must_use]
     pub fn has_wrong_checksum(&self) -> bool {
-        [self.ipv4_checksum(), self.transport_checksum()].contains(&Some(Verdict::Wrong))
+        [self.ipv4_checksum(), self.transport_checksum()].contains(&Some(Verdict::Invalid))
     }
 
     /// The checksum of the IPv4 header. `None`: there is no such header.
@@ -409,7 +409,7 @@ impl<'a> Frame<'a> {
     fn replied(&self) -> sys::Frame {
         let mut fields = self.fields;
         // SAFETY: the call writes only to the copy.
-        unsafe { library().lk_reply(&mut fields) };
+        unsafe { library().lk_make_reply(&mut fields) };
         fields
     }
 }

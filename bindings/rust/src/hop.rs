@@ -10,7 +10,7 @@ use core::net::SocketAddrV4;
 ///
 /// # Errors
 ///
-/// [`Rejection::NotIp`], [`Rejection::BadHeader`], [`Rejection::WrongChecksum`] or [`Rejection::Expired`]. The frame is
+/// [`Rejection::NotIp`], [`Rejection::BadHeader`], [`Rejection::WrongChecksum`] or [`Rejection::HopLimitTooLow`]. The frame is
 /// unchanged then. For an expired one a router sends [`Problem::HopLimitExpired`](crate::Problem::HopLimitExpired).
 ///
 /// ```
@@ -22,7 +22,7 @@ use core::net::SocketAddrV4;
 /// let (own, next) = (EthernetAddr([2, 0, 0, 0, 0, 1]), EthernetAddr([2, 0, 0, 0, 0, 2]));
 /// forward(frame, own, next)?;
 /// assert_eq!(Frame::parse(frame).ip().unwrap().hop_limit, 1);
-/// assert_eq!(forward(frame, own, next), Err(Rejection::Expired));
+/// assert_eq!(forward(frame, own, next), Err(Rejection::HopLimitTooLow));
 /// # Ok::<(), Rejection>(())
 /// ```
 pub fn forward(frame: &mut [u8], src: EthernetAddr, dst: EthernetAddr) -> Result<(), Rejection> {
@@ -55,8 +55,8 @@ impl Side {
 ///
 /// # Errors
 ///
-/// Any [`Rejection`] from [`NotIp`](Rejection::NotIp) to [`ZeroPort`](Rejection::ZeroPort) but
-/// [`Expired`](Rejection::Expired). The frame is unchanged then. The source port of UDP may be 0.
+/// Any [`Rejection`] from [`NotIp`](Rejection::NotIp) to [`PortZero`](Rejection::PortZero) but
+/// [`HopLimitTooLow`](Rejection::HopLimitTooLow). The frame is unchanged then. The source port of UDP may be 0.
 ///
 /// ```
 /// # use ip_wire_c::{translate, Ethernet, Frame, Headers, Ip, Rejection, Side};
@@ -97,7 +97,7 @@ impl Offload {
     }
 }
 
-/// Lowers the maximum segment size of a TCP SYN in an Ethernet frame to `max_seg_size`, and updates the TCP checksum
+/// Lowers the maximum segment size of a TCP SYN in an Ethernet frame to `mss`, and updates the TCP checksum
 /// (RFC 1624). A router does so with each frame that comes in or leaves by a link with a smaller MTU: to the MTU less 40
 /// over IPv4, and less 60 over IPv6. Returns `false` if there is no larger size. Then the frame is unchanged.
 ///
@@ -112,21 +112,21 @@ impl Offload {
 /// # let (src, dst) = ("192.0.2.1:4000".parse().unwrap(), "198.51.100.7:80".parse().unwrap());
 /// # let headers = Headers { ethernet: Ethernet::default(), src, dst, ip: Ip::default() };
 /// # let tcp = Tcp { flags: TcpFlags::SYN, ..Tcp::default() };
-/// # let options = TcpOptions { max_seg_size: Some(1460), ..TcpOptions::default() };
+/// # let options = TcpOptions { mss: Some(1460), ..TcpOptions::default() };
 /// # let mut out = [0; 64];
 /// # let syn = headers.emit_tcp(&tcp, &options, b"", &mut out).unwrap();
 /// assert!(clamp_mss(syn, 1412)); // PPPoE: an MTU of 1452
-/// assert_eq!(Frame::parse(syn).tcp_options().unwrap().max_seg_size, Some(1412));
+/// assert_eq!(Frame::parse(syn).tcp_options().unwrap().mss, Some(1412));
 /// assert!(!clamp_mss(syn, 1412));
 /// ```
-pub fn clamp_mss(frame: &mut [u8], max_seg_size: u16) -> bool {
+pub fn clamp_mss(frame: &mut [u8], mss: u16) -> bool {
     // SAFETY: there are `len` bytes at `frame`.
-    unsafe { library().lk_clamp_mss(frame.as_mut_ptr(), frame.len(), max_seg_size) != 0 }
+    unsafe { library().lk_clamp_mss(frame.as_mut_ptr(), frame.len(), mss) != 0 }
 }
 
 /// [`clamp_mss`] of a frame whose checksum is known to be left to the device, or not to be.
-pub fn clamp_mss_as(frame: &mut [u8], max_seg_size: u16, offload: Offload) -> bool {
+pub fn clamp_mss_as(frame: &mut [u8], mss: u16, offload: Offload) -> bool {
     let (ptr, len) = (frame.as_mut_ptr(), frame.len());
     // SAFETY: there are `len` bytes at `frame`.
-    unsafe { library().lk_clamp_mss_as(ptr, len, max_seg_size, offload.number()) != 0 }
+    unsafe { library().lk_clamp_mss_as(ptr, len, mss, offload.number()) != 0 }
 }

@@ -26,7 +26,7 @@ pub struct Host<'a> {
     /// What an open port sends as its window, in bytes; not scaled, because it is sent with SYN.
     pub window_len: u16,
     /// What an open port sends as its segment size, in bytes.
-    pub max_seg_size: u16,
+    pub mss: u16,
     /// What an open port sends as its window scale, in bits; more than 14 is sent as 14.
     pub window_scale: u8,
     /// Whether it forwards packets. Its neighbour advertisements have the flag R then.
@@ -59,7 +59,7 @@ impl Host<'_> {
     ///     seq_number: SeqNumber(random()),
     ///     tsval: 0,
     ///     window_len: 65535,
-    ///     max_seg_size: 1460,
+    ///     mss: 1460,
     ///     window_scale: 0,
     ///     is_router: false,
     /// };
@@ -88,7 +88,7 @@ impl Host<'_> {
             seq_number: self.seq_number.0,
             tsval: self.tsval,
             window_len: self.window_len,
-            max_seg_size: self.max_seg_size,
+            mss: self.mss,
             window_scale: self.window_scale,
             is_router: self.is_router.into(),
         };

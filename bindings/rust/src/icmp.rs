@@ -109,7 +109,7 @@ pub enum Problem {
     /// The packet is longer than this MTU of the next link, and over IPv4 has DF.
     PacketTooBig(u32),
     /// There is no route.
-    RouteMissing,
+    NoRouteToDestination,
     /// The next hop has no hardware address.
     NeighbourMissing,
     /// Nothing is at the port.
@@ -125,7 +125,7 @@ impl Problem {
         match self {
             Self::HopLimitExpired => 1,
             Self::PacketTooBig(_) => 2,
-            Self::RouteMissing => 3,
+            Self::NoRouteToDestination => 3,
             Self::NeighbourMissing => 4,
             Self::PortClosed => 5,
             Self::Prohibited => 6,
@@ -169,11 +169,11 @@ impl Interface {
     ///     hardware: EthernetAddr([2, 0, 0, 0, 0, 1]),
     /// };
     /// let mut out = [0; 1294];
-    /// if let Some(error) = own.emit_error(Problem::RouteMissing, frame, &mut out)? {
+    /// if let Some(error) = own.emit_error(Problem::NoRouteToDestination, frame, &mut out)? {
     ///     let error = Frame::parse(error);
     ///     assert_eq!(error.icmp().unwrap().icmp_type, 3); // destination unreachable
     /// }
-    /// # assert!(own.emit_error(Problem::RouteMissing, frame, &mut out)?.is_some());
+    /// # assert!(own.emit_error(Problem::NoRouteToDestination, frame, &mut out)?.is_some());
     /// # Ok::<(), ip_wire_c::Error>(())
     /// ```
     pub fn emit_error<'o>(

@@ -94,7 +94,7 @@ pub fn emit_ip<'o>(
 /// # Errors
 ///
 /// - [`Error::TwoVersions`]
-/// - [`Error::NoPort`]: the destination port is 0.
+/// - [`Error::PortZero`]: the destination port is 0.
 /// - [`Error::PayloadTooLong`]: more than 65527 bytes.
 /// - [`Error::NoRoom`]
 pub fn emit_udp<'o>(
@@ -116,7 +116,7 @@ pub fn emit_udp<'o>(
 /// # Errors
 ///
 /// - [`Error::TwoVersions`]
-/// - [`Error::NoPort`]: a port is 0.
+/// - [`Error::PortZero`]: a port is 0.
 /// - [`Error::TwoControls`]
 /// - [`Error::OptionsTooLong`]
 /// - [`Error::PayloadTooLong`]: header and payload have more than 65535 bytes.

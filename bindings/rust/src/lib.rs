@@ -13,7 +13,7 @@
 //! | route and translate | [`RouteTable`], [`forward`], [`clamp_mss`], [`Nat`], [`translate`] |
 //! | edit a frame in place | [`edit`] |
 //! | cut a packet into fragments, put it together | [`Fragments`], [`Reassembler`] |
-//! | parse and print addresses | [`parse_addr`], [`parse_endpoint`], [`Block`], [`EthernetAddr`] |
+//! | parse and print addresses | [`parse_addr`], [`parse_endpoint`], [`Prefix`], [`EthernetAddr`] |
 //! | compute checksums | [`checksum`] |
 //! | name EtherTypes, protocols, ICMP types, link types | [`numbers`] |
 //!
@@ -83,7 +83,7 @@ mod socket;
 mod sys;
 mod tcp;
 
-pub use addr::{is_unicast, parse_addr, parse_endpoint, Block, EthernetAddr, ParseError};
+pub use addr::{is_unicast, parse_addr, parse_endpoint, EthernetAddr, ParseError, Prefix};
 pub use connection::{Connection, ConnectionConfig, Segment};
 pub use emit::rebuild;
 pub use error::{ConnectionState, Defect, Error, Network, Reason, Rejection, Transport, Verdict};
@@ -97,7 +97,7 @@ pub use ipv6::{Ipv6Header, Ipv6Headers};
 pub use link::Link;
 pub use mld::{emit_mld_report, parse_mld_query};
 pub use nat::{Mapping, Nat, NatConfig};
-pub use reassembly::{Partial, Reassembler};
+pub use reassembly::{Reassembler, Reassembly};
 pub use routes::{InterfaceId, Route, RouteNode, RouteTable};
 pub use socket::{poll, Device, Socket};
 pub use tcp::{

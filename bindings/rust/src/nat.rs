@@ -133,7 +133,7 @@ impl<M: AsMut<[Mapping]>> Nat<M> {
     /// # Errors
     ///
     /// Any [`Rejection`] from [`NotIp`](Rejection::NotIp) to [`NoFreePort`](Rejection::NoFreePort) but
-    /// [`Expired`](Rejection::Expired). The frame is unchanged then.
+    /// [`HopLimitTooLow`](Rejection::HopLimitTooLow). The frame is unchanged then.
     pub fn translate_out(&mut self, now: Duration, frame: &mut [u8]) -> Result<(), Rejection> {
         self.translate(Library::lk_translate_out, now, frame)
     }
@@ -143,7 +143,7 @@ impl<M: AsMut<[Mapping]>> Nat<M> {
     /// # Errors
     ///
     /// Any [`Rejection`] from [`NotIp`](Rejection::NotIp) to [`NoMapping`](Rejection::NoMapping) but
-    /// [`Expired`](Rejection::Expired). The frame is unchanged then.
+    /// [`HopLimitTooLow`](Rejection::HopLimitTooLow). The frame is unchanged then.
     pub fn translate_in(&mut self, now: Duration, frame: &mut [u8]) -> Result<(), Rejection> {
         self.translate(Library::lk_translate_in, now, frame)
     }

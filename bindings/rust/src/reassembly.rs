@@ -10,11 +10,11 @@ use core::time::Duration;
 /// The place of one packet in a [`Reassembler`].
 #[derive(Clone, Copy, Debug, PartialEq, Eq, Hash)]
 #[repr(transparent)]
-pub struct Partial(sys::Partial);
+pub struct Reassembly(sys::Reassembly);
 
-impl Partial {
+impl Reassembly {
     /// The place of no packet.
-    pub const FREE: Self = Self(sys::Partial {
+    pub const FREE: Self = Self(sys::Reassembly {
         expires: 0,
         ident: 0,
         version: 0,
@@ -61,13 +61,13 @@ impl Partial {
 /// Puts IPv4 and IPv6 packets together from their fragments (RFC 791, section 3.2; RFC 8200, section 4.5). It keeps the
 /// memory that it is given: slices, arrays, or a `Vec` of a program with `std`.
 ///
-/// Each packet has a [`Partial`] and an equal part of the memory. Fragments are kept for 60 seconds. If all are in use,
+/// Each packet has a [`Reassembly`] and an equal part of the memory. Fragments are kept for 60 seconds. If all are in use,
 /// the packet that expires first makes room. `ip_wire.h` describes which fragments belong together, and which contradict
 /// each other. A host calls [`Host::answer`](crate::Host::answer) for each fragment before. If there is an answer, the
 /// fragment has a fault: send the answer, and discard the fragment.
 ///
 /// ```
-/// use ip_wire_c::{Error, Frame, Partial, Reassembler};
+/// use ip_wire_c::{Error, Frame, Reassembly, Reassembler};
 /// use std::time::Instant;
 /// # use ip_wire_c::{Ethernet, Fragments, Headers, Ip};
 /// # let (src, dst) = ("192.0.2.1:4000".parse().unwrap(), "192.0.2.2:53".parse().unwrap());
@@ -75,7 +75,7 @@ impl Partial {
 /// # let headers = Headers { ethernet: Ethernet::default(), src, dst, ip: Ip::default() };
 /// # let mut fragments = Fragments::with_ident(headers.emit_udp(&[7; 2000], &mut frame)?, 1500, 1);
 ///
-/// let mut reassembler = Reassembler::new([Partial::FREE; 16], vec![0; 16 * Partial::MEMORY]);
+/// let mut reassembler = Reassembler::new([Reassembly::FREE; 16], vec![0; 16 * Reassembly::MEMORY]);
 /// let start = Instant::now();
 /// let mut out = vec![0; 65589];
 ///
@@ -88,16 +88,16 @@ impl Partial {
 /// ```
 #[derive(Clone, Debug)]
 pub struct Reassembler<P, M> {
-    partials: P,
+    reassemblies: P,
     memory: M,
 }
 
-impl<P: AsMut<[Partial]>, M: AsMut<[u8]>> Reassembler<P, M> {
-    /// A reassembler without a fragment, for as many packets as there are partials. With less memory than
-    /// [`Partial::MEMORY`] for each, longer packets get [`Error::PayloadTooLong`].
-    pub fn new(mut partials: P, memory: M) -> Self {
-        partials.as_mut().fill(Partial::FREE);
-        Self { partials, memory }
+impl<P: AsMut<[Reassembly]>, M: AsMut<[u8]>> Reassembler<P, M> {
+    /// A reassembler without a fragment, for as many packets as there are reassemblies. With less memory than
+    /// [`Reassembly::MEMORY`] for each, longer packets get [`Error::PayloadTooLong`].
+    pub fn new(mut reassemblies: P, memory: M) -> Self {
+        reassemblies.as_mut().fill(Reassembly::FREE);
+        Self { reassemblies, memory }
     }
 
     /// Takes the fragment in an Ethernet frame. Returns the frame with the whole packet, at the beginning of `out`, or
@@ -118,10 +118,10 @@ impl<P: AsMut<[Partial]>, M: AsMut<[u8]>> Reassembler<P, M> {
         frame: &[u8],
         out: &'o mut [u8],
     ) -> Result<Option<&'o mut [u8]>, Error> {
-        let (partials, memory) = (self.partials.as_mut(), self.memory.as_mut());
-        let (table, count) = (partials.as_mut_ptr().cast(), partials.len());
+        let (reassemblies, memory) = (self.reassemblies.as_mut(), self.memory.as_mut());
+        let (table, count) = (reassemblies.as_mut_ptr().cast(), reassemblies.len());
         let (room, room_len, now) = (memory.as_mut_ptr(), memory.len(), milliseconds(now));
-        // SAFETY: there are `count` partials, which are those of C, and as many bytes of each slice as are said.
+        // SAFETY: there are `count` reassemblies, which are those of C, and as many bytes of each slice as are said.
         let written = write(out, |c, out, cap| unsafe {
             let (ptr, len) = (frame.as_ptr(), frame.len());
             c.lk_reassemble(table, count, room, room_len, now, ptr, len, out, cap)
@@ -133,22 +133,23 @@ impl<P: AsMut<[Partial]>, M: AsMut<[u8]>> Reassembler<P, M> {
     /// fragment, at the beginning of `out`: an ICMP error tells its sender (time exceeded, code 1). Call it until it
     /// returns `None`. 65589 bytes of `out` always suffice.
     pub fn expire<'o>(&mut self, now: Duration, out: &'o mut [u8]) -> Option<&'o mut [u8]> {
-        let (partials, memory) = (self.partials.as_mut(), self.memory.as_mut());
-        let (table, count) = (partials.as_mut_ptr().cast(), partials.len());
+        let (reassemblies, memory) = (self.reassemblies.as_mut(), self.memory.as_mut());
+        let (table, count) = (reassemblies.as_mut_ptr().cast(), reassemblies.len());
         let (room, room_len, now) = (memory.as_ptr(), memory.len(), milliseconds(now));
         // SAFETY: as above. The call only reads the memory.
-        let len =
-            unsafe { library().lk_expire(table, count, room, room_len, now, out.as_mut_ptr(), out.len()) };
+        let len = unsafe {
+            library().lk_expire_reassembly(table, count, room, room_len, now, out.as_mut_ptr(), out.len())
+        };
         Some(&mut out[..len]).filter(|fragment| !fragment.is_empty())
     }
 
     /// The places of the packets, for example to count those of a sender.
-    pub fn partials(&mut self) -> &[Partial] {
-        self.partials.as_mut()
+    pub fn reassemblies(&mut self) -> &[Reassembly] {
+        self.reassemblies.as_mut()
     }
 
     /// The memory, for example for another reassembler.
     pub fn into_parts(self) -> (P, M) {
-        (self.partials, self.memory)
+        (self.reassemblies, self.memory)
     }
 }

@@ -1,14 +1,14 @@
 //! Routes, and the check of a source address.
 
 use crate::sys::{self, library};
-use crate::{Block, Error, Rejection};
+use crate::{Error, Prefix, Rejection};
 use core::net::IpAddr;
 
 /// The number of an interface, which the caller chooses.
 #[derive(Clone, Copy, Debug, Default, PartialEq, Eq, PartialOrd, Ord, Hash)]
 pub struct InterfaceId(pub u16);
 
-/// A route: where packets to the addresses of a block go.
+/// A route: where packets to the addresses of a prefix go.
 #[derive(Clone, Copy, Debug, PartialEq, Eq, Hash)]
 #[repr(transparent)]
 pub struct Route(sys::Route);
@@ -16,15 +16,15 @@ pub struct Route(sys::Route);
 impl Route {
     /// `next_hop` is the next router. `None`: the destinations are on the link.
     #[must_use]
-    pub fn new(block: Block, next_hop: Option<IpAddr>, interface: InterfaceId) -> Self {
+    pub fn new(prefix: Prefix, next_hop: Option<IpAddr>, interface: InterfaceId) -> Self {
         let next_hop = next_hop.map_or(sys::Addr::default(), Into::into);
-        Self(sys::Route { block: block.into(), next_hop, interface: interface.0 })
+        Self(sys::Route { prefix: prefix.into(), next_hop, interface: interface.0 })
     }
 
     /// The destinations.
     #[must_use]
-    pub fn block(&self) -> Block {
-        self.0.block.valid()
+    pub fn prefix(&self) -> Prefix {
+        self.0.prefix.valid()
     }
 
     /// The next router. `None`: the destinations are on the link.
@@ -65,7 +65,7 @@ pub struct RouteNode(sys::RouteNode);
 /// ];
 /// let table = RouteTable::new(routes, [RouteNode::default(); 2])?;
 ///
-/// let route = table.choose("203.0.113.7".parse()?).ok_or(Rejection::NoRoute)?;
+/// let route = table.choose("203.0.113.7".parse()?).ok_or(Rejection::NoRouteToSource)?;
 /// assert_eq!((route.interface(), route.next_hop()), (wan, "198.51.100.1".parse().ok()));
 /// assert_eq!(table.check_source("192.0.2.9".parse()?, lan), Ok(()));
 /// assert_eq!(table.check_source("192.0.2.9".parse()?, wan), Err(Rejection::OtherInterface));
@@ -165,7 +165,7 @@ impl<R: AsRef<[Route]>, N: AsRef<[RouteNode]>, C: AsRef<[u64]>> RouteTable<R, N,
     /// # Errors
     ///
     /// - [`Rejection::Martian`]: no host may send from it. Link-local addresses are accepted. `ip_wire.h` has the list.
-    /// - [`Rejection::NoRoute`] and [`Rejection::OtherInterface`], by the route to it (strict reverse path forwarding,
+    /// - [`Rejection::NoRouteToSource`] and [`Rejection::OtherInterface`], by the route to it (strict reverse path forwarding,
     ///   RFC 3704, section 2.2).
     pub fn check_source(&self, src: IpAddr, interface: InterfaceId) -> Result<(), Rejection> {
         let (routes, nodes, cells) = (self.routes(), self.index(), self.cells.as_ref());

@@ -146,7 +146,7 @@ const FRAMES: usize = 64;
 ///
 /// # Errors
 ///
-/// Those of [`Headers::emit_tcp`]: `headers` of [`Socket::connect`] cannot be sent, or `max_seg_size` of the connection
+/// Those of [`Headers::emit_tcp`]: `headers` of [`Socket::connect`] cannot be sent, or `mss` of the connection
 /// needs larger buffers.
 ///
 /// ```no_run
@@ -159,11 +159,11 @@ const FRAMES: usize = 64;
 /// loop {
 ///     let due = poll(&mut device, &host, &mut sockets, start.elapsed(), random, &mut buffers)?;
 ///     for Socket { connection, .. } in &mut sockets {
-///         if connection.waiting() == 0 {
+///         if connection.unacked() == 0 {
 ///             let len = connection.read(&mut bytes);
 ///             connection.write(&bytes[..len]);
 ///         }
-///         if connection.is_ended() {
+///         if connection.at_eof() {
 ///             connection.close();
 ///         }
 ///     }
@@ -198,13 +198,13 @@ pub fn poll<M: AsMut<[u8]>, const FRAME: usize>(
     for socket in sockets.iter_mut() {
         socket.tick(&mut link, now, &mut random)?;
     }
-    let due = sockets.iter().filter_map(|socket| socket.connection.due()).min();
+    let due = sockets.iter().filter_map(|socket| socket.connection.next_timeout()).min();
     Ok(if count == FRAMES { Some(now) } else { due })
 }
 
 /// Computes a checksum that is left to a device.
 fn complete(bytes: &mut [u8]) {
-    if Frame::parse(bytes).transport_checksum() == Some(Verdict::LeftToDevice) {
+    if Frame::parse(bytes).transport_checksum() == Some(Verdict::Partial) {
         edit::fill_checksum(bytes);
     }
 }
@@ -235,7 +235,7 @@ fn take<M: AsMut<[u8]>, D: Device>(
 /// `None` unless a receiver may trust the frame. As for [`Host::answer`], a checksum that is left to a device is wrong.
 fn check(frame: &Frame) -> Option<()> {
     frame.check().ok()?;
-    (frame.transport_checksum()? == Verdict::Right).then_some(())
+    (frame.transport_checksum()? == Verdict::Valid).then_some(())
 }
 
 /// The socket that a segment is for: that of its endpoints, or one that listens.

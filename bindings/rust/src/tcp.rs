@@ -228,7 +228,7 @@ pub struct Timestamp {
 #[derive(Clone, Copy, Debug, Default, PartialEq, Eq, Hash)]
 pub struct TcpOptions {
     /// In bytes.
-    pub max_seg_size: Option<u16>,
+    pub mss: Option<u16>,
     /// In bits; at most 14 is read.
     pub window_scale: Option<u8>,
     /// SACK permitted.
@@ -269,7 +269,7 @@ impl From<sys::TcpOptions> for TcpOptions {
             *range = SackRange { left: SeqNumber(from.left), right: SeqNumber(from.right) };
         }
         Self {
-            max_seg_size: (options.has_max_seg_size != 0).then_some(options.max_seg_size),
+            mss: (options.has_mss != 0).then_some(options.mss),
             window_scale: (options.has_window_scale != 0).then_some(options.window_scale),
             sack_permitted: options.sack_permitted != 0,
             sack_ranges,
@@ -289,11 +289,11 @@ impl From<TcpOptions> for sys::TcpOptions {
                 .map(|r| sys::SackRange { left: r.left.0, right: r.right.0 }),
             tsval: timestamp.tsval,
             tsecr: timestamp.tsecr,
-            max_seg_size: options.max_seg_size.unwrap_or_default(),
+            mss: options.mss.unwrap_or_default(),
             window_scale: options.window_scale.unwrap_or_default(),
             sack_permitted: options.sack_permitted.into(),
             sack_range_count: options.sack_ranges.len,
-            has_max_seg_size: options.max_seg_size.is_some().into(),
+            has_mss: options.mss.is_some().into(),
             has_window_scale: options.window_scale.is_some().into(),
             has_timestamp: options.timestamp.is_some().into(),
         }

@@ -3,7 +3,7 @@
 
 mod worked;
 
-use ip_wire_c::{clamp_mss_as, edit, Error, Fragments, Offload, Partial, Reassembler, Side};
+use ip_wire_c::{clamp_mss_as, edit, Error, Fragments, Offload, Reassembler, Reassembly, Side};
 use std::net::IpAddr;
 use std::time::Duration;
 use worked::{bytes, changed, frame};
@@ -135,8 +135,8 @@ fn framed(packet: &str) -> Vec<u8> {
     bytes(&[if packet.starts_with('6') { LINK6 } else { LINK }, packet].concat())
 }
 
-fn reassembler() -> Reassembler<[Partial; 2], Vec<u8>> {
-    Reassembler::new([Partial::FREE; 2], vec![0xa5; 2 * 72])
+fn reassembler() -> Reassembler<[Reassembly; 2], Vec<u8>> {
+    Reassembler::new([Reassembly::FREE; 2], vec![0xa5; 2 * 72])
 }
 
 #[test]
@@ -159,14 +159,14 @@ fn fragments_expire() {
     reassembler.reassemble(at(1), &framed(FIRST), &mut out).unwrap();
     reassembler.reassemble(at(2), &framed(LAST6), &mut out).unwrap();
     let addrs = [("192.0.2.1", "192.0.2.2"), ("2001:db8::1", "2001:db8::2")];
-    for (partial, (src, dst)) in reassembler.partials().iter().zip(addrs) {
+    for (partial, (src, dst)) in reassembler.reassemblies().iter().zip(addrs) {
         assert_eq!(partial.addrs(), Some((addr(src), addr(dst))));
     }
-    assert_eq!(reassembler.partials()[1].expires(), Some(at(62)));
+    assert_eq!(reassembler.reassemblies()[1].expires(), Some(at(62)));
     assert_eq!(reassembler.expire(at(60), &mut out), None);
     assert_eq!(reassembler.expire(at(62), &mut out).unwrap(), framed(FIRST));
     assert_eq!(reassembler.expire(at(62), &mut out), None);
-    assert_eq!(reassembler.partials().iter().find_map(Partial::addrs), None);
+    assert_eq!(reassembler.reassemblies().iter().find_map(Reassembly::addrs), None);
     assert_eq!(reassembler.into_parts().1.len(), 144);
 }
 
@@ -179,6 +179,6 @@ fn failures_are_told() {
     assert_eq!(reassembler.reassemble(at(1), &framed(OTHER_LAST), &mut out), Err(Error::Dropped));
     assert_eq!(reassembler.reassemble(at(60), &framed(FIRST), &mut out), Err(Error::Dropped));
     assert_eq!(reassembler.reassemble(at(61), &framed(FIRST), &mut out), Ok(None));
-    let mut none = Reassembler::new([Partial::FREE; 0], []);
+    let mut none = Reassembler::new([Reassembly::FREE; 0], []);
     assert_eq!(none.reassemble(at(1), &framed(LAST), &mut out), Err(Error::PayloadTooLong));
 }

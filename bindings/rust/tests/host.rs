@@ -25,7 +25,7 @@ fn host<'a>(open_ports: &'a [u16], open_udp_ports: &'a [u16]) -> Host<'a> {
         seq_number: SeqNumber(0x0a0b_0c0d),
         tsval: 0x5566_7788,
         window_len: 0x7210,
-        max_seg_size: 1460,
+        mss: 1460,
         window_scale: 7,
         is_router: false,
     }
@@ -104,7 +104,7 @@ fn errors_are_those_of_other_programs() {
     for (name, asked, problem) in [
         ("expired", "last_hop", Problem::HopLimitExpired),
         ("too_big", "last_hop", Problem::PacketTooBig(32)),
-        ("no_route", "last_hop", Problem::RouteMissing),
+        ("no_route", "last_hop", Problem::NoRouteToDestination),
         ("no_neighbour", "last_hop", Problem::NeighbourMissing),
         ("port_closed", "last_hop", Problem::PortClosed),
         ("prohibited", "last_hop", Problem::Prohibited),
@@ -121,12 +121,12 @@ fn errors_are_those_of_other_programs() {
     for (asked, problem) in [
         ("ping", Problem::HopLimitExpired),
         ("last_hop", Problem::PacketTooBig(33)),
-        ("expired6", Problem::RouteMissing),
+        ("expired6", Problem::NoRouteToDestination),
     ] {
         assert_eq!(own.emit_error(problem, &frame(asked), &mut OUT.clone()), Ok(None), "{asked}");
     }
     let without_ipv4 = Interface { ipv4: [0; 4].into(), ..own };
-    assert_eq!(without_ipv4.emit_error(Problem::RouteMissing, &frame("last_hop"), &mut []), Ok(None));
+    assert_eq!(without_ipv4.emit_error(Problem::NoRouteToDestination, &frame("last_hop"), &mut []), Ok(None));
 }
 
 /// The frames are those of Linux.

@@ -100,7 +100,7 @@ fn failures_of_transport_leave_the_buffer() {
     let two_controls = Tcp { flags: TcpFlags::SYN | TcpFlags::FIN, ..Tcp::default() };
     let range = SackRange::default();
     let too_long = TcpOptions {
-        max_seg_size: Some(1460),
+        mss: Some(1460),
         timestamp: Some(Timestamp::default()),
         sack_ranges: [range; 4][..].try_into().unwrap(),
         ..TcpOptions::default()
@@ -108,8 +108,8 @@ fn failures_of_transport_leave_the_buffer() {
     let (tcp, none) = (Tcp::default(), TcpOptions::default());
     for (src, dst, len, [udp, segment, message]) in [
         ("192.0.2.1:1", "[::1]:2", 0, [Error::TwoVersions; 3]),
-        ("192.0.2.1:1", "192.0.2.2:0", 40, [Error::NoPort, Error::NoPort, Error::NoRoom]),
-        ("192.0.2.1:0", "192.0.2.2:2", 40, [Error::NoRoom, Error::NoPort, Error::NoRoom]),
+        ("192.0.2.1:1", "192.0.2.2:0", 40, [Error::PortZero, Error::PortZero, Error::NoRoom]),
+        ("192.0.2.1:0", "192.0.2.2:2", 40, [Error::NoRoom, Error::PortZero, Error::NoRoom]),
         ("[::1]:1", "[::2]:2", 65528, [Error::PayloadTooLong; 3]),
     ] {
         let (src, dst, payload) = (endpoint(src), endpoint(dst), &long[..len]);

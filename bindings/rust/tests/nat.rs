@@ -53,7 +53,7 @@ fn some_packets_are_not_translated() {
         assert_eq!(bytes, before);
     }
     let mut query = frame("query");
-    assert_eq!(translate(&mut query, Side::Destination, outside(0)), Err(Rejection::ZeroPort));
+    assert_eq!(translate(&mut query, Side::Destination, outside(0)), Err(Rejection::PortZero));
     assert_eq!(translate(&mut frame("nat_error_in"), Side::Source, outside(1)), Err(OtherProtocol));
 }
 

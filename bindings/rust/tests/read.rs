@@ -35,7 +35,7 @@ fn a_udp_frame_has_its_values() {
         assert_eq!(frame.ip().unwrap().hop_limit, 64);
         assert_eq!(frame.ip().unwrap().protocol, 17);
         assert_eq!(frame.ipv4_checksum().is_some(), network == Network::Ipv4);
-        assert_eq!(frame.transport_checksum(), Some(Verdict::Right));
+        assert_eq!(frame.transport_checksum(), Some(Verdict::Valid));
         assert_eq!((frame.arp(), frame.tcp(), frame.tcp_options()), (None, None, None));
         assert!(!frame.is_fragment());
     }
@@ -57,7 +57,7 @@ fn a_value_is_parsed_into_again() {
 
 #[test]
 fn a_tcp_frame_has_its_values() {
-    let options = TcpOptions { max_seg_size: Some(1460), window_scale: Some(7), ..TcpOptions::default() };
+    let options = TcpOptions { mss: Some(1460), window_scale: Some(7), ..TcpOptions::default() };
     let bytes = tcp(&ipv6(), TcpFlags::SYN, &options);
     let frame = Frame::parse(&bytes);
     let header = frame.tcp().unwrap();
@@ -72,7 +72,7 @@ fn a_tcp_frame_has_its_values() {
 
 #[test]
 fn a_frame_is_parsed_with_its_options() {
-    let options = TcpOptions { max_seg_size: Some(1460), sack_permitted: true, ..TcpOptions::default() };
+    let options = TcpOptions { mss: Some(1460), sack_permitted: true, ..TcpOptions::default() };
     let mut bytes = tcp(&ipv4(), TcpFlags::SYN, &options);
     assert_eq!(Frame::parse_with_options(&bytes), (Frame::parse(&bytes), Some(options)));
     bytes[14 + 20 + 20 + 1] = 3; // the length of the first option
@@ -125,7 +125,7 @@ fn a_wrong_checksum_is_a_defect() {
     let mut bytes = udp(&ipv4(), b"ping");
     *bytes.last_mut().unwrap() ^= 1;
     let frame = Frame::parse(&bytes);
-    assert_eq!((frame.rejected(), frame.transport_checksum()), (None, Some(Verdict::Wrong)));
+    assert_eq!((frame.rejected(), frame.transport_checksum()), (None, Some(Verdict::Invalid)));
     assert_eq!(frame.check(), Err(Defect::WrongChecksum));
     assert_eq!(frame.check().unwrap_err().to_string(), "a checksum is wrong");
 }
@@ -166,7 +166,7 @@ fn a_captured_frame_is_cut() {
     let bytes = udp(&ipv4(), b"ping");
     let frame = Frame::parse_captured(&bytes[..44], bytes.len());
     assert_eq!((frame.rejected(), frame.transport()), (None, Some(Transport::Udp)));
-    assert_eq!(frame.transport_checksum(), Some(Verdict::ChecksumCut));
+    assert_eq!(frame.transport_checksum(), Some(Verdict::Cut));
     assert_eq!((frame.payload(), frame.payload_len()), (&b"pi"[..], 4));
 
     let frame = Frame::parse_captured(&bytes[..41], bytes.len());
@@ -235,7 +235,7 @@ fn look_at(frame: &Frame, bytes: &[u8]) {
 
 #[test]
 fn any_bytes_are_parsed() {
-    let options = TcpOptions { sack_permitted: true, max_seg_size: Some(536), ..TcpOptions::default() };
+    let options = TcpOptions { sack_permitted: true, mss: Some(536), ..TcpOptions::default() };
     let frames = [
         udp(&ipv4(), b"ping"),
         udp(&ipv6(), b"ping"),
@@ -311,7 +311,7 @@ fn a_quoted_packet_is_parsed() {
             (quoted.dst().unwrap().port(), quoted.payload(), quoted.payload_len()),
             (5353, &b""[..], 4)
         );
-        assert_eq!(quoted.transport_checksum(), Some(Verdict::ChecksumCut));
+        assert_eq!(quoted.transport_checksum(), Some(Verdict::Cut));
 
         let errors: Vec<u8> = (0..=255)
             .filter(|&it| {

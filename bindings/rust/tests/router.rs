@@ -3,7 +3,7 @@
 mod worked;
 
 use ip_wire_c::{clamp_mss, forward, EthernetAddr};
-use ip_wire_c::{Block, Error, InterfaceId, Rejection, Route, RouteNode, RouteTable};
+use ip_wire_c::{Error, InterfaceId, Prefix, Rejection, Route, RouteNode, RouteTable};
 use std::net::IpAddr;
 use worked::{changed, frame};
 
@@ -21,16 +21,16 @@ fn packets_take_one_hop() {
 
 #[test]
 fn some_packets_take_none() {
-    use Rejection::{BadHeader, Expired, NotIp, WrongChecksum};
+    use Rejection::{BadHeader, HopLimitTooLow, NotIp, WrongChecksum};
     for (name, len, changes, rejection) in [
         ("query", 13, &[][..], NotIp),
         ("query", 46, &[(13, 0x06)], NotIp),
         ("query", 33, &[], BadHeader),
         ("query", 46, &[(14, 0x65), (22, 1)], BadHeader),
         ("query", 46, &[(25, 0xd5), (22, 1)], WrongChecksum),
-        ("query", 46, &[(22, 0x01), (24, 0x5f)], Expired),
+        ("query", 46, &[(22, 0x01), (24, 0x5f)], HopLimitTooLow),
         ("router_solicit", 53, &[], BadHeader),
-        ("router_solicit", 70, &[(21, 1)], Expired),
+        ("router_solicit", 70, &[(21, 1)], HopLimitTooLow),
     ] {
         let mut bytes = changed(name, changes);
         bytes.truncate(len);
@@ -42,7 +42,7 @@ fn some_packets_take_none() {
 
 #[test]
 fn segment_sizes_are_clamped() {
-    for (name, max_seg_size, changes) in [
+    for (name, mss, changes) in [
         ("syn", 1260, &[(50, 0xd9), (51, 0x85), (56, 0x04), (57, 0xec)][..]),
         ("syn", 1460, &[]),
         ("query", 0, &[]),
@@ -50,15 +50,15 @@ fn segment_sizes_are_clamped() {
         ("syn_ack_of_1440", 1440, &[]),
     ] {
         let mut bytes = frame(name);
-        assert_eq!(clamp_mss(&mut bytes, max_seg_size), !changes.is_empty(), "{name} {max_seg_size}");
+        assert_eq!(clamp_mss(&mut bytes, mss), !changes.is_empty(), "{name} {mss}");
         assert_eq!(bytes, changed(name, changes));
     }
 }
 
-/// Blocks in blocks, over both versions. The third one is the first again.
+/// Blocks in prefixes, over both versions. The third one is the first again.
 fn routes() -> Vec<Route> {
-    let route = |(block, next_hop, interface): (&str, &str, u16)| {
-        Route::new(block.parse().unwrap(), next_hop.parse().ok(), InterfaceId(interface))
+    let route = |(prefix, next_hop, interface): (&str, &str, u16)| {
+        Route::new(prefix.parse().unwrap(), next_hop.parse().ok(), InterfaceId(interface))
     };
     let rows = [
         ("10.0.0.0/8", "192.0.2.1", 1),
@@ -104,19 +104,19 @@ fn bits(addr: IpAddr) -> (bool, u128) {
 
 /// The place of the route for an address. All routes are looked at.
 fn linear_search(routes: &[Route], addr: IpAddr) -> Option<usize> {
-    let contains = |block: Block| {
-        let ((is_ipv4, first), (other, bits)) = (bits(block.addr()), bits(addr));
-        let shift = 128 - u32::from(block.prefix_len());
+    let contains = |prefix: Prefix| {
+        let ((is_ipv4, first), (other, bits)) = (bits(prefix.addr()), bits(addr));
+        let shift = 128 - u32::from(prefix.prefix_len());
         is_ipv4 == other && (first ^ bits).checked_shr(shift).unwrap_or(0) == 0
     };
-    let found = routes.iter().enumerate().filter(|(_, route)| contains(route.block()));
-    found.min_by_key(|(place, route)| (u8::MAX - route.block().prefix_len(), *place)).map(|(place, _)| place)
+    let found = routes.iter().enumerate().filter(|(_, route)| contains(route.prefix()));
+    found.min_by_key(|(place, route)| (u8::MAX - route.prefix().prefix_len(), *place)).map(|(place, _)| place)
 }
 
-/// The first and last address of a block, and those before and after.
-fn edges(block: Block) -> [IpAddr; 4] {
-    let (is_ipv4, bits) = bits(block.addr());
-    let rest = u128::MAX.checked_shr(block.prefix_len().into()).unwrap_or(0);
+/// The first and last address of a prefix, and those before and after.
+fn edges(prefix: Prefix) -> [IpAddr; 4] {
+    let (is_ipv4, bits) = bits(prefix.addr());
+    let rest = u128::MAX.checked_shr(prefix.prefix_len().into()).unwrap_or(0);
     let (first, last, one) = (bits & !rest, bits | rest, if is_ipv4 { 1 << 96 } else { 1 });
     [first.wrapping_sub(one), first, last, last.wrapping_add(one)].map(|bits| {
         let octets = bits.to_be_bytes();
@@ -128,7 +128,7 @@ fn edges(block: Block) -> [IpAddr; 4] {
     })
 }
 
-/// Routes to blocks of both versions, where the last `spread` bits of an address are random. Some blocks
+/// Routes to prefixes of both versions, where the last `spread` bits of an address are random. Some prefixes
 /// are larger, and some are single addresses.
 fn random_routes(count: u16, spread: u8, random: &mut impl FnMut(u64) -> u64) -> Vec<Route> {
     let mut route = |place| {
@@ -143,7 +143,7 @@ fn random_routes(count: u16, spread: u8, random: &mut impl FnMut(u64) -> u64) ->
             1 => width,
             _ => width - up_to(spread),
         };
-        Route::new(Block::new(addr, prefix_len).unwrap(), None, InterfaceId(place))
+        Route::new(Prefix::new(addr, prefix_len).unwrap(), None, InterfaceId(place))
     };
     (0..count).map(&mut route).collect()
 }
@@ -163,7 +163,7 @@ fn each_search_finds_the_same() {
         let index = RouteTable::new(&routes, nodes.clone()).unwrap();
         let table = RouteTable::with_cells(&routes, nodes, cells).unwrap();
         let others = ["0.0.0.0", "255.255.255.255", "::"].map(|addr| addr.parse().unwrap());
-        for addr in routes.iter().flat_map(|route| edges(route.block())).chain(others) {
+        for addr in routes.iter().flat_map(|route| edges(route.prefix())).chain(others) {
             let place = linear_search(&routes, addr);
             assert_eq!((index.position(addr), table.position(addr)), (place, place), "{addr} {routes:?}");
         }
@@ -172,14 +172,14 @@ fn each_search_finds_the_same() {
 
 #[test]
 fn sources_are_checked() {
-    use Rejection::{Martian, NoRoute, OtherInterface};
+    use Rejection::{Martian, NoRouteToSource, OtherInterface};
     let index = RouteTable::new(routes(), vec![RouteNode::default(); 7]).unwrap();
     let cells = [0; RouteTable::cells(7)];
     let table = RouteTable::with_cells(routes(), vec![RouteNode::default(); 7], cells).unwrap();
     for (src, interface, result) in [
         ("10.0.0.1", 1, Ok(())),
         ("10.0.0.1", 3, Err(OtherInterface)),
-        ("11.0.0.1", 1, Err(NoRoute)),
+        ("11.0.0.1", 1, Err(NoRouteToSource)),
         ("fe80::", 65535, Ok(())),
         // RFC 1122, section 3.2.1.3, and RFC 4291, section 2
         ("0.255.255.255", 1, Err(Martian)),
@@ -198,16 +198,16 @@ fn sources_are_checked() {
 
 #[test]
 fn a_table_keeps_its_memory() {
-    let block: Block = "10.9.9.9/8".parse().unwrap();
-    let route = Route::new(block, None, InterfaceId(3));
-    assert_eq!((route.block(), route.next_hop(), route.interface()), (block, None, InterfaceId(3)));
+    let prefix: Prefix = "10.9.9.9/8".parse().unwrap();
+    let route = Route::new(prefix, None, InterfaceId(3));
+    assert_eq!((route.prefix(), route.next_hop(), route.interface()), (prefix, None, InterfaceId(3)));
     assert_eq!(RouteTable::new([route; 2], [RouteNode::default()]).unwrap_err(), Error::NoRoom);
 
     let mut nodes = [RouteNode::default(); 2];
     let table = RouteTable::new([route; 0], &mut nodes[..]).unwrap();
-    let addr = block.addr();
+    let addr = prefix.addr();
     assert_eq!((table.choose(addr), table.position(addr), table.routes()), (None, None, &[][..]));
-    assert_eq!(table.check_source(addr, InterfaceId(3)), Err(Rejection::NoRoute));
+    assert_eq!(table.check_source(addr, InterfaceId(3)), Err(Rejection::NoRouteToSource));
     let (_, nodes) = table.into_parts();
     let table = RouteTable::new([route; 2], nodes).unwrap();
     assert_eq!(table.position(addr), Some(0));

@@ -110,7 +110,7 @@ struct End {
 
 impl End {
     fn new(host: Host<'static>, sends: &Queue, receives: &Queue, every: u32) -> Self {
-        let config = ConnectionConfig { max_seg_size: 1440, ..ConnectionConfig::default() };
+        let config = ConnectionConfig { mss: 1440, ..ConnectionConfig::default() };
         Self {
             cable: Cable {
                 sends: sends.clone(),
@@ -167,7 +167,7 @@ fn host(hardware: [u8; 6], ipv4: [u8; 4], ipv6: &str) -> Host<'static> {
         seq_number: SeqNumber(7),
         tsval: 0,
         window_len: 0,
-        max_seg_size: 0,
+        mss: 0,
         window_scale: 0,
         is_router: false,
     }
@@ -213,7 +213,7 @@ fn all_bytes_arrive_though_frames_are_lost() {
             let [client, server] = &ends;
             assert_eq!(server.sockets[0].peer(), own.parse().ok());
             assert!(client.read == server.written && server.read == client.written, "{own} {every}");
-            assert!(ends.iter().all(|end| end.sockets[0].connection.is_ended()));
+            assert!(ends.iter().all(|end| end.sockets[0].connection.at_eof()));
             assert_eq!([ends[0].state(), ends[1].state()], [ConnectionState::Closed; 2]);
         }
     }
@@ -333,7 +333,7 @@ fn mistakes_are_told() {
     client.sockets[0].connect(&headers("192.0.2.1:1", "192.0.2.2:80"));
     assert_eq!((client.poll(Duration::ZERO), client.state()), (Ok(None), ConnectionState::Closed));
     let mut connection = Connection::new(&ConnectionConfig::default(), [0; 2], [1; 2]);
-    assert_eq!((connection.write(b"a"), connection.read(&mut [0]), connection.due()), (0, 0, None));
+    assert_eq!((connection.write(b"a"), connection.read(&mut [0]), connection.next_timeout()), (0, 0, None));
     assert_eq!(connection.connect(Duration::ZERO, SeqNumber(5)).unwrap().tcp.seq_number, SeqNumber(5));
-    assert_eq!((connection.waiting(), connection.into_parts()), (1, ([0; 2], [1; 2])));
+    assert_eq!((connection.unacked(), connection.into_parts()), (1, ([0; 2], [1; 2])));
 }

@@ -1,4 +1,4 @@
-//! Texts, CIDR blocks, checksums and sequence numbers.
+//! Texts, CIDR prefixes, checksums and sequence numbers.
 
 use ip_wire_c::*;
 use std::net::{IpAddr, SocketAddr};
@@ -13,13 +13,13 @@ fn addresses_parse_as_by_core() {
         assert_eq!(parse_endpoint(text), Ok(SocketAddr::new(addr, 0)));
         let endpoint = SocketAddr::new(addr, 8080);
         assert_eq!(parse_endpoint(&endpoint.to_string()), Ok(endpoint));
-        let block = Block::new(addr, 32).unwrap();
-        assert_eq!(block.to_string(), format!("{addr}/32"));
-        assert_eq!(block.to_string().parse(), Ok(block));
+        let prefix = Prefix::new(addr, 32).unwrap();
+        assert_eq!(prefix.to_string(), format!("{addr}/32"));
+        assert_eq!(prefix.to_string().parse(), Ok(prefix));
     }
     for text in ["", "1.2.3", "1.2.3.256", "::1%lo", "1::2::3", "1.2.3.4 ", "1.2.3.4\0"] {
         assert_eq!(parse_addr(text), Err(ParseError));
-        assert_eq!(text.parse::<Block>(), Err(ParseError));
+        assert_eq!(text.parse::<Prefix>(), Err(ParseError));
     }
     assert_eq!(parse_endpoint("1.2.3.4:65536"), Err(ParseError));
     assert_eq!(ParseError.to_string(), "the text does not parse");
@@ -27,15 +27,15 @@ fn addresses_parse_as_by_core() {
 
 #[test]
 fn blocks_contain() {
-    let block: Block = "192.0.2.77/24".parse().unwrap();
-    assert_eq!((block.addr(), block.prefix_len()), ([192, 0, 2, 77].into(), 24));
-    assert!(block.contains([192, 0, 2, 255].into()));
-    assert!(!block.contains([192, 0, 3, 0].into()));
-    assert!(!Block::new([0; 16].into(), 0).unwrap().contains([192, 0, 2, 1].into()));
-    assert_eq!(Block::try_from(([1, 2, 3, 4].into(), 33)), Err(Error::BadPrefix));
-    assert_eq!(Block::new([0; 16].into(), 129), Err(Error::BadPrefix));
-    assert_eq!("10.0.0.0/33".parse::<Block>(), Err(ParseError));
-    assert_eq!("10.0.0.0/".parse::<Block>(), Err(ParseError));
+    let prefix: Prefix = "192.0.2.77/24".parse().unwrap();
+    assert_eq!((prefix.addr(), prefix.prefix_len()), ([192, 0, 2, 77].into(), 24));
+    assert!(prefix.contains([192, 0, 2, 255].into()));
+    assert!(!prefix.contains([192, 0, 3, 0].into()));
+    assert!(!Prefix::new([0; 16].into(), 0).unwrap().contains([192, 0, 2, 1].into()));
+    assert_eq!(Prefix::try_from(([1, 2, 3, 4].into(), 33)), Err(Error::BadPrefix));
+    assert_eq!(Prefix::new([0; 16].into(), 129), Err(Error::BadPrefix));
+    assert_eq!("10.0.0.0/33".parse::<Prefix>(), Err(ParseError));
+    assert_eq!("10.0.0.0/".parse::<Prefix>(), Err(ParseError));
 }
 
 #[test]

@@ -10,7 +10,7 @@ const OUT: [u8; 200] = [0xee; 200];
 fn all_options() -> TcpOptions {
     let range = |left| SackRange { left: SeqNumber(left), right: SeqNumber(left + 10) };
     TcpOptions {
-        max_seg_size: Some(0),
+        mss: Some(0),
         sack_ranges: [range(100), range(200)][..].try_into().unwrap(),
         timestamp: Some(Timestamp { tsval: 3, tsecr: 4 }),
         ..TcpOptions::default()
@@ -59,7 +59,7 @@ fn failures_leave_the_buffer() {
     let long = vec![0; 65508];
     let udp_cases = [
         (headers("192.0.2.1:1", "[::1]:2"), &b""[..], Error::TwoVersions),
-        (headers("192.0.2.1:1", "192.0.2.2:0"), b"", Error::NoPort),
+        (headers("192.0.2.1:1", "192.0.2.2:0"), b"", Error::PortZero),
         (ip(Ip { hop_limit: 0, ..Ip::default() }), b"", Error::NoHopLimit),
         (ip(Ip { ecn: 4, ..Ip::default() }), b"", Error::BadField),
         (ip(Ip { more_fragments: true, ..Ip::default() }), b"", Error::BadField),
@@ -81,7 +81,7 @@ fn failures_leave_the_buffer() {
     assert_eq!(SackRanges::try_from(&[SackRange::default(); 5][..]), Err(Error::OptionsTooLong));
     assert_eq!(
         headers("192.0.2.1:0", "192.0.2.2:1").emit_tcp(&Tcp::default(), &none, b"", &mut out),
-        Err(Error::NoPort)
+        Err(Error::PortZero)
     );
     assert_eq!(rebuild(&[0; 13], &mut out), Err(Error::NoHeader));
     assert_eq!(rebuild(&[0; 14], &mut out[..13]), Err(Error::NoRoom));

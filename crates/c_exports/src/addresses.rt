@@ -41,7 +41,7 @@ pub extern "C" fn lk_print_addr(addr: &Addr, out: &mut [u8]) -> isize
 
 /// Parses the text of a block, stores the block, and returns 1. Returns 0 if it is no such text.
 #[unsafe(no_mangle)]
-pub extern "C" fn lk_parse_block(text: &[u8], block: &mut Block) -> i32
+pub extern "C" fn lk_parse_prefix(text: &[u8], block: &mut Block) -> i32
     ensures { IsRead ReadsCidr block_struct (within text.now) block.old block.new result }
 {
     match IpCidr::parse_ascii(within(text)) {
@@ -55,7 +55,7 @@ pub extern "C" fn lk_parse_block(text: &[u8], block: &mut Block) -> i32
 
 /// Prints a block. Returns its length, or a failure; then `out` is unchanged.
 #[unsafe(no_mangle)]
-pub extern "C" fn lk_print_block(block: &Block, out: &mut [u8]) -> isize
+pub extern "C" fn lk_print_prefix(block: &Block, out: &mut [u8]) -> isize
     ensures { Prints (option_map cidr_text (block_of block.now)) (block_failure block.now) out.old out.new result }
 {
     match block.cidr() {
@@ -100,7 +100,7 @@ pub extern "C" fn lk_print_endpoint(endpoint: &Endpoint, out: &mut [u8]) -> isiz
 /// Parses the text of an Ethernet address, stores its bytes, and returns 1. Returns 0 if it is no such
 /// text.
 #[unsafe(no_mangle)]
-pub extern "C" fn lk_parse_ethernet(text: &[u8], octets: &mut [u8; 6]) -> i32
+pub extern "C" fn lk_parse_mac(text: &[u8], octets: &mut [u8; 6]) -> i32
     ensures { IsRead ReadsEthernet ethernet_bytes (within text.now) octets.old octets.new result }
 {
     match EthernetAddress::parse_ascii(within(text)) {
@@ -115,7 +115,7 @@ pub extern "C" fn lk_parse_ethernet(text: &[u8], octets: &mut [u8; 6]) -> i32
 
 /// Prints an Ethernet address. Returns its length, or a failure; then `out` is unchanged.
 #[unsafe(no_mangle)]
-pub extern "C" fn lk_print_ethernet(octets: &[u8; 6], out: &mut [u8]) -> isize
+pub extern "C" fn lk_print_mac(octets: &[u8; 6], out: &mut [u8]) -> isize
     ensures { Prints (Some (dashed octets.now)) None out.old out.new result }
 {
     print(EthernetAddress(*octets).text().as_str(), out)

@@ -14,7 +14,7 @@ use c_write::{
 
 /// Turns a frame that was read into its reply.
 #[unsafe(no_mangle)]
-pub extern "C" fn lk_reply(frame: &mut FrameFields)
+pub extern "C" fn lk_make_reply(frame: &mut FrameFields)
     ensures { frame.new ≡ reply_to frame.old }
 {
     turn_around(frame);

@@ -28,7 +28,7 @@ pub extern "C" fn lk_reassemble(
 
 /// Ends packets whose time is over, and writes the frame with the first fragment of one. Returns its length, or 0.
 #[unsafe(no_mangle)]
-pub extern "C" fn lk_expire(
+pub extern "C" fn lk_expire_reassembly(
     partials: &mut [Partial],
     memory: &[u8],
     now: u64,

@@ -138,7 +138,7 @@ pub extern "C" fn lk_connection_read(
 
 /// When `lk_connection_tick` has something to do if nothing happens before. The last time: never.
 #[unsafe(no_mangle)]
-pub extern "C" fn lk_connection_due(connection: &SocketFields) -> u64
+pub extern "C" fn lk_connection_next_timeout(connection: &SocketFields) -> u64
     ensures { let s = socket_of connection.now in result ≡ unwrap_or (due_in (state_from s.connection) s.timers) 18446744073709551615 }
 {
     due(connection)
@@ -154,7 +154,7 @@ pub extern "C" fn lk_connection_state(connection: &SocketFields) -> i32
 
 /// Whether the application has read all that the peer wrote, and the peer has closed.
 #[unsafe(no_mangle)]
-pub extern "C" fn lk_connection_is_ended(connection: &SocketFields) -> i32
+pub extern "C" fn lk_connection_at_eof(connection: &SocketFields) -> i32
     ensures { (initial : ℕ) (events : List Event) (consumed buffer : List ℕ) → result ≡ pos 1 → let back : World = run events (start initial) in Stands back consumed (socket_of connection.now).connection.receiving buffer → (back.closed ≡ true) × (consumed ≡ back.written) }
 {
     is_ended(connection)
@@ -162,7 +162,7 @@ pub extern "C" fn lk_connection_is_ended(connection: &SocketFields) -> i32
 
 /// How many items the peer has not acknowledged: bytes that were written, a SYN and a FIN.
 #[unsafe(no_mangle)]
-pub extern "C" fn lk_connection_waiting(connection: &SocketFields) -> usize
+pub extern "C" fn lk_connection_unacked(connection: &SocketFields) -> usize
     ensures { let s = (socket_of connection.now).connection.sending in (size : ℕ) → OutFits s size → result ≡ min 18446744073709551615 (s.flight + unsent_of s) }
 {
     waiting(connection)

@@ -7,7 +7,7 @@ ghost use Rattle.ip_wire.specs.Endpoint.{ReadsEndpoint};
 ghost use Rattle.ip_wire.specs.Read.{ReadsEthernet};
 
 use c_exports::addresses::{
-    lk_contains, lk_parse_addr, lk_parse_block, lk_parse_endpoint, lk_parse_ethernet, lk_print_addr,
+    lk_contains, lk_parse_addr, lk_parse_endpoint, lk_parse_mac, lk_parse_prefix, lk_print_addr,
 };
 use c_structs::{Addr, Block, Endpoint};
 
@@ -37,7 +37,7 @@ pub fn parse_block_once(text: &[u8], block: &mut Block, other: &mut Block) -> (i
     ensures returned { result.0 ≡ result.1 }
     ensures written { block.new ≡ other.new }
 {
-    (lk_parse_block(text, block), lk_parse_block(text, other))
+    (lk_parse_prefix(text, block), lk_parse_prefix(text, other))
 }
 
 /// An address is in a block, or it is not.
@@ -101,10 +101,7 @@ pub fn parse_ethernet_once(text: &[u8], octets: &mut [u8; 6], other: &mut [u8; 6
     ensures written { octets.new ≡ other.new }
 {
     let (old, same) = (*octets, *other);
-    let results = (
-        lk_parse_ethernet(text, octets),
-        lk_parse_ethernet(text, other),
-    );
+    let results = (lk_parse_mac(text, octets), lk_parse_mac(text, other));
     one_ethernet(text, &old, &same, octets, other, results);
     results
 }
