@@ -207,7 +207,7 @@ static const struct lk_addr new_addrs[] = {IPV4(7), IPV4(0), IPV6(0xfe, 0x80, 7)
 
 READS(read_frame, FRAME, &result->frame)
 READS(read_frame_options, FRAME, &result->frame, &result->options)
-READS(read_ndisc, FRAME, &result->ndisc)
+READS(find_ndisc, FRAME, &result->ndisc)
 READS(read_link, LINK_TYPE, FRAME, &result->link)
 READS(read_linktype, LINK_TYPE, FRAME, subject.len, &result->frame)
 READS(rebuild, FRAME, ROOM)
@@ -248,7 +248,7 @@ static const struct {
     const char *name;
     runner *run;
 } compared[] = {
-    RUN(read_frame) RUN(read_frame_options) RUN(read_ndisc) RUN(read_link) RUN(read_linktype) RUN(rebuild) RUN(answer)
+    RUN(read_frame) RUN(read_frame_options) RUN(find_ndisc) RUN(read_link) RUN(read_linktype) RUN(rebuild) RUN(answer)
     RUN(emit_icmp_error) RUN(forward) RUN(translate) RUN(clamp_mss) RUN(set_hop_limit) RUN(set_dscp) RUN(set_addr) RUN(set_port)
     RUN(set_bytes) RUN(fill_checksum) RUN(translate_out) RUN(translate_in) RUN(print_frame)
 };

@@ -102,7 +102,7 @@ INLINE ptrdiff_t answer_tcp(const struct lk_host *host, const uint8_t *ptr, stru
         frame->tcp = (struct lk_tcp){.ack_number = tcp.seq_number + len, .flags = LK_RST | LK_ACK};
     } else if (tcp.flags & LK_SYN) {
         struct lk_tcp_options asked;
-        lk_read_tcp_options(ptr + frame->transport_offset, tcp.header_len, &asked);
+        lk_find_tcp_options(ptr + frame->transport_offset, tcp.header_len, &asked);
         options = offer(host, &asked);
         frame->tcp = (struct lk_tcp){.seq_number = host->seq_number, .ack_number = tcp.seq_number + 1,
                                      .window_len = host->window_len, .flags = LK_SYN | LK_ACK};
@@ -130,7 +130,7 @@ static OUTLINE ptrdiff_t answer_solicitation(const struct lk_host *host, const u
 {
     struct lk_ndisc asked, advert = {.target = host->ipv6, .has_hardware = 1, .is_advert = 1, .is_router = host->is_router,
                                      .overrides = 1};
-    if (!is_solicited(host, frame) || !lk_read_ndisc(ptr, len, &asked) || asked.is_advert
+    if (!is_solicited(host, frame) || !lk_find_ndisc(ptr, len, &asked) || asked.is_advert
         || !is_same_addr(&asked.target, &host->ipv6))
         return 0;
     memcpy(advert.hardware, host->hardware, 6);

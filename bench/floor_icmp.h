@@ -79,7 +79,7 @@ INLINE int is_allowed(const uint8_t *header, const struct lk_ndisc *ndisc)
            || (!ndisc->has_hardware && !memcmp(dst, solicited_node, sizeof solicited_node));
 }
 
-int lk_read_ndisc(const uint8_t *frame, size_t len, struct lk_ndisc *ndisc)
+int lk_find_ndisc(const uint8_t *frame, size_t len, struct lk_ndisc *ndisc)
 {
     struct packet packet;
     if (!reaches(len, ETHERNET_LEN) || load_16(frame + 12) != swap_16(TYPE_IPV6))

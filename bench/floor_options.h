@@ -111,7 +111,7 @@ INLINE int read_options(const uint8_t *ptr, const uint8_t *end, struct lk_tcp_op
     return 1;
 }
 
-int lk_read_tcp_options(const uint8_t *ptr, size_t len, struct lk_tcp_options *options)
+int lk_find_tcp_options(const uint8_t *ptr, size_t len, struct lk_tcp_options *options)
 {
     if (!reaches(len, TCP_LEN))
         return 0;

@@ -1,4 +1,4 @@
-/* lk_read_frame, lk_read_tcp_options and both in one by hand: straight code with all checks that the library makes. */
+/* lk_read_frame, lk_find_tcp_options and both in one by hand: straight code with all checks that the library makes. */
 #include <tmmintrin.h>
 #include "../c/ip_wire.h"
 #include "sums.h"

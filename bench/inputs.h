@@ -13,10 +13,10 @@ enum {
 /* The calls of a library: on packets, more on frames, of texts, and those that only ours has. The floor has the first two
  * kinds, the reference the first and the third. */
 #define PACKET_CALLS(X)                                                                                     \
-    X(checksum) X(read_frame) X(read_tcp_options) X(rebuild) X(emit_arp) X(emit_ip) X(emit_udp) X(emit_tcp) \
+    X(checksum) X(read_frame) X(find_tcp_options) X(rebuild) X(emit_arp) X(emit_ip) X(emit_udp) X(emit_tcp) \
     X(emit_arp_frame) X(emit_udp_frame) X(emit_tcp_frame) X(contains)
 #define FRAME_CALLS(X)                                                                               \
-    X(forward) X(translate) X(emit_icmp) X(emit_icmp_frame) X(read_ndisc) X(emit_ndisc_frame)          \
+    X(forward) X(translate) X(emit_icmp) X(emit_icmp_frame) X(find_ndisc) X(emit_ndisc_frame)          \
     X(read_frame_options) X(wrap_udp_frame) X(wrap_tcp_frame) X(answer) X(emit_icmp_error)             \
     X(clamp_mss) X(translate_out) X(translate_in) X(read_link) X(read_linktype) X(print_frame)         \
     X(set_hop_limit) X(set_dscp) X(set_addr) X(set_port) X(set_bytes) X(fill_checksum)

@@ -1,4 +1,4 @@
-//! `lk_read_frame` and `lk_read_tcp_options` over smoltcp 0.14. smoltcp does not say why it rejects a
+//! `lk_read_frame` and `lk_find_tcp_options` over smoltcp 0.14. smoltcp does not say why it rejects a
 //! header, so that the reason is always `LK_BAD_LENGTH`. Of four SACK ranges it keeps three.
 
 use crate::input;
@@ -268,7 +268,7 @@ fn options(header: &[u8]) -> Result<TcpOptions> {
 }
 
 #[unsafe(no_mangle)]
-pub unsafe extern "C" fn lk_read_tcp_options(
+pub unsafe extern "C" fn lk_find_tcp_options(
     ptr: *const u8,
     len: usize,
     stored: *mut TcpOptions,

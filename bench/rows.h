@@ -5,7 +5,7 @@
 
 REPEAT(call_checksum, checksum, bytes, row->size)
 REPEAT(call_read, read_frame, bytes, frame_len, &out.frame)
-REPEAT(call_read_options, read_tcp_options, bytes + 34, 60, &out.options)
+REPEAT(call_read_options, find_tcp_options, bytes + 34, 60, &out.options)
 REPEAT(call_read_frame_options, read_frame_options, bytes, frame_len, &out.frame, &out.options)
 REPEAT(call_rebuild, rebuild, bytes, frame_len, OUT)
 REPEAT(call_emit_arp, emit_arp, &ipv4_headers.arp, &ipv4_headers.src.addr, &ipv4_headers.dst.addr, OUT)
@@ -81,8 +81,8 @@ static uint64_t call_next_options(const struct library *library, const struct ro
     uint64_t answers = 0;
     (void)row;
     for (uint64_t i = 0; i < times; i++) {
-        struct lk_tcp_option option = {0, 0, 0};
-        while (next(bytes + 34, 60, &option) == 1)
+        struct lk_tcp_option option = {0, 0, 0, 0};
+        while (next(bytes + 34, 60, &option))
             answers++;
     }
     return answers;

@@ -168,7 +168,7 @@ static uint64_t call_reassemble_both(const struct library *library, const struct
     return take_parts(library, 2, times);
 }
 
-REPEAT(call_read_ndisc, read_ndisc, bytes, frame_len, &out.ndisc)
+REPEAT(call_read_ndisc, find_ndisc, bytes, frame_len, &out.ndisc)
 REPEAT(call_emit_ndisc_frame, emit_ndisc_frame, &solicitation_headers, &solicitation, OUT)
 
 static const struct call forward_rows[] = {

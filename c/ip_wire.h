@@ -2,7 +2,7 @@
  *
  *     parse frames, packets      lk_read_frame, lk_read_packet, lk_read_captured; lk_is_valid: they may be used
  *     parse captures, VLAN tags  lk_read_linktype, lk_read_link
- *     TCP options, IPv6 headers  lk_read_tcp_options, lk_next_tcp_option, lk_next_ipv6_header
+ *     TCP options, IPv6 headers  lk_find_tcp_options, lk_next_tcp_option, lk_next_ipv6_header
  *     print and name             lk_print_frame, lk_protocol_name, lk_ethertype_name, lk_tcp_flag_name
  *     reply                      lk_make_reply, and then write a frame
  *     write a frame              lk_emit_udp_frame, lk_emit_tcp_frame, lk_emit_icmp_frame, lk_emit_arp_frame
@@ -12,7 +12,7 @@
  *     checksums                  lk_fill_checksum of a frame, lk_checksum of bytes, lk_update_checksum and its kin
  *     normalize                  lk_rebuild
  *     answer as a host           lk_answer: ARP, neighbour discovery, ping, UDP echo, closed ports
- *     neighbours and groups      lk_read_ndisc, lk_emit_ndisc_frame, lk_read_mld_query, lk_emit_mld_report
+ *     neighbours and groups      lk_find_ndisc, lk_emit_ndisc_frame, lk_find_mld_query, lk_emit_mld_report
  *     TCP connections            lk_connection_init and the other calls lk_connection_..
  *     route                      lk_index_routes, lk_choose_route, lk_check_source, lk_forward, lk_emit_icmp_error
  *     translate (NAT)            lk_translate_out, lk_translate_in with a table; lk_translate without one
@@ -21,6 +21,19 @@
  *     TCP sequence numbers       lk_add_seq, lk_subtract_seq, lk_compare_seq
  *     why a call failed          lk_reason_name, lk_failure_name, lk_rejection_name
  *     version and processor      lk_version, lk_cpu_supported
+ *
+ * What calls return:
+ *
+ *     calls                                 if they work                      if not
+ *     lk_read_..                            LK_READ, which is 0               another `lk_reason`
+ *     lk_find_.., lk_parse_..               1                                 0: nothing is stored
+ *     lk_next_..                            1                                 0: the end; `is_malformed` says which
+ *     lk_set_.., lk_fill_.., lk_clamp_..    1                                 0: the frame is unchanged
+ *     with `out` and `cap`                  a length; 0: nothing to write     a failure, which is negative
+ *     lk_forward, lk_translate..            LK_NOT_REJECTED, which is 0       another `lk_rejection`
+ *     lk_check_source..                     LK_NOT_REJECTED                   another `lk_rejection`
+ *     lk_choose_route..                     the place of a route, from 0 on   -1
+ *     lk_connection_.. with a ring          a number, from 0 on               -1: the ring does not fit
  *
  * The library needs an x86-64-v2 processor (SSE4.2 and POPCNT). Call lk_cpu_supported() first if the
  * program may run on an older one: every other call may stop there with an illegal instruction. The header needs C99,
@@ -41,7 +54,7 @@
  *   that there is no such value. A hop limit of 0 is a failure, and so is a port of 0 where receivers reject
  *   it: all but the source port of UDP. A 0 in any other field is written as 0.
  *
- * A call that does something begins with its verb: `parse` and `print` are for texts, `read` and `emit` for
+ * A call that does something begins with its verb: `parse` and `print` are for texts, `read`, `find` and `emit` for
  * headers. A call that only tells something is named after it, as lk_tcp_header_len. All calls of a TCP connection begin with
  * lk_connection_. */
 #ifndef IP_WIRE_H
@@ -635,35 +648,36 @@ const char *lk_tcp_flag_name(int flag);
 
 /* Where a header of an IPv6 packet is. */
 struct lk_ipv6_header {
-    uint32_t offset;  /* of its first byte in the packet */
-    uint16_t len;     /* of the whole header, in bytes; 0: before the first header */
-    uint8_t protocol; /* its own number, an `lk_protocol`; LK_PROTOCOL_IPV6: the IPv6 header */
-    uint8_t next;     /* the number of what follows it; LK_PROTOCOL_IPV6_NO_NEXT: nothing */
+    uint32_t offset;      /* of its first byte in the packet */
+    uint16_t len;         /* of the whole header, in bytes; 0: before the first header */
+    uint8_t protocol;     /* its own number, an `lk_protocol`; LK_PROTOCOL_IPV6: the IPv6 header */
+    uint8_t next;         /* the number of what follows it; LK_PROTOCOL_IPV6_NO_NEXT: nothing */
+    uint8_t is_malformed; /* 1: lk_next_ipv6_header returned 0 because the next header is malformed */
 };
 
-/* Steps to the next header of an IPv6 packet, and returns 1: first to the IPv6 header, then to its extension headers
- * (RFC 8200, section 4; RFC 4302): hop-by-hop options (0), routing (43), fragment (44), authentication (51), destination
- * options (60). `ptr` is the first byte of the packet. Begin with a struct of zeros. Returns 0 if no extension header
- * follows, or -1 if the IPv6 header is not there as a whole or has another version, or if the next header does not end
- * within the packet and its `len` captured bytes; then `header` is unchanged.
+/* Steps to the next header of an IPv6 packet: first to the IPv6 header, then to its extension headers (RFC 8200, section
+ * 4; RFC 4302), which are hop-by-hop options (0), routing (43), fragment (44), authentication (51) and destination options
+ * (60). `ptr` is the first byte of the packet. Begin with a struct of zeros.
  *
- * After 0 the packet of protocol `next` begins at `offset + len`. After the header of a fragment that is not the first
+ * Returns 1, or 0 at the end; then only `is_malformed` is stored. `is_malformed` is 1 if the IPv6 header is not there
+ * as a whole or has another version, or if the next header does not end within the packet and its `len` captured bytes.
+ *
+ * At the end the packet of protocol `next` begins at `offset + len`. After the header of a fragment that is not the first
  * `next` is LK_PROTOCOL_IPV6_NO_NEXT, because there the payload begins in the middle of the packet. Hop-by-hop options
  * that do not follow the IPv6 header directly are a header as the others, and so is a routing header with segments
  * left: lk_read_packet rejects both.
  *
- *     struct lk_ipv6_header header = {0, 0, 0, 0};
- *     int found;
- *     while ((found = lk_next_ipv6_header(ptr, len, &header)) == 1)
+ *     struct lk_ipv6_header header = {0, 0, 0, 0, 0};
+ *     while (lk_next_ipv6_header(ptr, len, &header))
  *         ... ptr[header.offset] ...
- *     if (found == 0 && header.next == LK_PROTOCOL_UDP)
+ *     if (!header.is_malformed && header.next == LK_PROTOCOL_UDP)
  *         ... ptr[header.offset + header.len] ... */
 int lk_next_ipv6_header(const uint8_t *ptr, size_t len, struct lk_ipv6_header *header);
 
-/* Stores the options of a TCP header and returns 1. `ptr` is its first byte and `len` its length: in a frame that
- * was read, `frame + f.transport_offset` and `f.tcp.header_len`. Returns 0 and stores nothing if an option
- * before the end mark is malformed, or the header is shorter than 20 bytes or than it says. Of each
- * kind the last option counts. An option is malformed if it passes the header, or has another length than these:
+/* Finds and stores the options of a TCP header. `ptr` is its first byte and `len` its length: in a frame that was read,
+ * `frame + f.transport_offset` and `f.tcp.header_len`. Returns 1, or 0 if an option before the end mark is malformed, or
+ * the header is shorter than 20 bytes or than it says; then nothing is stored. Of each kind the last option counts. An
+ * option is malformed if it passes the header, or has another length than these:
  *
  *   kind     option                 length                stored
  *   0        end mark               1, without a length   nothing; what follows does not count
@@ -674,7 +688,7 @@ int lk_next_ipv6_header(const uint8_t *ptr, size_t len, struct lk_ipv6_header *h
  *   5        SACK                   10, 18, 26 or 34      `sack_ranges`, those of this option only
  *   8        timestamps             2 or more             `tsval` and `tsecr` if the length is 10, else nothing
  *   others                          2 or more             nothing */
-int lk_read_tcp_options(const uint8_t *ptr, size_t len, struct lk_tcp_options *options);
+int lk_find_tcp_options(const uint8_t *ptr, size_t len, struct lk_tcp_options *options);
 
 /* Parses an Ethernet frame as lk_read_frame does, with the same result, and stores the options of its TCP header in
  * `options`. They are all zeros if no TCP header was read: the frame has none, is a fragment, or a header was rejected.
@@ -683,18 +697,20 @@ int lk_read_frame_options(const uint8_t *ptr, size_t len, struct lk_frame *frame
 
 /* Where an option of a TCP header is. */
 struct lk_tcp_option {
-    uint8_t offset; /* of its first byte in the header; 0: before the first option */
-    uint8_t kind;   /* 0: the end mark, 1: padding; the data of the others begins after 2 bytes */
-    uint8_t len;    /* of the whole option, in bytes */
+    uint8_t offset;       /* of its first byte in the header; 0: before the first option */
+    uint8_t kind;         /* 0: the end mark, 1: padding; the data of the others begins after 2 bytes */
+    uint8_t len;          /* of the whole option, in bytes */
+    uint8_t is_malformed; /* 1: lk_next_tcp_option returned 0 because the next option is malformed */
 };
 
-/* Steps to the next option of a TCP header, and returns 1. Begin with a struct of zeros. Returns 0 if there is none
- * left, or -1 if the next one is malformed, or if the header is shorter than 20 bytes or than it says; then
- * `option` is unchanged. `ptr` and `len` are as for lk_read_tcp_options. Options of every kind are stored, in their
- * order, with padding. Nothing follows the end mark.
+/* Steps to the next option of a TCP header. `ptr` and `len` are as for lk_find_tcp_options. Begin with a struct of zeros.
+ * Options of every kind are stored, in their order, with padding. Nothing follows the end mark.
  *
- *     struct lk_tcp_option option = {0, 0, 0};
- *     while (lk_next_tcp_option(ptr, len, &option) == 1)
+ * Returns 1, or 0 at the end; then only `is_malformed` is stored. `is_malformed` is 1 if the next option is malformed,
+ * or if the header is shorter than 20 bytes or than it says.
+ *
+ *     struct lk_tcp_option option = {0, 0, 0, 0};
+ *     while (lk_next_tcp_option(ptr, len, &option))
  *         ... ptr[option.offset] ... */
 int lk_next_tcp_option(const uint8_t *ptr, size_t len, struct lk_tcp_option *option);
 
@@ -906,8 +922,8 @@ ptrdiff_t lk_rebuild(const uint8_t *ptr, size_t len, uint8_t *out, size_t cap);
 
 /* ---- neighbour discovery ---- */
 
-/* Reads a neighbour solicitation or advertisement from an Ethernet frame, stores it and returns 1. Returns 0 and stores
- * nothing if the frame carries none that is valid (RFC 4861, sections 7.1.1 and 7.1.2):
+/* Finds a neighbour solicitation or advertisement in an Ethernet frame, and stores it. Returns 1, or 0 if the frame carries
+ * none that is valid (RFC 4861, sections 7.1.1 and 7.1.2); then nothing is stored:
  *
  * - The hop limit must be 255, the checksum right, and the code 0.
  * - The message must follow the IPv6 header directly: one after extension headers is ignored (RFC 6980, section 5, says so
@@ -917,19 +933,19 @@ ptrdiff_t lk_rebuild(const uint8_t *ptr, size_t len, uint8_t *out, size_t cap);
  *   Later ones and options of other kinds are skipped.
  * - A solicitation from `::` must be for a solicited-node group, without the option.
  * - An advertisement for a multicast address must not be solicited. */
-int lk_read_ndisc(const uint8_t *frame, size_t len, struct lk_ndisc *ndisc);
+int lk_find_ndisc(const uint8_t *frame, size_t len, struct lk_ndisc *ndisc);
 
 /* Writes a whole frame with a neighbour solicitation or advertisement, 78 bytes, or 86 with the option. Uses
  * `ethernet.src`, `ethernet.dst`, `src.addr` and `dst.addr` of `headers`. The hop limit is 255; traffic class and flow
  * label are 0. Fails with LK_NO_VERSION unless `src.addr`, `dst.addr` and `target` are IPv6 addresses, and with
- * LK_NO_ROOM. What lk_read_ndisc rejects for its addresses or flags is written too. */
+ * LK_NO_ROOM. What lk_find_ndisc rejects for its addresses or flags is written too. */
 ptrdiff_t lk_emit_ndisc_frame(const struct lk_frame *headers, const struct lk_ndisc *ndisc, uint8_t *out, size_t cap);
 
 /* ---- multicast listener discovery ---- */
 
 /* Writes a whole frame, 86 bytes, with a report of version 1 (RFC 2710): a host says that it listens to a multicast group.
  * A switch with MLD snooping sends the frames for a group, as neighbour solicitations, only where it got reports. Send it
- * when an interface comes up, and after each query that lk_read_mld_query finds. Queriers of version 2 take it too (RFC
+ * when an interface comes up, and after each query that lk_find_mld_query finds. Queriers of version 2 take it too (RFC
  * 3810, section 8.3).
  *
  * Uses `ethernet.src`, `src.addr` and `dst.addr` of `headers`. `dst.addr` is the group, and the frame goes to its Ethernet
@@ -938,16 +954,21 @@ ptrdiff_t lk_emit_ndisc_frame(const struct lk_frame *headers, const struct lk_nd
  * addresses, and with LK_NO_ROOM. That `dst.addr` is a multicast address is not checked. */
 ptrdiff_t lk_emit_mld_report(const struct lk_frame *headers, uint8_t *out, size_t cap);
 
-/* Returns the maximum response delay of a query in an Ethernet frame that asks for a multicast group, in milliseconds from
- * 0 to 65535: report the group after a random part of it (RFC 2710, section 4). Returns -1 if the frame is no valid query
- * (section 5) of version 1 or 2 for all groups or for this one:
+/* A query of multicast listener discovery. */
+struct lk_mld_query {
+    uint32_t max_delay; /* the maximum response delay, in milliseconds: up to 65535 */
+};
+
+/* Finds a query that asks for a multicast group in an Ethernet frame, and stores it: report the group after a random part
+ * of `max_delay` (RFC 2710, section 4). Returns 1, or 0 if the frame has no valid query (section 5) of version 1 or 2 for
+ * all groups or for this one; then nothing is stored:
  *
  * - The IPv6 source must be a link-local address, in fe80::/10, and the hop limit 1 (RFC 3810, section 6.2).
  * - The ICMPv6 message may follow extension headers. The router alert option is not required.
  * - The message must have 24 bytes, or 28 or more (RFC 3810, section 8.1), and a valid checksum.
- * - A delay of version 2 above 32767 has an exponent (RFC 3810, section 5.1.3). It is returned as in version 1, which is
- *   not longer. */
-int lk_read_mld_query(const uint8_t *frame, size_t len, const struct lk_addr *group);
+ * - A delay of version 2 above 32767 has an exponent (RFC 3810, section 5.1.3). It is stored as that of version 1, which
+ *   is not longer. */
+int lk_find_mld_query(const uint8_t *frame, size_t len, const struct lk_addr *group, struct lk_mld_query *query);
 
 /* ---- a host ---- */
 
@@ -1005,7 +1026,7 @@ struct lk_host {
  * - No connection is kept: what follows the SYN gets RST, with window 0 and without options.
  * - The answer is a new IP packet, as that of lk_make_reply. An echo reply has the DSCP of the request (RFC 1812, section
  *   4.3.2.5), any other answer has DSCP 0.
- * - A solicitation must be valid for lk_read_ndisc, so it gets no answer after extension headers. It is sent to `ipv6`
+ * - A solicitation must be valid for lk_find_ndisc, so it gets no answer after extension headers. It is sent to `ipv6`
  *   and `hardware`, or to the solicited-node group of `ipv6` and the hardware address of the group or `hardware` (RFC
  *   6085). The advertisement goes to the unicast hardware address in the option, or to the sender of the frame; for a
  *   solicitation from `::` to all nodes.
@@ -1717,6 +1738,8 @@ int lk_connection_too_big(struct lk_connection *connection, uint32_t seq_number,
 #define lk_reply lk_make_reply
 #define lk_parse_block lk_parse_prefix
 #define lk_print_block lk_print_prefix
+#define lk_read_tcp_options lk_find_tcp_options
+#define lk_read_ndisc lk_find_ndisc
 #define lk_expire lk_expire_reassembly
 #define lk_block lk_prefix
 #define lk_partial lk_reassembly

@@ -80,7 +80,7 @@ static inline int is_claimed(const struct lk_addr *addr, const uint8_t *own, int
     if (in->network == LK_ARP && in->reason == LK_READ) {
         claimed = asks ? &in->dst.addr : &in->src.addr;
         memcpy(other, in->arp.src_hardware, 6);
-    } else if (in->network == LK_IPV6 && in->transport == LK_ICMP && lk_read_ndisc(frame, len, &ndisc)) {
+    } else if (in->network == LK_IPV6 && in->transport == LK_ICMP && lk_find_ndisc(frame, len, &ndisc)) {
         claimed = asks || ndisc.is_advert ? &ndisc.target : NULL;
         memcpy(other, ndisc.has_hardware ? ndisc.hardware : in->ethernet.src, 6);
     }

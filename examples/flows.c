@@ -145,12 +145,12 @@ static void count_timestamp(struct side *sender, struct side *receiver, const st
 static void count_tcp(struct side *sender, struct side *receiver, const uint8_t *header, const struct lk_tcp *tcp,
                       int64_t now)
 {
-    struct lk_tcp_option option = {0, 0, 0};
+    struct lk_tcp_option option = {0, 0, 0, 0};
     struct lk_tcp_options options;
     if (tcp->flags & LK_SYN && sender->option_count == 0)
-        while (lk_next_tcp_option(header, tcp->header_len, &option) == 1)
+        while (lk_next_tcp_option(header, tcp->header_len, &option))
             sender->options[sender->option_count++] = option.kind;
-    if (lk_read_tcp_options(header, tcp->header_len, &options) && options.has_timestamp)
+    if (lk_find_tcp_options(header, tcp->header_len, &options) && options.has_timestamp)
         count_timestamp(sender, receiver, &options, tcp->flags & LK_ACK, now);
 }
 

@@ -38,13 +38,15 @@ static inline int hear_query(struct listener *listener, int64_t now, const struc
                              const uint8_t *frame, size_t len)
 {
     struct lk_addr group = solicited_node(addr);
-    int delay = addr->version == 6 && lk_is_unicast(addr) ? lk_read_mld_query(frame, len, &group) : -1;
+    struct lk_mld_query query;
     uint32_t random = 0;
-    if (delay > early && getrandom(&random, sizeof random, 0) == sizeof random)
-        random %= (uint32_t)(delay - early);
-    if (delay >= 0 && (listener->report_at == 0 || now + random < listener->report_at))
+    if (addr->version != 6 || !lk_is_unicast(addr) || !lk_find_mld_query(frame, len, &group, &query))
+        return 0;
+    if ((int)query.max_delay > early && getrandom(&random, sizeof random, 0) == sizeof random)
+        random %= query.max_delay - (uint32_t)early;
+    if (listener->report_at == 0 || now + random < listener->report_at)
         listener->report_at = now + random;
-    return delay >= 0;
+    return 1;
 }
 
 static inline int is_due(const struct listener *listener, int64_t now)

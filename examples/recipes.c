@@ -159,9 +159,9 @@ static ptrdiff_t write_syn(size_t payload_len, uint8_t *out, size_t cap)
 /* Prints the kind of each TCP option, up to the first malformed one. */
 static void print_options(const uint8_t *frame, const struct lk_frame *f)
 {
-    struct lk_tcp_option option = {0, 0, 0};
+    struct lk_tcp_option option = {0, 0, 0, 0};
     printf("options:");
-    while (lk_next_tcp_option(frame + f->transport_offset, f->tcp.header_len, &option) == 1)
+    while (lk_next_tcp_option(frame + f->transport_offset, f->tcp.header_len, &option))
         printf(" %u", option.kind);
     printf("\n");
 }

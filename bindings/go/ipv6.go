@@ -28,7 +28,7 @@ func IPv6Headers(packet []byte) ([]IPv6Header, error) {
 		switch found := C.lk_next_ipv6_header(ptr, length, &header); {
 		case found == 1:
 			headers = append(headers, IPv6Header{int(header.offset), int(header.len), uint8(header.protocol), uint8(header.next)})
-		case found == 0:
+		case header.is_malformed == 0:
 			return headers, nil
 		case headers != nil:
 			return headers, BadLength

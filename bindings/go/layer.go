@@ -98,7 +98,7 @@ type Ndisc struct {
 func ReadNdisc(frame []byte) (Ndisc, bool) {
 	var it C.struct_lk_ndisc
 	ptr, length := memory(frame)
-	if C.lk_read_ndisc(ptr, length, &it) != 1 {
+	if C.lk_find_ndisc(ptr, length, &it) != 1 {
 		return Ndisc{}, false
 	}
 	found := Ndisc{addrOf(&it.target), nil, it.is_advert != 0, it.is_router != 0, it.is_solicited != 0, it.overrides != 0}

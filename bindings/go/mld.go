@@ -26,13 +26,13 @@ func EmitMLDReport(hardware HardwareAddr, src, group netip.Addr, out []byte) ([]
 
 // ReadMLDQuery returns the maximum response delay of a query in an Ethernet frame that asks for a multicast group: report
 // the group after a random part of it (RFC 2710, section 4). It returns false if the frame has no valid query of version 1
-// or 2 for all groups or for this one. The comment of lk_read_mld_query in ip_wire.h has the conditions.
+// or 2 for all groups or for this one. The comment of lk_find_mld_query in ip_wire.h has the conditions.
 func ReadMLDQuery(frame []byte, group netip.Addr) (time.Duration, bool) {
 	ptr, length := memory(frame)
 	asked := cAddr(group)
-	delay := C.lk_read_mld_query(ptr, length, &asked)
-	if delay < 0 {
+	var query C.struct_lk_mld_query
+	if C.lk_find_mld_query(ptr, length, &asked, &query) == 0 {
 		return 0, false
 	}
-	return time.Duration(delay) * time.Millisecond, true
+	return time.Duration(query.max_delay) * time.Millisecond, true
 }

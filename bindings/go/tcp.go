@@ -29,7 +29,7 @@ type TCPOptions struct {
 func ReadTCPOptions(header []byte) (TCPOptions, error) {
 	var set C.struct_lk_tcp_options
 	ptr, length := memory(header)
-	if C.lk_read_tcp_options(ptr, length, &set) == 0 {
+	if C.lk_find_tcp_options(ptr, length, &set) == 0 {
 		return TCPOptions{}, BadOptions
 	}
 	return optionsOf(&set), nil
@@ -51,16 +51,13 @@ func RawTCPOptions(header []byte) ([]RawOption, error) {
 		option  C.struct_lk_tcp_option
 	)
 	ptr, length := memory(header)
-	for {
-		switch C.lk_next_tcp_option(ptr, length, &option) {
-		case 1:
-			options = append(options, RawOption{int(option.offset), uint8(option.kind), int(option.len)})
-		case 0:
-			return options, nil
-		default:
-			return options, BadOptions
-		}
+	for C.lk_next_tcp_option(ptr, length, &option) != 0 {
+		options = append(options, RawOption{int(option.offset), uint8(option.kind), int(option.len)})
 	}
+	if option.is_malformed != 0 {
+		return options, BadOptions
+	}
+	return options, nil
 }
 
 // TCPFlagName returns the name of one flag of a TCP header, as "SYN" for 2, or "unknown".

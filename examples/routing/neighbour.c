@@ -356,7 +356,7 @@ int on_ndisc(struct router *router, uint16_t from, const struct lk_frame *in, st
     struct lk_ndisc ndisc;
     int is_group = in->ethernet.dst[0] & 1;
     if ((!is_group && memcmp(in->ethernet.dst, router->interfaces[from].own.hardware, 6) != 0)
-        || !lk_read_ndisc(packet->frame, packet->len, &ndisc))
+        || !lk_find_ndisc(packet->frame, packet->len, &ndisc))
         return 0;
     find_conflict(router, from, in, packet);
     const struct address *own = address_with(router, from, &ndisc.target, 1);

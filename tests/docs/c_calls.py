@@ -47,7 +47,7 @@ STRUCTS = {"Block": "struct lk_prefix", "Node": "struct lk_route_node", "Mapping
 # The struct whose fields C does not see. c_socket compares its size.
 OPAQUE = "lk_connection"
 # Structs in a struct, which has their fields in C.
-PARTS = ("Datagram", "FragKey", "Ends")
+PARTS = ("Datagram", "FragKey", "Ends", "TcpOptionPlace", "Ipv6HeaderPlace")
 # Enums that are used without C too, and whose doc lines do not name them as C does.
 ENUMS = {"Side": "lk_side", "Offload": "lk_offload", "State": "lk_connection_state"}
 # The flags of a TCP header, from bit 0 on (RFC 9293, section 3.1).

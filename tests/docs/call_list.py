@@ -32,7 +32,7 @@ REASONS = [
     ("O", "A program calls it once.", {"counts": "cpu_supported version"}),
     ("P", "It runs what the counted call `lk_read_captured` runs after the Ethernet header.", {"counts": "read_captured_packet"}),
     ("R", "It is called for a timer, an ICMP error or an MLD message, not for each packet.", {
-        "counts": "connection_too_big emit_mld_report expire_reassembly read_mld_query shrink_reach"}),
+        "counts": "connection_too_big emit_mld_report expire_reassembly find_mld_query shrink_reach"}),
     ("S", "It takes fewer than 100 instructions.", {
         "counts": "add_seq compare_seq connection_next_timeout connection_at_eof connection_state connection_unacked emit_ethernet"
                   " is_multicast is_unicast next_ipv6_header make_reply subtract_seq tcp_header_len"}),

@@ -178,7 +178,7 @@ READER(read_link, same_link, struct lk_link, link,
        (uint32_t link_type, const uint8_t *ptr, size_t captured, struct lk_link *link),
        (link_type, ptr, captured, &stored),
        (NUMBER(link_type), given("captured octets", ptr, used_len(captured)), NUMBER(captured), room_of_it))
-READER(read_tcp_options, same_options, struct lk_tcp_options, options,
+READER(find_tcp_options, same_options, struct lk_tcp_options, options,
        (const uint8_t *ptr, size_t len, struct lk_tcp_options *options), (ptr, len, &stored), (INPUT, room_of_it))
 
 int both_read_frame_options(const uint8_t *ptr, size_t len, struct lk_frame *frame, struct lk_tcp_options *options)
@@ -202,7 +202,7 @@ READER(next_tcp_option, SAME_VALUE, struct lk_tcp_option, option,
 READER(next_ipv6_header, SAME_VALUE, struct lk_ipv6_header, header,
        (const uint8_t *ptr, size_t len, struct lk_ipv6_header *header), (ptr, len, &stored),
        (INPUT, (given("header before", header, sizeof *header), room_of_it)))
-READER(read_ndisc, same_ndisc, struct lk_ndisc, ndisc, (const uint8_t *ptr, size_t len, struct lk_ndisc *ndisc),
+READER(find_ndisc, same_ndisc, struct lk_ndisc, ndisc, (const uint8_t *ptr, size_t len, struct lk_ndisc *ndisc),
        (ptr, len, &stored), (INPUT, room_of_it))
 READER(parse_addr, SAME_VALUE, struct lk_addr, addr, (const char *text, size_t len, struct lk_addr *addr),
        (text, len, &stored), (TEXT, room_of_it))

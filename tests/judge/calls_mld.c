@@ -23,11 +23,15 @@ ptrdiff_t both_emit_mld_report(const struct lk_frame *headers, uint8_t *out, siz
     return came;
 }
 
-int both_read_mld_query(const uint8_t *frame, size_t len, const struct lk_addr *group)
+int both_find_mld_query(const uint8_t *frame, size_t len, const struct lk_addr *group, struct lk_mld_query *query)
 {
+    struct lk_mld_query stored = *query, *room_of_it;
     int came;
-    CALL(lk_read_mld_query);
-    came = lk_read_mld_query(given("frame", frame, used_len(len)), NUMBER(len), given("group", group, sizeof *group));
-    end_call(model_read_mld_query(frame, len, group), came);
+    CALL(lk_find_mld_query);
+    room_of_it = room(query, sizeof *query);
+    came = lk_find_mld_query(given("frame", frame, used_len(len)), NUMBER(len), given("group", group, sizeof *group), room_of_it);
+    end_call(model_find_mld_query(frame, len, group, &stored), came);
+    same_bytes("query", &stored, room_of_it, sizeof stored);
+    *query = stored;
     return came;
 }

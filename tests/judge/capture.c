@@ -48,9 +48,9 @@ static void write_verdict(int is_there, unsigned verdict)
 /* The number of extension headers of IPv6 that `counts` counts. */
 static int count_extensions(const struct lk_frame *frame, int counts(unsigned protocol, const uint8_t *ptr, size_t len))
 {
-    struct lk_ipv6_header header = {0, 0, 0, 0};
+    struct lk_ipv6_header header = {0, 0, 0, 0, 0};
     int count = 0;
-    while (frame->network == LK_IPV6 && lk_next_ipv6_header(made.octets + 14, made.len - 14, &header) == 1)
+    while (frame->network == LK_IPV6 && lk_next_ipv6_header(made.octets + 14, made.len - 14, &header))
         count += counts(header.protocol, made.octets + 14 + header.offset, header.len);
     return count;
 }

@@ -62,7 +62,7 @@ void emit_icmp(void)
 static void read_one(size_t len)
 {
     struct lk_ndisc ndisc = any_ndisc();
-    both_read_ndisc(made.octets, len, &ndisc);
+    both_find_ndisc(made.octets, len, &ndisc);
 }
 
 static void emit_ndisc(void)
@@ -79,7 +79,7 @@ static void emit_ndisc(void)
 }
 
 /* Frames of neighbour discovery, mostly. */
-void read_ndisc(void)
+void find_ndisc(void)
 {
     for (int tries = 0; tries < 12; tries++) {
         make_frame();

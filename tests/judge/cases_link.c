@@ -112,7 +112,7 @@ static size_t put_extensions(uint8_t *packet)
 
 void step_ipv6_headers(void)
 {
-    struct lk_ipv6_header header = {0, 0, 0, 0};
+    struct lk_ipv6_header header = {0, 0, 0, 0, 0};
     uint8_t packet[200];
     size_t len;
     fill(packet, sizeof packet);

@@ -62,11 +62,13 @@ void ask_groups(void)
 {
     static uint8_t frame[256];
     struct lk_addr group = any_addr(one_in(16) ? any_version() : 6);
+    struct lk_mld_query query;
     size_t len = put_query(&group, frame);
+    fill(&query, sizeof query);
     emit_report();
-    both_read_mld_query(frame, len, &group);
-    both_read_mld_query(frame, one_in(4) ? unused_len() : below(len), &group);
+    both_find_mld_query(frame, len, &group, &query);
+    both_find_mld_query(frame, one_in(4) ? unused_len() : below(len), &group, &query);
     if (one_in(2))
         frame[below(len)] ^= (uint8_t)(1u << below(8));
-    both_read_mld_query(frame, len, &group);
+    both_find_mld_query(frame, len, &group, &query);
 }

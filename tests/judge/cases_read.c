@@ -102,7 +102,7 @@ static void read_all_options(const uint8_t *ptr, size_t len)
 {
     struct lk_tcp_options options;
     fill(&options, sizeof options);
-    both_read_tcp_options(ptr, len, &options);
+    both_find_tcp_options(ptr, len, &options);
 }
 
 /* Any option before: what comes is open, but nothing outside may be accessed. */
@@ -117,14 +117,15 @@ static void read_after_any_option(const uint8_t *ptr, size_t len)
     given("option before", &before, sizeof before);
     came = room(&before, sizeof before);
     result = lk_next_tcp_option(header, len, came);
-    end_call(1, result >= -1 && result <= 1);
-    if (result != 1)
+    end_call(1, (result == 0 || result == 1) && came->is_malformed <= (result == 0));
+    before.is_malformed = came->is_malformed;
+    if (result == 0)
         same_bytes("option", &before, came, sizeof before);
 }
 
 void read_options(void)
 {
-    struct lk_tcp_option option = {0, 0, 0};
+    struct lk_tcp_option option = {0, 0, 0, 0};
     uint8_t header[128];
     size_t len;
     fill(header, sizeof header);

@@ -88,7 +88,7 @@ int __real_lk_read_link(uint32_t link_type, const uint8_t *ptr, size_t captured,
 int __real_lk_read_linktype(uint32_t link_type, const uint8_t *ptr, size_t captured, size_t len,
                             struct lk_frame *frame);
 int __real_lk_next_ipv6_header(const uint8_t *ptr, size_t len, struct lk_ipv6_header *header);
-int __real_lk_read_tcp_options(const uint8_t *ptr, size_t len, struct lk_tcp_options *options);
+int __real_lk_find_tcp_options(const uint8_t *ptr, size_t len, struct lk_tcp_options *options);
 int __real_lk_read_frame_options(const uint8_t *ptr, size_t len, struct lk_frame *frame,
                                  struct lk_tcp_options *options);
 ptrdiff_t __real_lk_emit_udp(const struct lk_endpoint *src, const struct lk_endpoint *dst, const uint8_t *ptr,
@@ -115,7 +115,7 @@ ptrdiff_t __real_lk_emit_icmp_frame(const struct lk_frame *headers, const uint8_
                                     size_t cap);
 ptrdiff_t __real_lk_emit_ndisc_frame(const struct lk_frame *headers, const struct lk_ndisc *ndisc, uint8_t *out,
                                      size_t cap);
-int __real_lk_read_ndisc(const uint8_t *frame, size_t len, struct lk_ndisc *ndisc);
+int __real_lk_find_ndisc(const uint8_t *frame, size_t len, struct lk_ndisc *ndisc);
 
 /* ---- reading ---- */
 
@@ -214,10 +214,10 @@ int __wrap_lk_next_ipv6_header(const uint8_t *ptr, size_t len, struct lk_ipv6_he
     return result;
 }
 
-int __wrap_lk_read_tcp_options(const uint8_t *ptr, size_t len, struct lk_tcp_options *options)
+int __wrap_lk_find_tcp_options(const uint8_t *ptr, size_t len, struct lk_tcp_options *options)
 {
-    struct lk_tcp_option option = {0, 0, 0};
-    int result = __real_lk_read_tcp_options(ptr, len, options);
+    struct lk_tcp_option option = {0, 0, 0, 0};
+    int result = __real_lk_find_tcp_options(ptr, len, options);
     while (fault == WINDOW_SCALE_15 && result && lk_next_tcp_option(ptr, len, &option) == 1)
         if (option.kind == 3)
             options->window_scale = ptr[option.offset + 2] > 15 ? 15 : ptr[option.offset + 2];
@@ -229,7 +229,7 @@ int __wrap_lk_read_frame_options(const uint8_t *ptr, size_t len, struct lk_frame
 {
     int reason = __real_lk_read_frame_options(ptr, len, frame, options);
     if (fault == REJECTED_OPTIONS_STORED && frame->rejected == LK_TCP)
-        __real_lk_read_tcp_options(ptr + frame->transport_offset, len - frame->transport_offset, options);
+        __real_lk_find_tcp_options(ptr + frame->transport_offset, len - frame->transport_offset, options);
     return reason;
 }
 
@@ -303,16 +303,16 @@ ptrdiff_t __wrap_lk_emit_ndisc_frame(const struct lk_frame *headers, const struc
     return result;
 }
 
-int __wrap_lk_read_ndisc(const uint8_t *frame, size_t len, struct lk_ndisc *ndisc)
+int __wrap_lk_find_ndisc(const uint8_t *frame, size_t len, struct lk_ndisc *ndisc)
 {
     static uint8_t copy[0x20000];
     int result;
     if (fault != ANY_HOP_LIMIT_ACCEPTED || len < 54 || len > sizeof copy)
-        result = __real_lk_read_ndisc(frame, len, ndisc);
+        result = __real_lk_find_ndisc(frame, len, ndisc);
     else {
         memcpy(copy, frame, len);
         copy[21] = 255;
-        result = __real_lk_read_ndisc(copy, len, ndisc);
+        result = __real_lk_find_ndisc(copy, len, ndisc);
     }
     if (fault == FLAGS_IN_A_SOLICITATION && result && !ndisc->is_advert)
         ndisc->is_solicited = 1;

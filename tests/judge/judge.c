@@ -21,7 +21,7 @@ static void run_case(uint64_t seed, uint64_t number)
     static void (*const cases[])(void) = {
         read_whole, rebuild_frame, answer_frame, emit_frame, wrap_frame, emit_layer, reply_frame, read_options,
         parse_text, print_text, sum_bytes, classify_addr, name_number, choose_route, answer_frame, forward_frame,
-        emit_icmp, read_ndisc, ask_groups, emit_error, step_ipv6_headers, edit_frame, print_frame, fragment_frame,
+        emit_icmp, find_ndisc, ask_groups, emit_error, step_ipv6_headers, edit_frame, print_frame, fragment_frame,
     };
     const size_t count = sizeof cases / sizeof *cases;
     begin_case(seed, number);

@@ -68,8 +68,8 @@ BOTH(emit_udp_frame); BOTH(emit_tcp_frame); BOTH(emit_icmp_frame); BOTH(emit_arp
 BOTH(wrap_udp_frame); BOTH(wrap_tcp_frame); BOTH(emit_ethernet); BOTH(emit_arp); BOTH(emit_ip); BOTH(emit_udp);
 BOTH(emit_tcp); BOTH(emit_icmp); BOTH(emit_icmp_error); BOTH(rebuild); BOTH(answer); BOTH(print_addr);
 BOTH(print_prefix); BOTH(print_endpoint); BOTH(print_mac); BOTH(print_frame); BOTH(read_frame); BOTH(read_packet);
-BOTH(read_captured); BOTH(read_captured_packet); BOTH(read_tcp_options); BOTH(read_frame_options);
-BOTH(next_tcp_option); BOTH(next_ipv6_header); BOTH(read_link); BOTH(read_linktype); BOTH(read_ndisc);
+BOTH(read_captured); BOTH(read_captured_packet); BOTH(find_tcp_options); BOTH(read_frame_options);
+BOTH(next_tcp_option); BOTH(next_ipv6_header); BOTH(read_link); BOTH(read_linktype); BOTH(find_ndisc);
 BOTH(parse_addr); BOTH(parse_prefix); BOTH(parse_endpoint); BOTH(parse_mac); BOTH(make_reply); BOTH(tcp_header_len);
 BOTH(contains); BOTH(is_multicast); BOTH(is_unicast); BOTH(checksum);
 BOTH(update_checksum); BOTH(update_udp_checksum); BOTH(update_checksum_addr); BOTH(update_udp_checksum_addr);
@@ -80,7 +80,7 @@ BOTH(check_source); BOTH(make_route_table); BOTH(choose_route_by_table); BOTH(ch
 BOTH(translate_out); BOTH(translate_in); BOTH(set_hop_limit); BOTH(set_dscp); BOTH(set_addr);
 BOTH(set_port); BOTH(set_bytes); BOTH(fill_checksum); BOTH(protocol_name); BOTH(ethertype_name);
 BOTH(tcp_flag_name); BOTH(clamp_mss_as); BOTH(set_addr_as); BOTH(set_port_as); BOTH(set_bytes_as); BOTH(fragment);
-BOTH(reassemble); BOTH(expire_reassembly); BOTH(emit_mld_report); BOTH(read_mld_query); BOTH(shrink_reach);
+BOTH(reassemble); BOTH(expire_reassembly); BOTH(emit_mld_report); BOTH(find_mld_query); BOTH(shrink_reach);
 
 /* The model of NAT has a table of its own: it is empty then. */
 void forget_mappings(void);
@@ -150,7 +150,7 @@ void forward_frame(void);
 void choose_route(void);
 void translate_frames(void);
 void emit_icmp(void);
-void read_ndisc(void);
+void find_ndisc(void);
 void ask_groups(void);
 void emit_error(void);
 void edit_frame(void);

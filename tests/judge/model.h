@@ -76,7 +76,7 @@ size_t options_len(const struct lk_tcp_options *options);
  * is 0. */
 void put_options(const struct lk_tcp_options *options, int has_ranges, uint8_t *out);
 
-int model_read_tcp_options(const uint8_t *ptr, size_t len, struct lk_tcp_options *options);
+int model_find_tcp_options(const uint8_t *ptr, size_t len, struct lk_tcp_options *options);
 int model_next_tcp_option(const uint8_t *ptr, size_t len, struct lk_tcp_option *option);
 
 /* ---- model_read.c ---- */
@@ -146,7 +146,7 @@ ptrdiff_t model_emit_icmp(const struct lk_icmp *header, const struct lk_addr *sr
 
 /* ---- model_icmp.c ---- */
 
-int model_read_ndisc(const uint8_t *octets, size_t len, struct lk_ndisc *ndisc);
+int model_find_ndisc(const uint8_t *octets, size_t len, struct lk_ndisc *ndisc);
 ptrdiff_t model_emit_ndisc_frame(const struct lk_frame *headers, const struct lk_ndisc *ndisc, uint8_t *out,
                                  size_t cap);
 ptrdiff_t model_emit_icmp_error(const struct lk_interface *own, int problem, uint32_t mtu, const uint8_t *octets,
@@ -155,7 +155,7 @@ ptrdiff_t model_emit_icmp_error(const struct lk_interface *own, int problem, uin
 /* ---- model_mld.c ---- */
 
 ptrdiff_t model_emit_mld_report(const struct lk_frame *headers, uint8_t *out, size_t cap);
-int model_read_mld_query(const uint8_t *frame, size_t len, const struct lk_addr *group);
+int model_find_mld_query(const uint8_t *frame, size_t len, const struct lk_addr *group, struct lk_mld_query *query);
 
 /* ---- model_icmp.c, for others ---- */
 

@@ -70,7 +70,7 @@ static size_t rebuild_tcp(const struct lk_frame *frame, const uint8_t *ptr, uint
     struct lk_tcp tcp = frame->tcp;
     struct lk_tcp_options options;
     rebuild_flags(&tcp);
-    model_read_tcp_options(ptr + frame->transport_offset, tcp.header_len, &options);
+    model_find_tcp_options(ptr + frame->transport_offset, tcp.header_len, &options);
     return put_tcp(&tcp, &options, tcp.flags & LK_ACK, &frame->src, &frame->dst, ptr + frame->payload_offset,
                    frame->payload_len, 1, out);
 }
@@ -248,7 +248,7 @@ static size_t answer_tcp(const struct lk_host *host, struct lk_frame *frame, con
     uint8_t segment[60];
     size_t len;
     int is_to_open = is_open(host->open_ports, host->open_port_count, frame->dst.port);
-    model_read_tcp_options(ptr + frame->transport_offset, frame->tcp.header_len, &syn);
+    model_find_tcp_options(ptr + frame->transport_offset, frame->tcp.header_len, &syn);
     if (frame->tcp.flags & LK_RST)
         return 0;
     if (is_to_open && (frame->tcp.flags & (LK_SYN | LK_ACK)) == 0)
@@ -293,7 +293,7 @@ static size_t answer_solicitation(const struct lk_host *host, struct lk_frame *f
     memcpy(group.octets + 13, host->ipv6.octets + 13, 3);
     memcpy(station + 3, group.octets + 13, 3);
     all_nodes.octets[15] = 1;
-    if (!model_read_ndisc(ptr, frame_len, &asked) || asked.is_advert || !is_same(&asked.target, &host->ipv6) ||
+    if (!model_find_ndisc(ptr, frame_len, &asked) || asked.is_advert || !is_same(&asked.target, &host->ipv6) ||
         !is_host(&host->ipv6) || !is_unicast_hardware(frame->ethernet.src))
         return 0;
     /* RFC 6085: what goes to the group may be sent to one of its hosts. */

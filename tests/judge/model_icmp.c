@@ -45,7 +45,7 @@ static int is_allowed(const struct lk_ndisc *ndisc, const struct lk_addr *src, c
     return !is_in(src, "::/128") || (is_in(dst, "ff02::1:ff00:0/104") && !ndisc->has_hardware);
 }
 
-int model_read_ndisc(const uint8_t *octets, size_t len, struct lk_ndisc *ndisc)
+int model_find_ndisc(const uint8_t *octets, size_t len, struct lk_ndisc *ndisc)
 {
     struct lk_frame frame;
     struct lk_ndisc it;

@@ -100,22 +100,25 @@ int model_read_link(uint32_t link_type, const uint8_t *ptr, size_t captured, str
 int model_next_ipv6_header(const uint8_t *ptr, size_t len, struct lk_ipv6_header *header)
 {
     size_t at = header->offset + (size_t)header->len, end, header_len;
-    if (used_len(len) < 40 || ptr[0] >> 4 != 6)
-        return -1;
+    header->is_malformed = used_len(len) < 40 || ptr[0] >> 4 != 6;
+    if (header->is_malformed)
+        return 0;
     if (header->len == 0) {
-        *header = (struct lk_ipv6_header){0, 40, 41, ptr[6]};
+        *header = (struct lk_ipv6_header){0, 40, 41, ptr[6], 0};
         return 1;
     }
     if (header->next != 0 && header->next != 43 && header->next != 44 && header->next != 51 && header->next != 60)
         return 0;
     end = 40 + get_word(ptr + 4) < len ? 40 + get_word(ptr + 4) : len;
+    header->is_malformed = 1;
     if (end < at || end - at < 8)
-        return -1;
+        return 0;
     header_len = header->next == 44 ? 8 : 8 * (1 + (size_t)ptr[at + 1]);
     if (header->next == 51)
         header_len = 4 * (2 + (size_t)ptr[at + 1]);
     if (end - at < header_len)
-        return -1;
+        return 0;
+    header->is_malformed = 0;
     header->protocol = header->next;
     header->next = header->protocol == 44 && (get_word(ptr + at + 2) & 0xfff8) != 0 ? 59 : ptr[at];
     header->offset = (uint32_t)at;

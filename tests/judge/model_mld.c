@@ -26,7 +26,7 @@ ptrdiff_t model_emit_mld_report(const struct lk_frame *headers, uint8_t *out, si
     return sizeof frame;
 }
 
-int model_read_mld_query(const uint8_t *octets, size_t len, const struct lk_addr *group)
+int model_find_mld_query(const uint8_t *octets, size_t len, const struct lk_addr *group, struct lk_mld_query *query)
 {
     static const uint8_t all_groups[16];
     struct lk_frame frame;
@@ -35,12 +35,13 @@ int model_read_mld_query(const uint8_t *octets, size_t len, const struct lk_addr
     model_read_frame(octets, len, &frame);
     if (group->version != 6 || frame.network != LK_IPV6 || frame.transport != LK_ICMP || frame.icmp.type != 130 ||
         frame.transport_checksum != LK_CHECKSUM_VALID || !is_in(&frame.src.addr, "fe80::/10") || frame.ip.hop_limit != 1)
-        return -1;
+        return 0;
     message = octets + frame.transport_offset;
     message_len = 8 + frame.payload_len;
     if (message_len != 24 && message_len < 28)
-        return -1;
+        return 0;
     if (memcmp(message + 8, all_groups, 16) != 0 && memcmp(message + 8, group->octets, 16) != 0)
-        return -1;
-    return (int)get_word(message + 4);
+        return 0;
+    query->max_delay = get_word(message + 4);
+    return 1;
 }

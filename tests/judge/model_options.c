@@ -90,7 +90,7 @@ static void read_option(const uint8_t *option, struct lk_tcp_options *options)
     }
 }
 
-int model_read_tcp_options(const uint8_t *ptr, size_t len, struct lk_tcp_options *options)
+int model_find_tcp_options(const uint8_t *ptr, size_t len, struct lk_tcp_options *options)
 {
     size_t end = said_len(ptr, len);
     if (end == 0 || is_malformed(ptr, end))
@@ -104,13 +104,13 @@ int model_read_tcp_options(const uint8_t *ptr, size_t len, struct lk_tcp_options
 int model_next_tcp_option(const uint8_t *ptr, size_t len, struct lk_tcp_option *option)
 {
     size_t end = said_len(ptr, len), at = option->offset == 0 ? 20 : (size_t)option->offset + option->len, found;
-    if (end == 0)
-        return -1;
-    if (at >= end || (option->offset != 0 && option->kind == END))
+    option->is_malformed = end == 0;
+    if (end == 0 || at >= end || (option->offset != 0 && option->kind == END))
         return 0;
     found = option_len(ptr, at, end);
+    option->is_malformed = found == 0;
     if (found == 0)
-        return -1;
+        return 0;
     option->offset = (uint8_t)at;
     option->kind = ptr[at];
     option->len = (uint8_t)found;

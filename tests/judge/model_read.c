@@ -481,7 +481,7 @@ int model_read_frame_options(const uint8_t *ptr, size_t len, struct lk_frame *fr
     int reason = model_read_frame(ptr, len, frame);
     memset(options, 0, sizeof *options);
     if (frame->transport == LK_TCP)
-        model_read_tcp_options(ptr + frame->transport_offset, frame->tcp.header_len, options);
+        model_find_tcp_options(ptr + frame->transport_offset, frame->tcp.header_len, options);
     return reason;
 }
 

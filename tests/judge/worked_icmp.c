@@ -119,7 +119,7 @@ static void write_messages(void)
 
 static int read_neighbour(const struct octets *frame, struct lk_ndisc *ndisc)
 {
-    return both_read_ndisc(frame->at, frame->len, ndisc);
+    return both_find_ndisc(frame->at, frame->len, ndisc);
 }
 
 static void read_neighbours(void)
@@ -140,7 +140,7 @@ static void read_neighbours(void)
     CHECK(read_neighbour(&advert_to_all, &n) == 1 && n.is_solicited == 0 && n.overrides == 1);
     CHECK(read_neighbour(&other_hop_limit, &n) == 0 && read_neighbour(&wrong_checksum, &n) == 0);
     CHECK(read_neighbour(&echo_request6, &n) == 0 && read_neighbour(&echo_request, &n) == 0);
-    CHECK(both_read_ndisc(solicit.at, 85, &n) == 0);
+    CHECK(both_find_ndisc(solicit.at, 85, &n) == 0);
 }
 
 static void write_neighbours(void)

@@ -133,15 +133,15 @@ static void reads_other_packets(void)
     CHECK(both_read_linktype(228, tagged.at, tagged.len, tagged.len, &frame) == LK_BAD_VERSION);
 }
 
-/* Steps through the headers of an IPv6 packet, and writes down each: its number, place and length, and what follows. */
+/* Steps through the headers of an IPv6 packet, and writes down each: its number, place and length, and what follows.
+ * Returns whether one is malformed. */
 static int steps(const struct octets *packet, size_t len, char *text)
 {
-    struct lk_ipv6_header header = {0, 0, 0, 0};
-    int result;
+    struct lk_ipv6_header header = {0, 0, 0, 0, 0};
     *text = 0;
-    while ((result = both_next_ipv6_header(packet->at, len, &header)) == 1)
+    while (both_next_ipv6_header(packet->at, len, &header))
         text += sprintf(text, "%d@%d+%d:%d ", header.protocol, (int)header.offset, header.len, header.next);
-    return result;
+    return header.is_malformed;
 }
 
 /* By hand, from RFC 8200, sections 4.3 to 4.6, and RFC 6564 for a length of more than one unit. Scapy packed the first
@@ -151,11 +151,11 @@ static void steps_through_ipv6_headers(void)
 #define ENDS "20010db800000000000000000000000120010db8000000000000000000000002"
     static const struct {
         const char *octets, *headers;
-        int result;
+        int is_malformed;
         size_t captured;
     } packets[] = {
         {IPV6, "41@0+40:17 ", 0, 0},
-        {"6000000000000040" ENDS, "41@0+40:0 ", -1, 0},
+        {"6000000000000040" ENDS, "41@0+40:0 ", 1, 0},
         {"6000000000083b40" ENDS "0000000000000000", "41@0+40:59 ", 0, 0},
         {"6000000000100040" ENDS "1100050200000100" "d5cb14e900080000", "41@0+40:0 0@40+8:17 ", 0, 0},
         {"6000000000280040" ENDS "2b00050200000100" "3c010000" "000000000000000000000000" "2c00010400000000"
@@ -164,21 +164,21 @@ static void steps_through_ipv6_headers(void)
          "41@0+40:60 60@40+8:0 0@48+8:17 ", 0, 0},
         {"6000000000102c40" ENDS "1100000800000001" "d5cb14e900080000", "41@0+40:44 44@40+8:59 ", 0, 0},
         {"6000000000103c40" ENDS "1101000000000000" "0000000000000000", "41@0+40:60 60@40+16:17 ", 0, 0},
-        {"6000000000103c40" ENDS "1101000000000000" "0000000000000000", "41@0+40:60 ", -1, 55},
-        {"6000000000103c40" ENDS "1102000000000000" "0000000000000000" "0000000000000000", "41@0+40:60 ", -1, 0},
-        {"6000000000073c40" ENDS "1100000000000000", "41@0+40:60 ", -1, 0},
+        {"6000000000103c40" ENDS "1101000000000000" "0000000000000000", "41@0+40:60 ", 1, 55},
+        {"6000000000103c40" ENDS "1102000000000000" "0000000000000000" "0000000000000000", "41@0+40:60 ", 1, 0},
+        {"6000000000073c40" ENDS "1100000000000000", "41@0+40:60 ", 1, 0},
         {"6000000000203340" ENDS "3a0400000000010100000007aaaaaaaaaaaaaaaaaaaaaaaa" "80002d1c12340001",
          "41@0+40:51 51@40+24:58 ", 0, 0},
         {"6000000000103340" ENDS "1101000000000000" "00000000d5cb14e9", "41@0+40:51 51@40+12:17 ", 0, 0},
         {"6000000000083240" ENDS "1100000000000000", "41@0+40:50 ", 0, 0},
-        {"4000000000103c40" ENDS "1100000000000000" "0000000000000000", "", -1, 0},
-        {IPV6, "", -1, 39},
+        {"4000000000103c40" ENDS "1100000000000000" "0000000000000000", "", 1, 0},
+        {IPV6, "", 1, 39},
     };
     for (size_t i = 0; i < sizeof packets / sizeof *packets; i++) {
         struct octets packet = octets(packets[i].octets);
         char text[256];
         int result = steps(&packet, packets[i].captured != 0 ? packets[i].captured : packet.len, text);
-        CHECK_ROW(i, result == packets[i].result && strcmp(text, packets[i].headers) == 0);
+        CHECK_ROW(i, result == packets[i].is_malformed && strcmp(text, packets[i].headers) == 0);
     }
 }
 

@@ -16,10 +16,12 @@ static void report_groups(void)
     FAILS(LK_NO_VERSION, both_emit_mld_report(&headers, out, ROOM));
 }
 
+/* -1: there is no query. */
 static int delay_of(struct octets frame, const char *group)
 {
     const struct lk_addr asked = addr(group);
-    return both_read_mld_query(frame.at, frame.len, &asked);
+    struct lk_mld_query query = {OLD};
+    return both_find_mld_query(frame.at, frame.len, &asked, &query) ? (int)query.max_delay : -1;
 }
 
 static void hear_queries(void)

@@ -38,13 +38,13 @@ static void reads_options(int line, const struct octets *header, struct lk_tcp_o
 {
     struct lk_tcp_options found;
     memset(&found, OLD, sizeof found);
-    check(__FILE__, line, 0, both_read_tcp_options(header->at, header->len, &found) == 1);
+    check(__FILE__, line, 0, both_find_tcp_options(header->at, header->len, &found) == 1);
     same_options(&expected, &found);
 }
 
 #define READS_OPTIONS(header, expected) reads_options(__LINE__, &header, expected)
 #define REJECTS_OPTIONS(header, len) \
-    (memset(&found, OLD, sizeof found), CHECK(both_read_tcp_options(header.at, len, &found) == 0), \
+    (memset(&found, OLD, sizeof found), CHECK(both_find_tcp_options(header.at, len, &found) == 0), \
      same_options(&unchanged, &found))
 
 static void reads_all_options(void)
@@ -64,15 +64,14 @@ static void reads_all_options(void)
     REJECTS_OPTIONS(all_options, 0);
 }
 
-/* Steps through all options, and writes down each: its offset, length and kind. */
+/* Steps through all options, and writes down each: its offset, length and kind. Returns whether one is malformed. */
 static int steps(const struct octets *header, char *text)
 {
-    struct lk_tcp_option option = {0, 0, 0};
-    int result;
+    struct lk_tcp_option option = {0, 0, 0, 0};
     *text = 0;
-    while ((result = both_next_tcp_option(header->at, header->len, &option)) == 1)
+    while (both_next_tcp_option(header->at, header->len, &option))
         text += sprintf(text, "%d+%d:%d ", option.offset, option.len, option.kind);
-    return result;
+    return option.is_malformed;
 }
 
 /* A header: 20 bytes, of which one is its length, and the options. */
@@ -90,19 +89,19 @@ static void steps_through_options(void)
                         cut_off = cut(&padded, 31, (struct change[CHANGES]){{0}});
     const struct {
         struct octets header;
-        int result;
+        int is_malformed;
         const char *options;
     } rows[] = {
         {padded, 0, "20+1:1 21+1:1 22+10:8 "},
         {header_with("fe04abcd22020009"), 0, "20+4:254 24+2:34 26+1:0 "},
-        {header_with("01010108"), -1, "20+1:1 21+1:1 22+1:1 "},
+        {header_with("01010108"), 1, "20+1:1 21+1:1 22+1:1 "},
         {no_options, 0, ""},
-        {bad_offset, -1, ""},
-        {cut_off, -1, ""},
+        {bad_offset, 1, ""},
+        {cut_off, 1, ""},
     };
     for (size_t i = 0; i < sizeof rows / sizeof rows[0]; i++) {
         char text[512];
-        CHECK_ROW(i, steps(&rows[i].header, text) == rows[i].result && strcmp(text, rows[i].options) == 0);
+        CHECK_ROW(i, steps(&rows[i].header, text) == rows[i].is_malformed && strcmp(text, rows[i].options) == 0);
     }
 }
 
@@ -140,7 +139,7 @@ static void accepts_lengths(void)
         struct octets header = header_with(rows[i].options);
         struct lk_tcp_options found;
         memset(&found, OLD, sizeof found);
-        CHECK_ROW(i, both_read_tcp_options(header.at, header.len, &found) == rows[i].is_accepted);
+        CHECK_ROW(i, both_find_tcp_options(header.at, header.len, &found) == rows[i].is_accepted);
         CHECK_ROW(i, !rows[i].is_accepted || found.has_timestamp == rows[i].has_timestamp);
     }
 }

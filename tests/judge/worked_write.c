@@ -144,7 +144,7 @@ static int reads_back(const struct lk_tcp_options *options)
 {
     struct lk_tcp_options found;
     memset(&found, OLD, sizeof found);
-    return both_tcp_header_len(options) == 60 && both_read_tcp_options(out, 60, &found) == 1 &&
+    return both_tcp_header_len(options) == 60 && both_find_tcp_options(out, 60, &found) == 1 &&
            memcmp(&found, options, sizeof found) == 0;
 }
 
@@ -208,7 +208,7 @@ static void limits_of_options(void)
         CHECK_ROW(i, both_emit_tcp(&header, &written, &end, &end, NULL, 0, 1, clear(), ROOM) == 24);
         CHECK_ROW(i, memcmp(out + 20, limits[i].octets, 4) == 0);
         memset(&read, OLD, sizeof read);
-        CHECK_ROW(i, both_read_tcp_options(out, 24, &read) == 1);
+        CHECK_ROW(i, both_find_tcp_options(out, 24, &read) == 1);
         written.window_scale = limits[i].scale_read;
         same_options(&written, &read);
     }

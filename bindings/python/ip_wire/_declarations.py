@@ -44,8 +44,11 @@ Frame = _declare(
     transport_checksum=c_uint8, protocol=c_uint8, unused=c_uint8 * 4, icmp=Icmp
 )
 Link = _declare("lk_link", offset=c_size_t, type=c_uint16, tags=c_uint16 * 2, tag_count=c_uint8)
-Ipv6Header = _declare("lk_ipv6_header", offset=c_uint32, len=c_uint16, protocol=c_uint8, next=c_uint8)
-TcpOption = _declare("lk_tcp_option", offset=c_uint8, kind=c_uint8, len=c_uint8)
+Ipv6Header = _declare(
+    "lk_ipv6_header", offset=c_uint32, len=c_uint16, protocol=c_uint8, next=c_uint8, is_malformed=c_uint8
+)
+TcpOption = _declare("lk_tcp_option", offset=c_uint8, kind=c_uint8, len=c_uint8, is_malformed=c_uint8)
+MldQuery = _declare("lk_mld_query", max_delay=c_uint32)
 Host = _declare(
     "lk_host", open_ports=POINTER(c_uint16), open_port_count=c_size_t, open_udp_ports=POINTER(c_uint16),
     open_udp_port_count=c_size_t, ipv4=Addr, ipv6=Addr, hardware=Hardware, echo_port=c_uint16, seq_number=c_uint32,
@@ -104,7 +107,7 @@ CALLS: Dict[str, Tuple[Any, ...]] = {
     "lk_ethertype_name": (c_char_p, c_int),
     "lk_tcp_flag_name": (c_char_p, c_int),
     "lk_next_ipv6_header": (c_int, DATA, Ipv6Header),
-    "lk_read_tcp_options": (c_int, DATA, TcpOptions),
+    "lk_find_tcp_options": (c_int, DATA, TcpOptions),
     "lk_read_frame_options": (c_int, DATA, Frame, TcpOptions),
     "lk_next_tcp_option": (c_int, DATA, TcpOption),
     "lk_make_reply": (None, Frame),
@@ -132,10 +135,10 @@ CALLS: Dict[str, Tuple[Any, ...]] = {
     "lk_subtract_seq": (c_int32, c_uint32, c_uint32),
     "lk_compare_seq": (c_int, c_uint32, c_uint32),
     "lk_rebuild": (c_ssize_t, DATA, OUT),
-    "lk_read_ndisc": (c_int, DATA, Ndisc),
+    "lk_find_ndisc": (c_int, DATA, Ndisc),
     "lk_emit_ndisc_frame": (c_ssize_t, Frame, Ndisc, OUT),
     "lk_emit_mld_report": (c_ssize_t, Frame, OUT),
-    "lk_read_mld_query": (c_int, DATA, Addr),
+    "lk_find_mld_query": (c_int, DATA, Addr, MldQuery),
     "lk_answer": (c_ssize_t, Host, DATA, OUT),
     "lk_emit_icmp_error": (c_ssize_t, Interface, c_int, c_uint32, DATA, OUT),
     "lk_rejection_name": (c_char_p, c_int),

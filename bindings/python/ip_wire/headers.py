@@ -203,16 +203,16 @@ def options_from_c(options: Any) -> TcpOptions:
 def parse_tcp_options(header: Data) -> Optional[TcpOptions]:
     """Parses the options of a TCP header. None if one is malformed, or the header is shorter than it says."""
     options = c.TcpOptions()
-    return options_from_c(options) if call("lk_read_tcp_options", header, options) else None
+    return options_from_c(options) if call("lk_find_tcp_options", header, options) else None
 
 
 def raw_tcp_options(header: Data) -> Iterator[RawOption]:
     """The options of a TCP header, of every kind, with padding. Raises Rejected at a malformed one."""
     data, option = data_of(header), c.TcpOption()
-    while (found := call("lk_next_tcp_option", data, option)) == 1:
+    while call("lk_next_tcp_option", data, option):
         end = option.offset + option.len
         yield RawOption(option.kind, option.offset, data[option.offset + 2 : end])
-    if found < 0:
+    if option.is_malformed:
         raise Rejected(Reason.BAD_OPTIONS)
 
 
@@ -235,8 +235,8 @@ def ipv6_headers(packet: Data) -> Iterator[Ipv6Header]:
 
     After the header of a fragment that is not the first `next` is 59."""
     data, header = data_of(packet), c.Ipv6Header()
-    while (found := call("lk_next_ipv6_header", data, header)) == 1:
+    while call("lk_next_ipv6_header", data, header):
         yield from_c(Ipv6Header, header)
-    if found < 0:
+    if header.is_malformed:
         at_first = Reason.TOO_SHORT if len(data) < 40 else Reason.BAD_VERSION
         raise Rejected(Reason.BAD_LENGTH if header.len else at_first)

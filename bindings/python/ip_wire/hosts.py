@@ -30,7 +30,7 @@ class Ndisc:
 def parse_ndisc(frame: Data) -> Optional[Ndisc]:
     """The message in an Ethernet frame. None if there is none that is valid (RFC 4861, sections 7.1.1 and 7.1.2)."""
     ndisc = c.Ndisc()
-    return from_c(Ndisc, ndisc) if call("lk_read_ndisc", frame, ndisc) else None
+    return from_c(Ndisc, ndisc) if call("lk_find_ndisc", frame, ndisc) else None
 
 
 def emit_ndisc(ethernet: Ethernet, src: IPv6Address, dst: IPv6Address, ndisc: Ndisc) -> bytes:
@@ -49,8 +49,8 @@ def emit_mld_report(hardware: bytes, src: IPv6Address, group: IPv6Address) -> by
 def parse_mld_query(frame: Data, group: IPv6Address) -> Optional[int]:
     """The maximum response delay of a query in an Ethernet frame that asks for this multicast group, in milliseconds up to
     65,535: report the group after a random part of it (RFC 2710, section 4). None: there is no valid query for it."""
-    delay = call("lk_read_mld_query", frame, group)
-    return None if delay < 0 else delay
+    query = c.MldQuery()
+    return query.max_delay if call("lk_find_mld_query", frame, group, query) else None
 
 
 class Problem(NamedInt):

@@ -137,6 +137,7 @@ structs! {
         len: u16,
         protocol: u8,
         next: u8,
+        is_malformed: u8,
     }
 
     #[derive(Default)]
@@ -144,6 +145,12 @@ structs! {
         offset: u8,
         kind: u8,
         len: u8,
+        is_malformed: u8,
+    }
+
+    #[derive(Default)]
+    struct MldQuery {
+        max_delay: u32,
     }
 
     struct Host {
@@ -263,7 +270,7 @@ calls! {
     fn lk_protocol_name(protocol: c_int) -> *const c_char;
     fn lk_ethertype_name(r#type: c_int) -> *const c_char;
     fn lk_next_ipv6_header(ptr: *const u8, len: usize, header: &mut Ipv6Header) -> c_int;
-    fn lk_read_tcp_options(ptr: *const u8, len: usize, options: &mut TcpOptions) -> c_int;
+    fn lk_find_tcp_options(ptr: *const u8, len: usize, options: &mut TcpOptions) -> c_int;
     fn lk_read_frame_options(ptr: *const u8, len: usize, frame: &mut Frame, options: &mut TcpOptions) -> c_int;
     fn lk_next_tcp_option(ptr: *const u8, len: usize, option: &mut TcpOption) -> c_int;
     fn lk_make_reply(frame: &mut Frame);
@@ -306,10 +313,10 @@ calls! {
     fn lk_subtract_seq(a: u32, b: u32) -> i32;
     fn lk_compare_seq(a: u32, b: u32) -> c_int;
     fn lk_rebuild(ptr: *const u8, len: usize, out: *mut u8, cap: usize) -> isize;
-    fn lk_read_ndisc(frame: *const u8, len: usize, ndisc: &mut Ndisc) -> c_int;
+    fn lk_find_ndisc(frame: *const u8, len: usize, ndisc: &mut Ndisc) -> c_int;
     fn lk_emit_ndisc_frame(headers: &Frame, ndisc: &Ndisc, out: *mut u8, cap: usize) -> isize;
     fn lk_emit_mld_report(headers: &Frame, out: *mut u8, cap: usize) -> isize;
-    fn lk_read_mld_query(frame: *const u8, len: usize, group: &Addr) -> c_int;
+    fn lk_find_mld_query(frame: *const u8, len: usize, group: &Addr, query: &mut MldQuery) -> c_int;
     fn lk_answer(host: &Host, ptr: *const u8, len: usize, out: *mut u8, cap: usize) -> isize;
     fn lk_emit_icmp_error(
         own: &Interface, problem: c_int, mtu: u32, frame: *const u8, len: usize, out: *mut u8, cap: usize

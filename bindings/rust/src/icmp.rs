@@ -41,7 +41,7 @@ impl Ndisc {
     pub fn parse(frame: &[u8]) -> Option<Self> {
         let mut fields = sys::Ndisc::default();
         // SAFETY: there are `len` bytes at `ptr`, and only `fields` is written.
-        let found = unsafe { library().lk_read_ndisc(frame.as_ptr(), frame.len(), &mut fields) };
+        let found = unsafe { library().lk_find_ndisc(frame.as_ptr(), frame.len(), &mut fields) };
         match fields.target.ip()? {
             IpAddr::V6(target) if found == 1 => Some(Self {
                 target,

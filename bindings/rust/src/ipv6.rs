@@ -67,11 +67,11 @@ impl<'a> Iterator for Ipv6Headers<'a> {
         let mut header = self.last.take()?;
         // SAFETY: there are `len` bytes at `ptr`, and only `header` is written.
         match unsafe { library().lk_next_ipv6_header(self.packet.as_ptr(), self.packet.len(), &mut header) } {
-            0 => return None,
-            1 => self.last = Some(header),
-            _ if header.len != 0 => return Some(Err(Reason::BadLength)),
-            _ if self.packet.len() < 40 => return Some(Err(Reason::TooShort)),
-            _ => return Some(Err(Reason::BadVersion)),
+            0 if header.is_malformed == 0 => return None,
+            0 if header.len != 0 => return Some(Err(Reason::BadLength)),
+            0 if self.packet.len() < 40 => return Some(Err(Reason::TooShort)),
+            0 => return Some(Err(Reason::BadVersion)),
+            _ => self.last = Some(header),
         }
         let offset = header.offset as usize;
         let bytes = self.packet.get(offset..offset + usize::from(header.len)).unwrap_or(&[]);

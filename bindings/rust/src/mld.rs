@@ -50,7 +50,9 @@ pub fn emit_mld_report(
 /// `None`: the frame has no valid query of version 1 or 2 for all groups or for this one. `ip_wire.h` has the conditions.
 #[must_use]
 pub fn parse_mld_query(frame: &[u8], group: Ipv6Addr) -> Option<Duration> {
-    // SAFETY: there are `len` bytes at `ptr`, and the call reads only the address.
-    let delay = unsafe { library().lk_read_mld_query(frame.as_ptr(), frame.len(), &group.into()) };
-    u64::try_from(delay).ok().map(Duration::from_millis)
+    let mut query = sys::MldQuery::default();
+    // SAFETY: there are `len` bytes at `ptr`, the call reads the address, and writes only the query.
+    let found =
+        unsafe { library().lk_find_mld_query(frame.as_ptr(), frame.len(), &group.into(), &mut query) };
+    (found != 0).then(|| Duration::from_millis(query.max_delay.into()))
 }

@@ -246,7 +246,7 @@ impl TcpOptions {
     pub fn parse(header: &[u8]) -> Option<Self> {
         let mut options = sys::TcpOptions::default();
         // SAFETY: there are `len` bytes at `ptr`, and only `options` is written.
-        let is_stored = unsafe { library().lk_read_tcp_options(header.as_ptr(), header.len(), &mut options) };
+        let is_stored = unsafe { library().lk_find_tcp_options(header.as_ptr(), header.len(), &mut options) };
         (is_stored != 0).then(|| options.into())
     }
 
@@ -343,9 +343,9 @@ impl<'a> Iterator for RawOptions<'a> {
         let mut option = self.last.take()?;
         // SAFETY: there are `len` bytes at `ptr`, and only `option` is written.
         match unsafe { library().lk_next_tcp_option(self.header.as_ptr(), self.header.len(), &mut option) } {
-            0 => return None,
-            1 => self.last = Some(option),
-            _ => return Some(Err(Reason::BadOptions)),
+            0 if option.is_malformed == 0 => return None,
+            0 => return Some(Err(Reason::BadOptions)),
+            _ => self.last = Some(option),
         }
         let offset = usize::from(option.offset);
         let bytes = self.header.get(offset..offset + usize::from(option.len)).unwrap_or(&[]);

@@ -5,7 +5,7 @@ ghost use Rattle.std.specs.Prelude.{◌≡◌, length};
 ghost use Rattle.c_icmp.specs.Errors.{WritesError, own_interface, problem_by};
 ghost use Rattle.c_icmp.specs.Frames.{icmp_failure, icmp_frame, icmp_frame_failure};
 ghost use Rattle.c_icmp.specs.Messages.{icmp_bytes};
-ghost use Rattle.c_icmp.specs.Mld.{AsksFor, TellsDelay, mld_failure, mld_report};
+ghost use Rattle.c_icmp.specs.Mld.{AsksFor, mld_failure, mld_report};
 ghost use Rattle.c_icmp.specs.Neighbours.{ReadsNdisc, ndisc_failure, ndisc_frame, ndisc_struct};
 ghost use Rattle.c_structs.specs.Written.{IsRead, Writes, is_set, within};
 
@@ -54,7 +54,7 @@ pub extern "C" fn lk_emit_icmp_frame(headers: &FrameFields, payload: &[u8], out:
 /// Parses a neighbour solicitation or advertisement in a frame, stores it, and returns 1. Returns 0 if the frame
 /// carries none that is valid.
 #[unsafe(no_mangle)]
-pub extern "C" fn lk_read_ndisc(frame: &[u8], ndisc: &mut Ndisc) -> i32
+pub extern "C" fn lk_find_ndisc(frame: &[u8], ndisc: &mut Ndisc) -> i32
     ensures { IsRead ReadsNdisc ndisc_struct (within frame.now) ndisc.old ndisc.new result }
 {
     ndisc.read(within(frame))
@@ -89,13 +89,25 @@ pub extern "C" fn lk_emit_mld_report(headers: &FrameFields, out: &mut [u8]) -> i
     }
 }
 
-/// The maximum response delay of a query in a frame that asks for the multicast group, in milliseconds; -1 if the frame
-/// is none.
+/// `struct lk_mld_query`: a query of multicast listener discovery.
+#[repr(C)]
+#[derive(Clone, Copy)]
+pub struct MldQuery {
+    /// The maximum response delay, in milliseconds.
+    pub max_delay: u32,
+}
+
+/// Stores a query in a frame that asks for the multicast group, and returns 1. Returns 0 if the frame has none.
 #[unsafe(no_mangle)]
-pub extern "C" fn lk_read_mld_query(frame: &[u8], group: &Addr) -> i32
-    ensures { TellsDelay (AsksFor group.now (within frame.now)) result }
+pub extern "C" fn lk_find_mld_query(frame: &[u8], group: &Addr, query: &mut MldQuery) -> i32
+    ensures { IsRead (AsksFor group.now) (λ delay. record { max_delay = delay }) (within frame.now) query.old query.new result }
 {
-    read_mld_query(within(frame), group)
+    let delay = read_mld_query(within(frame), group);
+    if delay < 0 {
+        return 0;
+    }
+    query.max_delay = delay as u32;
+    1
 }
 
 /// Writes an ICMP error about a frame that came in by an interface, to its sender, and returns its length; 0 if there

@@ -1,13 +1,14 @@
 //! Calls that read frames.
 
-ghost use Rattle.std.specs.Prelude.{List, ℕ, ◌++◌, ◌≡◌, ◌≤◌, ◌+◌, ◌-◌, length, pos, take};
+ghost use Rattle.std.specs.Prelude.{List, ℕ, ◌++◌, ◌≡◌, ◌≤◌, ◌+◌, ◌-◌, length, negsuc, pos, take};
+ghost use Rattle.std.specs.Ordering.{int_eq};
 ghost use Rattle.c_read.specs.Captured.{IsCutOf, captured_of, captured_packet_of};
 ghost use Rattle.c_read.specs.FrameFields.{fields_of, packet_fields_of};
 ghost use Rattle.c_read.specs.FrameOptions.{HasOptions};
 ghost use Rattle.c_read.specs.Ipv6Steps as ipv6_steps;
 ghost use Rattle.c_read.specs.TcpOptions.{ReadsItems, tcp_options_of};
 ghost use Rattle.c_read.specs.TcpSteps.{step};
-ghost use Rattle.c_structs.specs.Written.{IsRead, max_len, usable, within};
+ghost use Rattle.c_structs.specs.Written.{IsRead, flag, max_len, usable, within};
 
 use c_read::{
     next_ipv6_header, next_tcp_option, read_frame, read_frame_options, read_packet,
@@ -125,7 +126,7 @@ fn read_captured_packet(captured: &[u8], len: usize, frame: &mut FrameFields) ->
 /// Stores the options of a TCP header and returns 1. Returns 0 and stores nothing if its lengths are
 /// wrong, or if an option before the end mark is malformed.
 #[unsafe(no_mangle)]
-pub extern "C" fn lk_read_tcp_options(header: &[u8], options: &mut TcpOptions) -> i32
+pub extern "C" fn lk_find_tcp_options(header: &[u8], options: &mut TcpOptions) -> i32
     ensures { IsRead ReadsItems tcp_options_of (within header.now) options.old options.new result }
 {
     if read_tcp_options(options, within(header)) {
@@ -153,22 +154,46 @@ pub extern "C" fn lk_read_frame_options(
     reason
 }
 
-/// Steps to the next option of a TCP header, and returns 1. Returns 0 if there is none, and -1 if it is
-/// malformed or the lengths of the header are wrong, and stores nothing then.
-#[unsafe(no_mangle)]
-pub extern "C" fn lk_next_tcp_option(header: &[u8], option: &mut TcpOptionPlace) -> i32
-    ensures returned { result ≡ (step (within header.now) option.old).0 }
-    ensures stored { option.new ≡ (step (within header.now) option.old).1 }
-{
-    next_tcp_option(option, within(header))
+/// `struct lk_tcp_option`: where an option of a TCP header is, and whether the next one is malformed.
+#[repr(C)]
+#[derive(Clone, Copy)]
+pub struct TcpOptionStep {
+    pub place: TcpOptionPlace,
+    /// 1: the next option is malformed.
+    pub is_malformed: u8,
 }
 
-/// Steps to the next header of an IPv6 packet, and returns 1. Returns 0 if no extension header follows, and -1 if there
-/// is no IPv6 header or the next one is cut, and stores nothing then.
+/// Steps to the next option of a TCP header, and returns 1. Returns 0 if there is none, or if it is malformed or the
+/// lengths of the header are wrong. Then the place stays.
 #[unsafe(no_mangle)]
-pub extern "C" fn lk_next_ipv6_header(packet: &[u8], header: &mut Ipv6HeaderPlace) -> i32
-    ensures returned { result ≡ (ipv6_steps.step (within packet.now) header.old).0 }
-    ensures stored { header.new ≡ (ipv6_steps.step (within packet.now) header.old).1 }
+pub extern "C" fn lk_next_tcp_option(header: &[u8], option: &mut TcpOptionStep) -> i32
+    ensures returned { result ≡ pos (flag (int_eq (step (within header.now) option.old.place).0 (pos 1))) }
+    ensures stored { option.new.place ≡ (step (within header.now) option.old.place).1 }
+    ensures malformed { option.new.is_malformed ≡ flag (int_eq (step (within header.now) option.old.place).0 (negsuc 0)) }
 {
-    next_ipv6_header(header, within(packet))
+    let found = next_tcp_option(&mut option.place, within(header));
+    option.is_malformed = u8::from(found == -1);
+    i32::from(found == 1)
+}
+
+/// `struct lk_ipv6_header`: where a header of an IPv6 packet is, and whether the next one is malformed.
+#[repr(C)]
+#[derive(Clone, Copy)]
+pub struct Ipv6HeaderStep {
+    pub place: Ipv6HeaderPlace,
+    /// 1: the next header is malformed.
+    pub is_malformed: u8,
+}
+
+/// Steps to the next header of an IPv6 packet, and returns 1. Returns 0 if no extension header follows, or if there is no
+/// IPv6 header or the next one is cut. Then the place stays.
+#[unsafe(no_mangle)]
+pub extern "C" fn lk_next_ipv6_header(packet: &[u8], header: &mut Ipv6HeaderStep) -> i32
+    ensures returned { result ≡ pos (flag (int_eq (ipv6_steps.step (within packet.now) header.old.place).0 (pos 1))) }
+    ensures stored { header.new.place ≡ (ipv6_steps.step (within packet.now) header.old.place).1 }
+    ensures malformed { header.new.is_malformed ≡ flag (int_eq (ipv6_steps.step (within packet.now) header.old.place).0 (negsuc 0)) }
+{
+    let found = next_ipv6_header(&mut header.place, within(packet));
+    header.is_malformed = u8::from(found == -1);
+    i32::from(found == 1)
 }

@@ -2,7 +2,7 @@
 
 ghost use Rattle.std.specs.Prelude.{◌≡◌};
 
-use c_exports::icmp::{lk_emit_icmp_error, lk_read_ndisc};
+use c_exports::icmp::{lk_emit_icmp_error, lk_find_ndisc};
 use c_icmp::{InterfaceFields, Ndisc};
 
 /// A frame carries one neighbour discovery message, or none.
@@ -11,7 +11,7 @@ pub fn read_ndisc_once(frame: &[u8], ndisc: &mut Ndisc, other: &mut Ndisc) -> (i
     ensures returned { result.0 ≡ result.1 }
     ensures written { ndisc.new ≡ other.new }
 {
-    (lk_read_ndisc(frame, ndisc), lk_read_ndisc(frame, other))
+    (lk_find_ndisc(frame, ndisc), lk_find_ndisc(frame, other))
 }
 
 /// A frame gets one error, to the byte.

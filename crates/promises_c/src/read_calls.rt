@@ -3,8 +3,8 @@
 ghost use Rattle.std.specs.Prelude.{◌≡◌, ◌≤◌, length};
 
 use c_exports::read_calls::{
-    lk_read_captured, lk_read_captured_packet, lk_read_frame, lk_read_frame_options,
-    lk_read_packet, lk_read_tcp_options,
+    lk_find_tcp_options, lk_read_captured, lk_read_captured_packet, lk_read_frame,
+    lk_read_frame_options, lk_read_packet,
 };
 use c_structs::{FrameFields, TcpOptions};
 
@@ -19,8 +19,8 @@ pub fn read_tcp_options_once(
     ensures written { options.new ≡ other.new }
 {
     (
-        lk_read_tcp_options(header, options),
-        lk_read_tcp_options(header, other),
+        lk_find_tcp_options(header, options),
+        lk_find_tcp_options(header, other),
     )
 }
 

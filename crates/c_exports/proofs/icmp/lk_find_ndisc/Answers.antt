@@ -2,7 +2,7 @@ use Rattle.std.proofs.Common.{SFits, rules, subst, sym, w32}
 use Rattle.std.proofs.lemmas.Int.{to_z-of_z}
 use Rattle.c_icmp.specs.Neighbours.{ReadsNdisc, ndisc_struct}
 use Rattle.c_structs.specs.Written.{IsRead, within}
-use Rattle.c_exports.proofs.icmp.lk_read_ndisc.Goals as goal
+use Rattle.c_exports.proofs.icmp.lk_find_ndisc.Goals as goal
 
 pub returns : goal.returns
 returns c =
