@@ -55,8 +55,8 @@
  *   it: all but the source port of UDP. A 0 in any other field is written as 0.
  *
  * A call that does something begins with its verb: `parse` and `print` are for texts, `read`, `find` and `emit` for
- * headers. A call that only tells something is named after it, as lk_tcp_header_len. All calls of a TCP connection begin with
- * lk_connection_. */
+ * headers. A call that only tells something is named after it, as lk_tcp_header_len. All calls of a TCP connection
+ * begin with lk_connection_. */
 #ifndef IP_WIRE_H
 #define IP_WIRE_H
 
@@ -186,33 +186,34 @@ struct lk_prefix {
 #define LK_ENDPOINT_TEXT 48
 #define LK_MAC_TEXT 18
 
-/* IPv4: four numbers of 1 to 3 digits, joined by '.'. IPv6: RFC 4291, section 2.2. */
+/* Parses an address. IPv4: four numbers of 1 to 3 digits, joined by '.'. IPv6: RFC 4291, section 2.2. */
 int lk_parse_addr(const char *text, size_t len, struct lk_addr *addr);
 
-/* IPv6 by RFC 5952, with dotted decimal only in IPv4-mapped addresses. Fails with LK_NO_VERSION. */
+/* Prints an address. Fails with LK_NO_VERSION. IPv6 is printed by RFC 5952, with dotted decimal only in IPv4-mapped
+ * addresses. */
 ptrdiff_t lk_print_addr(const struct lk_addr *addr, char *out, size_t cap);
 
-/* An address, '/' and the prefix length, of 1 or 2 digits for IPv4, of 1 to 3 for IPv6. The address keeps all
- * its bits: it is not cut to the prefix. */
+/* Parses a prefix: an address, '/' and the prefix length, of 1 or 2 digits for IPv4, of 1 to 3 for IPv6. The address keeps
+ * all its bits: it is not cut to the prefix. */
 int lk_parse_prefix(const char *text, size_t len, struct lk_prefix *prefix);
 
-/* Fails with LK_NO_VERSION or LK_BAD_PREFIX. */
+/* Prints a prefix, with all bits of its address. Fails with LK_NO_VERSION or LK_BAD_PREFIX. */
 ptrdiff_t lk_print_prefix(const struct lk_prefix *prefix, char *out, size_t cap);
 
 /* Whether the address has the prefix. No address has a prefix of the other version, or one that is too long. */
 int lk_contains(const struct lk_prefix *prefix, const struct lk_addr *addr);
 
-/* An address, ':' and a port of 1 to 5 digits, with an IPv6 address in brackets; or an address by itself,
- * without brackets, which has port 0. */
+/* Parses an endpoint: an address, ':' and a port of 1 to 5 digits, with an IPv6 address in brackets; or an address by
+ * itself, without brackets, which has port 0. */
 int lk_parse_endpoint(const char *text, size_t len, struct lk_endpoint *endpoint);
 
-/* Prints port 0 too. Fails with LK_NO_VERSION. */
+/* Prints an endpoint, also with port 0. Fails with LK_NO_VERSION. */
 ptrdiff_t lk_print_endpoint(const struct lk_endpoint *endpoint, char *out, size_t cap);
 
-/* An Ethernet address, 6 bytes: six groups of 1 or 2 hex digits, all joined by '-' or all by ':'. */
+/* Parses an Ethernet (MAC) address, 6 bytes: six groups of 1 or 2 hex digits, all joined by '-' or all by ':'. */
 int lk_parse_mac(const char *text, size_t len, uint8_t *octets);
 
-/* Six pairs of hex digits in lower case, joined by '-'. */
+/* Prints an Ethernet (MAC) address: six pairs of hex digits in lower case, joined by '-'. */
 ptrdiff_t lk_print_mac(const uint8_t *octets, char *out, size_t cap);
 
 /* Whether the address is a multicast address (224.0.0.0/4, ff00::/8). */
@@ -740,10 +741,11 @@ ptrdiff_t lk_emit_udp_frame(const struct lk_frame *headers, const uint8_t *ptr, 
 ptrdiff_t lk_emit_tcp_frame(const struct lk_frame *headers, const struct lk_tcp_options *options,
                             const uint8_t *ptr, size_t len, uint8_t *out, size_t cap);
 
-/* Writes the headers of a frame with UDP or TCP before a payload that is in `out` already. The payload has `len`
- * bytes. It begins at byte 42 for UDP over IPv4, and 62 over IPv6; for TCP at byte 34 or 54, plus
- * lk_tcp_header_len(options). The result is that of lk_emit_.._frame with the same payload. Returns the length of
- * the whole frame, with the payload, or a failure. */
+/* Writes the headers of a frame with UDP or TCP before a payload that is in `out` already. Returns the length of the whole
+ * frame, with the payload, or a failure.
+ *
+ * The payload has `len` bytes. It begins after LK_ETHERNET_HEADER_LEN bytes, then LK_IPV4_HEADER_LEN or LK_IPV6_HEADER_LEN,
+ * then LK_UDP_HEADER_LEN or lk_tcp_header_len(options). The result is that of lk_emit_.._frame with the same payload. */
 ptrdiff_t lk_wrap_udp_frame(const struct lk_frame *headers, size_t len, uint8_t *out, size_t cap);
 ptrdiff_t lk_wrap_tcp_frame(const struct lk_frame *headers, const struct lk_tcp_options *options,
                             size_t len, uint8_t *out, size_t cap);
@@ -1162,26 +1164,26 @@ enum lk_rejection {
 /* Returns the name of a rejection, as "LK_HOP_LIMIT_TOO_LOW", or "no rejection". The text is constant. */
 const char *lk_rejection_name(int rejection);
 
-/* Forwards the packet of an Ethernet frame by one hop, in place (RFC 1812, section 5.3.1; RFC 8200, section 3). `src`
- * and `dst` are the new Ethernet addresses, 6 bytes each. The hop limit becomes one less, and the checksum of an IPv4
- * header is updated (RFC 1624). All other bytes stay. IPv4 options are summed for the checksum, and not acted on. The
- * payload and padding are not looked at.
+/* Forwards the packet of an Ethernet frame by one hop, in place (RFC 1812, section 5.3.1; RFC 8200, section 3). Returns
+ * LK_NOT_REJECTED, or LK_NOT_IP, LK_BAD_HEADER, LK_WRONG_CHECKSUM or LK_HOP_LIMIT_TOO_LOW; then the frame is unchanged.
  *
- * Returns LK_NOT_REJECTED, or LK_NOT_IP, LK_BAD_HEADER, LK_WRONG_CHECKSUM or LK_HOP_LIMIT_TOO_LOW; then the frame is
- * unchanged. */
+ * `src` and `dst` are the new Ethernet addresses, 6 bytes each. The hop limit becomes one less, and the checksum of an IPv4
+ * header is updated (RFC 1624). All other bytes stay. IPv4 options are summed for the checksum, and not acted on. The
+ * payload and padding are not looked at. */
 int lk_forward(uint8_t *frame, size_t len, const uint8_t *src, const uint8_t *dst);
 
 /* The end of a packet whose address and port are replaced. */
 enum lk_side { LK_SOURCE, LK_DESTINATION };
 
 /* Writes an IPv4 address and a port into the UDP or TCP packet of an Ethernet frame, in place (RFC 3022), and updates
- * the checksums, as lk_update_.. do. A UDP checksum of 0 stays 0. Any `side` but 0 is the destination. The identifier
- * of an ICMP echo message counts as its port on either side, and may be 0. Its checksum is computed anew. Other ICMP
- * messages get LK_OTHER_PROTOCOL, whatever their length and checksum are. Type and code count as 0 if they are missing.
- * A checksum of LK_CHECKSUM_PARTIAL gets LK_BAD_TRANSPORT: call lk_fill_checksum before.
+ * the checksums, as lk_update_.. do. Returns LK_NOT_REJECTED, or a rejection from LK_NO_IPV4 to LK_NAT_PORT_ZERO, but not
+ * LK_HOP_LIMIT_TOO_LOW; then the frame is unchanged.
  *
- * Returns LK_NOT_REJECTED, or a rejection from LK_NO_IPV4 to LK_NAT_PORT_ZERO, but not LK_HOP_LIMIT_TOO_LOW; then the
- * frame is unchanged. The source port of UDP may be 0 (RFC 768), so that it gets no LK_NAT_PORT_ZERO. */
+ * Any `side` but 0 is the destination. A UDP checksum of 0 stays 0. The source port of UDP may be 0 (RFC 768), so that it
+ * gets no LK_NAT_PORT_ZERO. The identifier of an ICMP echo message counts as its port on either side, and may be 0. Its
+ * checksum is computed anew. Other ICMP messages get LK_OTHER_PROTOCOL, whatever their length and checksum are. Type and
+ * code count as 0 if they are missing. A checksum of LK_CHECKSUM_PARTIAL gets LK_BAD_TRANSPORT: call lk_fill_checksum
+ * before. */
 int lk_translate(uint8_t *frame, size_t len, int side, const struct lk_endpoint *end);
 
 /* Whether the TCP or UDP checksum of a frame is left to the device that sends it (checksum offload). No frame says so,
@@ -1471,17 +1473,17 @@ struct lk_route_node {
  *         send_by(routes[i].interface, frame, len); */
 ptrdiff_t lk_index_routes(const struct lk_route *routes, size_t count, struct lk_route_node *nodes, size_t node_count);
 
-/* Returns the place in the list of the route with the longest prefix that contains the address, or -1 if no route contains
- * it. Of equal prefixes the first route counts. `count` is the number of routes. An address without a version has no
+/* Finds the route with the longest prefix of an address. Returns its place in the list, or -1 if no route has the address.
+ * Of equal prefixes the first route counts. `count` is the number of routes. An address without a version has no
  * route. */
 ptrdiff_t lk_choose_route(const struct lk_route_node *nodes, size_t count, const struct lk_addr *addr);
 
 /* The number of cells of the table of so many routes. */
 #define LK_ROUTE_TABLE_LEN(count) (5 * ((size_t)(count) + 1))
 
-/* Writes the table of an index of `count` routes, and returns the number of its cells, LK_ROUTE_TABLE_LEN(count). Cells
- * after the table are unchanged. The table is valid as long as the index is. Fails with LK_NO_ROOM if there are fewer
- * cells, 2^26 routes or more, or if a count is above LK_MAX_LEN; then all cells are unchanged. Two tables of one index
+/* Writes the table of an index of `count` routes, and returns the number of its cells, LK_ROUTE_TABLE_LEN(count). Fails
+ * with LK_NO_ROOM if there are fewer cells, 2^26 routes or more, or if a count is above LK_MAX_LEN; then all cells are
+ * unchanged. Cells after the table are unchanged too. The table is valid as long as the index is. Two tables of one index
  * have the same cells.
  *
  * Most searches for an IPv4 address read one cell of the table, and the others a few. So they are faster than by the
@@ -1692,8 +1694,8 @@ int lk_connection_step(struct lk_connection *connection, const uint8_t *outgoing
 int lk_connection_tick(struct lk_connection *connection, const uint8_t *outgoing, size_t outgoing_len,
                        uint8_t *incoming, size_t incoming_len, uint64_t now, struct lk_segment *out);
 
-/* The application writes no more: after the bytes that were written a FIN goes to the peer. What the peer sends can be read
- * as before. In LK_LISTEN and LK_SYN_SENT the connection ends at once (RFC 9293, section 3.10.4), without the bytes. */
+/* Closes the connection for writing: after the bytes that were written a FIN goes to the peer. What the peer sends can be
+ * read as before. In LK_LISTEN and LK_SYN_SENT the connection ends at once (RFC 9293, section 3.10.4), without the bytes. */
 void lk_connection_close(struct lk_connection *connection);
 
 /* Gives the connection up: LK_CLOSED. Stores a RST for the peer, if there may be one. */
@@ -1724,9 +1726,9 @@ int lk_connection_at_eof(const struct lk_connection *connection);
  * lk_connection_abort, the number stays. */
 size_t lk_connection_unacked(const struct lk_connection *connection);
 
-/* An ICMP error says that the segment with `seq_number`, which it quotes, was too big (RFC 1191, RFC 8201). `mss` is the MTU
- * of the error without the IP header and the 20 bytes of a TCP header. Returns 1, or 0 if no such segment is in flight; then
- * nothing is changed (RFC 5927, section 4.1). */
+/* Lowers the size of segments after an ICMP error: it says that the segment with `seq_number`, which it quotes, was too big
+ * (RFC 1191, RFC 8201). Returns 1, or 0 if no such segment is in flight; then nothing is changed (RFC 5927, section 4.1).
+ * `mss` is the MTU of the error without the IP header and the 20 bytes of a TCP header. */
 int lk_connection_too_big(struct lk_connection *connection, uint32_t seq_number, uint16_t mss);
 
 /* ---- names of version 0.4 ---- */
