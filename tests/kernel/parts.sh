@@ -80,7 +80,10 @@ part_acks() {
 
 part_timers() {
     local fast=(env LD_PRELOAD="$clock" FAST_CLOCK=100 "$any_order")
-    host_on_tap0 "${fast[@]}" "$checked/host" && tests/kernel/timers.py tap0 100 && ends_well 'with a fast clock'
+    local leaps=(env LD_PRELOAD="$clock" FAST_CLOCK=1 FAST_CLOCK_AHEAD="$programs/ahead" "$any_order")
+    host_on_tap0 "${fast[@]}" "$checked/host" && tests/kernel/timers.py again tap0 100 && ends_well 'with a fast clock' &&
+        start_and_wait "$programs/host.out" "${leaps[@]}" "$checked/host" "${host[@]}" &&
+        tests/kernel/timers.py silent tap0 "$programs/ahead" && ends_well 'with a clock that leaps'
 }
 
 part_silent() {
