@@ -55,6 +55,7 @@ def run(*command):
 def is_reachable(address, device, is_router):
     """Whether the kernel finds a neighbour by asking, and the answer has R exactly if it is a router."""
     def words():
+        ping(socket.AF_INET6, address, b"", 1)  # what the kernel has found is forgotten after a while
         return run("ip", "-6", "neighbour", "show", address, "dev", device).split()
 
     return until(lambda: "REACHABLE" in words()) and ("router" in words()) == is_router
