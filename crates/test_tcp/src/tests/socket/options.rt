@@ -162,8 +162,8 @@ fn take_text() -> [RowWithOptions; 6] {
 }
 
 // A loss probe and the time-out send the first of four segments again. Then all are acknowledged. If the acknowledgement echoes the
-// timestamp of the first transmission, nothing was lost (RFC 3522), and cwnd has the ten segments of before (RFC 4015). If it
-// echoes that of the probe, slow start goes on with two segments.
+// timestamp of the first transmission, nothing was lost (RFC 3522), and cwnd has the ten segments of before (RFC 4015): all
+// goes but the last part, by Nagle's algorithm. If it echoes that of the probe, slow start goes on with two segments.
 #[test]
 fn a_spurious_time_out(rt: HostRuntime) {
     check_undo(&rt, "spurious", 159, &after_undo());
@@ -196,14 +196,15 @@ fn check_undo(rt: &impl Abort, name: &str, tsecr: u32, rows: &[RowWithOptions]) 
     check_options(rt, name, &mut end, &mut incoming, rows);
 }
 
+// The first segment ends where the ring ends.
 fn after_undo() -> [RowWithOptions; 5] {
     let none = TcpOptionSummary::default();
     let stamp = stamped(619, 7050);
     [
-        (520, Tick, none, goes(wide(4052, 300, 988), stamp)),
-        (520, Tick, none, goes(wide(5040, 300, 988), stamp)),
-        (520, Tick, none, goes(wide(6028, 300, 988), stamp)),
-        (520, Tick, none, goes(wide(7016, 300, 988), stamp)),
+        (520, Tick, none, goes(wide(4052, 300, 48), stamp)),
+        (520, Tick, none, goes(wide(4100, 300, 988), stamp)),
+        (520, Tick, none, goes(wide(5088, 300, 988), stamp)),
+        (520, Tick, none, goes(wide(6076, 300, 988), stamp)),
         (520, Tick, none, None),
     ]
 }
@@ -212,8 +213,8 @@ fn after_loss() -> [RowWithOptions; 3] {
     let none = TcpOptionSummary::default();
     let stamp = stamped(619, 7050);
     [
-        (520, Tick, none, goes(wide(4052, 300, 988), stamp)),
-        (520, Tick, none, goes(wide(5040, 300, 988), stamp)),
+        (520, Tick, none, goes(wide(4052, 300, 48), stamp)),
+        (520, Tick, none, goes(wide(4100, 300, 988), stamp)),
         (520, Tick, none, None),
     ]
 }
