@@ -58,7 +58,7 @@ class Statements:
             self.definitions |= {f"{path[-1]}.{d.name}" for path, module in crate.specs.items() for d in module.items}
         crates = (
             "ip_wire", "wire_icmp", "app_nat", "app_host", "app_edit", "app_fragment", "app_tcp", "app_connection",
-            "app_congestion", "app_options", "app_socket", "c_read", "c_write", "c_icmp",
+            "app_congestion", "app_options", "app_socket", "c_socket", "c_read", "c_write", "c_icmp",
         )
         self.laws = {name[-1] for crate in crates
                      for name, target in sources.exports(crate).items() if name[0] == "laws" and name[-1][0].islower()}

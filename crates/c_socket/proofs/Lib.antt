@@ -4,3 +4,4 @@ pub mod Meeting
 pub mod Saying
 pub mod Delivery
 pub mod Openings
+pub mod Extending

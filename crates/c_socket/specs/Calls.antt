@@ -15,6 +15,7 @@ use Rattle.app_socket.specs.Fields.{socket_of}
 use Rattle.app_socket.specs.Promises.{AcknowledgesInTime, AcknowledgesReceived, AdvertisesWindow, AnswersBare, AnswersStale, BeginsSound}
 use Rattle.app_socket.specs.Promises.{Continues, DropsStale, EndsBySilence, EndsNoLater, IsPatient, KeepsRecent, KeepsRoom, LearnsFrom}
 use Rattle.app_socket.specs.Promises.{OwesAck, OwesNoAck, ResendsInTime, ResendsSyn, RestsUntilDue, SendsStream, SendsWithin, StaysIdle, StaysOpen, TakesText}
+use Rattle.app_socket.specs.Replies.{RepliesToItems}
 use Rattle.app_socket.specs.Resends.{ConnectsBy}
 use Rattle.app_socket.specs.Segments.{header_of}
 use Rattle.app_socket.specs.declared.fields.SocketFields.{SocketFields}
@@ -51,6 +52,7 @@ pub record Steps (old new : Socket) (outgoing before after : List â„•) (now : â„
   pub within : SendsWithin old new given
   pub acks : OwesNoAck old new given
   pub owes : OwesAck old new now e given
+  pub replies : RepliesToItems old new now e given
   pub to_bare : AnswersBare old new (length before) now e given
   pub recent : KeepsRecent old new now
   pub patience : IsPatient old new now

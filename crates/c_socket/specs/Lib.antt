@@ -4,3 +4,4 @@ pub mod Calls
 pub mod Application
 pub mod Runs
 pub mod Openings
+pub mod Extends

@@ -9,6 +9,8 @@ ghost use Rattle.c_socket.specs.Openings as openings;
 ghost use Rattle.c_socket.specs.Runs.{Ends, Runs, ends_of};
 ghost use Rattle.c_socket.specs.Segments.{fields_of, segment_of};
 
+pub mod runs;
+
 use app_connection::Segment;
 use app_socket::Header;
 

@@ -30,6 +30,7 @@ returns c =
       within = e.within;
       acks = e.acks;
       owes = e.owes;
+      replies = e.replies;
       to_bare = e.to_bare;
       recent = e.recent;
       patience = e.patience;
