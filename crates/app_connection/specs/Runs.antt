@@ -69,12 +69,6 @@ pub record IsMade (ts : List Sent) (wrote peer_wrote : ℕ) (s : Said) : Type 0 
 abbrev pub IsFrom : List Sent → ℕ → ℕ → Said → Type 0
 IsFrom ts wrote peer_wrote s = (s.rst ≡ true) ⊎ (IsOneOf ts wrote peer_wrote s ⊎ IsMade ts wrote peer_wrote s)
 
--- two segments with three bytes and a FIN, over the end of the sequence numbers; the second one was sent last
-abbrev pub two_sent : List Sent
-two_sent =
-    record { said = record { number = 1; items = Byte 3 ∷ Fin ∷ []; ack = Some 501; rst = false }; wrote = 3; peer_wrote = 0 }
-    ∷ record { said = record { number = 4294967295; items = Byte 1 ∷ Byte 2 ∷ []; ack = Some 500; rst = false }; wrote = 2; peer_wrote = 0 } ∷ []
-
 -- a segment that comes to one end is from the other one
 abbrev pub MayCome : Event → End → End → Type 0
 MayCome event.Listen a b = Unit {0}
@@ -92,6 +86,12 @@ OpensOnce a new = has_peer (state_from a.connection) ≡ false → has_peer (sta
 abbrev pub with_returned : Option Said → ℕ → ℕ → List Sent → List Sent
 with_returned None wrote peer_wrote ts = ts
 with_returned (Some s) wrote peer_wrote ts = record { said = s; wrote = wrote; peer_wrote = peer_wrote } ∷ ts
+
+-- two segments with three bytes and a FIN, over the end of the sequence numbers
+abbrev pub two_sent : List Sent
+two_sent =
+    with_returned (Some (record { number = 1; items = Byte 3 ∷ Fin ∷ []; ack = Some 501; rst = false })) 3 0
+    (with_returned (Some (record { number = 4294967295; items = Byte 1 ∷ Byte 2 ∷ []; ack = Some 500; rst = false })) 2 0 [])
 
 -- the end after a step
 abbrev pub stepped : End → End → Connection → List ℕ → Option Said → End

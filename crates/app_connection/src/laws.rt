@@ -13,7 +13,7 @@ ghost use Rattle.app_connection.specs.Openings.{OthersStay, Program, Programs, T
 ghost use Rattle.app_connection.specs.Runs.{BothRead, Calls, End, Ends, IsFrom, IsNew, MayCome, OpensOnce, Runs, Sent, stepped, two_sent};
 ghost use Rattle.app_connection.specs.SetUp.{Turn, BothAgree, run_ends, both_idle, In_established, three_ways};
 ghost use Rattle.app_connection.specs.States.{has_peer, state_from};
-ghost use Rattle.app_connection.specs.Worlds.{Stand, ComesNext, said};
+ghost use Rattle.app_connection.specs.Worlds.{Said, Stand, ComesNext, said};
 
 use crate::connection::Connection;
 use crate::segment::{Reply, Segment};
@@ -91,10 +91,13 @@ pub fn an_acknowledgement_ends(
     receiver.on_segment(outgoing, incoming, &segment, fresh)
 }
 
-/// What a middlebox makes of two segments comes: the second byte of one, and this byte joined with the other one.
+/// What the network brings of two segments, after almost 2^30 bytes were written: the first one after the second one was sent, the
+/// second byte of the first one, and this byte joined with the second one. A RST may be from anyone.
 pub fn a_middlebox_makes_others()
-    ensures split { IsFrom two_sent 3 0 (record { number = 0; items = Byte 2 ∷ []; ack = Some 500; rst = false }) }
-    ensures joined { IsFrom two_sent 3 0 (record { number = 0; items = Byte 2 ∷ Byte 3 ∷ Fin ∷ []; ack = Some 501; rst = false }) }
+    ensures older { IsFrom two_sent 1073741824 1073741822 (record { number = 4294967295; items = Byte 1 ∷ Byte 2 ∷ []; ack = Some 500; rst = false }) }
+    ensures split { IsFrom two_sent 1073741824 1073741822 (record { number = 0; items = Byte 2 ∷ []; ack = Some 500; rst = false }) }
+    ensures joined { IsFrom two_sent 1073741824 1073741822 (record { number = 0; items = Byte 2 ∷ Byte 3 ∷ Fin ∷ []; ack = Some 501; rst = false }) }
+    ensures reset { (s : Said) → s.rst ≡ true → IsFrom two_sent 1073741824 1073741822 s }
 {}
 
 /// A new connection is an end before its first call.
