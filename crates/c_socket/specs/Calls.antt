@@ -13,7 +13,7 @@ use Rattle.app_connection.specs.Steps as connection
 use Rattle.app_socket.specs.Events.{IsQuiet, IsTick}
 use Rattle.app_socket.specs.Fields.{socket_of}
 use Rattle.app_socket.specs.Promises.{AcknowledgesInTime, AcknowledgesReceived, AdvertisesWindow, AnswersBare, AnswersStale, BeginsSound}
-use Rattle.app_socket.specs.Promises.{Continues, DropsStale, EndsBySilence, EndsNoLater, IsPatient, KeepsRecent, KeepsRoom, LearnsFrom}
+use Rattle.app_socket.specs.Promises.{Continues, DropsStale, EndsBySilence, EndsNoLater, HasShortText, HearsTimestamp, IsPatient, KeepsRecent, KeepsRoom, LearnsFrom}
 use Rattle.app_socket.specs.Promises.{OwesAck, OwesNoAck, ResendsInTime, ResendsSyn, RestsUntilDue, SendsStream, SendsWithin, StaysIdle, StaysOpen, TakesText}
 use Rattle.app_socket.specs.Replies.{RepliesToItems}
 use Rattle.app_socket.specs.Resends.{ConnectsBy}
@@ -45,6 +45,7 @@ pub record Steps (old new : Socket) (outgoing before after : List ℕ) (now : �
   pub tells : AdvertisesWindow old new (length before) given
   pub keeps : KeepsRoom old new (length before)
   pub text : (IsTick e → ⊥) → HasNoText given
+  pub short : IsTick e → HasShortText given
   pub sends : SendsStream old outgoing given
   pub answers : AcknowledgesReceived old new after given
   pub stale : DropsStale old new now e
@@ -55,6 +56,7 @@ pub record Steps (old new : Socket) (outgoing before after : List ℕ) (now : �
   pub replies : RepliesToItems old new now e given
   pub to_bare : AnswersBare old new (length before) now e given
   pub recent : KeepsRecent old new now
+  pub timestamp : HearsTimestamp e old new now
   pub patience : IsPatient old new now
   pub connects : ConnectsBy e old new now
   pub begins : BeginsSound old new e
