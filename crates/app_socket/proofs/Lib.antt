@@ -1,6 +1,5 @@
 pub mod Opened
 pub mod Stepping
-pub mod Undone
 pub mod Delivery
 pub mod Openings
 pub mod Rounds

@@ -1,5 +1,5 @@
 use Rattle.std.proofs.Common.{◌≡◌, refl, ◌∙◌, sym, ap, subst, ℕ, ◌<◌, ◌==◌, Bool, true, false}
-use Rattle.std.specs.Prelude.{◌&&◌, not, if◌then◌else◌, Option}
+use Rattle.std.specs.Prelude.{◌&&◌, not, if◌then◌else◌}
 use Rattle.tcp_model.specs.Endpoint.{distance}
 use Rattle.app_congestion.specs.Congestion.{Sender, acknowledged, sender_of, timed_out, unchanged, undone}
 use Rattle.app_connection.specs.declared.connection.Connection.{Connection}

@@ -1,6 +1,4 @@
-use Rattle.std.proofs.Common.{◌≡◌, ◌⊎◌, inl, inr, refl, sym, subst, ℕ, ◌+◌, ◌<◌, ◌≤◌, Bool, true, false, arith}
-use Rattle.app_congestion.specs.Scoreboard.{has}
-use Rattle.app_socket.specs.Resends.{IsSound}
+use Rattle.std.proofs.Common.{◌≡◌, ◌⊎◌, inl, inr, refl, subst, ◌+◌, ◌<◌, ◌≤◌, Bool, true, false, arith}
 use Rattle.app_socket.specs.Undo.{is_spurious}
 use Rattle.app_socket.proofs.socket.Socket.learn_newly.Goals as goal
 
