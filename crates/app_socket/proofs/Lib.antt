@@ -12,3 +12,4 @@ pub mod Calling
 pub mod Answering
 pub mod Sending
 pub mod Exchanging
+pub mod Lost

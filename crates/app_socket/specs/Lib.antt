@@ -14,3 +14,4 @@ pub mod Answered
 pub mod Exchanges
 pub mod Rounds
 pub mod Openings
+pub mod Losses

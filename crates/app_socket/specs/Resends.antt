@@ -12,7 +12,7 @@ use Rattle.app_congestion.specs.Rto.{probe_after, sampled, timeout_of}
 use Rattle.app_congestion.specs.Congestion.{is_in_recovery, is_partial, is_past, sender_of, timed_out}
 use Rattle.app_congestion.specs.Scoreboard.{HasNoHole, IsHole, has}
 use Rattle.app_connection.specs.declared.segment.Segment.{Segment}
-use Rattle.app_connection.specs.Endpoints.{OutFits, acknowledgement_of, len_of, next_of, spoken}
+use Rattle.app_connection.specs.Endpoints.{OutFits, acknowledgement_of, endpoint_of, len_of, next_of, spoken}
 use Rattle.app_connection.specs.Promises.{ChangesOnlyNext, HearsAckOf, IsEventSend, WhenTaken}
 use Rattle.app_connection.specs.Sequence.{after, is_of_sent}
 use Rattle.app_connection.specs.declared.state.Phase.TheVariants as phase
@@ -294,10 +294,14 @@ pub record SendsSyn (old new : Socket) (now : ℕ) (given : Option Segment) : Ty
       ≡ Some (record { number = old.connection.iss; ack = Some (after old.connection.irs); syn = true; rst = false })
   pub backs_off : BacksOff old.flow.rto new.flow.rto
   pub timer : new.timers.resend_at ≡ Some (later now new.flow.rto.timeout)
+  -- The set-up goes on, and its end is not put off.
+  pub stays : endpoint_of new.connection ≡ endpoint_of old.connection
+  pub patience : new.timers.ends_at ≡ old.timers.ends_at
 
 -- An active open: the timers run (RFC 6298, section 2.1; RFC 9293, section 3.8.3).
 pub record Connects (new : Socket) (now : ℕ) : Type 0 where
   pub timer : new.timers.resend_at ≡ Some (later now 1000)
+  pub timeout : new.flow.rto.timeout ≡ 1000
   pub patience : new.timers.ends_at ≡ later now 180000
 
 -- what an active open of a socket without a peer does
@@ -329,12 +333,13 @@ IsDuplicateFor old incoming s =
     old.connection.receiving.next
     (room_of old.connection.receiving incoming) s
 
--- One is counted, outside of fast recovery and after what was sent before it (RFC 6582, section 3.2). `una` is SND.UNA.
+-- One is counted, outside of fast recovery and after what was sent before it, up to two (RFC 6582, section 3.2). `una` is SND.UNA.
 abbrev pub CountsDuplicate : Flow → Flow → ℕ → Type 0
 CountsDuplicate old new una =
     is_in_recovery old.congestion.phase ≡ false → is_past old.congestion.phase una ≡ true
     → old.congestion.duplicates < 3
-    → (new.resend ≡ true) ⊎ (old.congestion.duplicates < new.congestion.duplicates)
+    → (new.resend ≡ true)
+    ⊎ ((old.congestion.duplicates < new.congestion.duplicates) × (new.congestion.duplicates < 3))
 
 -- after the third one the first segment goes again (RFC 5681, section 3.2; RFC 6582, section 3.2)
 abbrev pub ResendsOnThird : Flow → Flow → ℕ → Type 0

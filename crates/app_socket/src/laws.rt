@@ -17,6 +17,7 @@ ghost use Rattle.app_socket.specs.Undo.{UndoesTo, is_echo_before};
 ghost use Rattle.app_socket.specs.Segments.{text_of};
 ghost use Rattle.app_socket.specs.Times.{is_open, resend_or_probe};
 
+pub mod losses;
 pub mod pair;
 pub mod rounds;
 pub mod schedules;

@@ -130,6 +130,7 @@ impl Socket {
     pub(crate) fn begin(&mut self, now: u64, iss: u32)
         ensures same { self.new ≡ record self.old { timers = self.new.timers; flow = self.new.flow } }
         ensures timer { self.new.timers.resend_at ≡ Some (later now 1000) }
+        ensures timeout { self.new.flow.rto.timeout ≡ 1000 }
         ensures ends_at { self.new.timers.ends_at ≡ later now 180000 }
         ensures patience { self.new.timers.ends_at ≤ later now (patience_of self.old.options) }
     {

@@ -1,5 +1,5 @@
-use Rattle.std.proofs.Common.{◌≡◌, refl, ◌∙◌, sym, ap, subst, ℕ, ◌<◌, ◌==◌, Bool, true, false}
-use Rattle.std.specs.Prelude.{◌&&◌, not, if◌then◌else◌}
+use Rattle.std.proofs.Common.{◌≡◌, ◌∙◌, sym, ap, subst, ℕ, ◌<◌, ◌==◌, true, false}
+use Rattle.std.specs.Prelude.{if◌then◌else◌}
 use Rattle.tcp_model.specs.Endpoint.{distance}
 use Rattle.app_congestion.specs.Congestion.{Sender, acknowledged, sender_of, timed_out, unchanged, undone}
 use Rattle.app_connection.specs.declared.connection.Connection.{Connection}
@@ -12,15 +12,8 @@ use Rattle.app_socket.specs.Resends.{newly_in, next_in, queue_of}
 use Rattle.app_socket.specs.Segments.{rejects}
 use Rattle.app_socket.specs.Times.{is_open}
 use Rattle.app_socket.specs.Undo.{Undoes, UndoesTo, is_echo_before, is_needless, saved}
+use Rattle.app_socket.proofs.Rounds.{none_rejected}
 use Rattle.app_socket.proofs.laws.a_spurious_time_out_is_undone.Goals as goal
-
--- a segment whose timestamp is taken is not rejected
-none_rejected : (a b t : Bool) → t ≡ true → (a && (b && not t)) ≡ false
-none_rejected true true true is = refl
-none_rejected true false true is = refl
-none_rejected false true true is = refl
-none_rejected false false true is = refl
-none_rejected a b false is = absurd (cc)
 
 -- what is kept when the first segment goes again
 first_saved : (old : Flow) (now : ℕ) → old.undo.sent_at ≡ 0 → saved old now ≡ record { sent_at = now; cwnd = unchanged (sender_of old.congestion); ssthresh = old.congestion.ssthresh }

@@ -5,15 +5,8 @@ use Rattle.app_options.specs.declared.timestamps.Recent.{Recent}
 use Rattle.app_socket.specs.Segments.{GoesForward, rejects}
 use Rattle.app_socket.proofs.ManyRounds.{further}
 use Rattle.app_socket.proofs.Stepping.{choice_false, steps_by}
+use Rattle.app_socket.proofs.Rounds.{none_rejected}
 use Rattle.app_socket.proofs.laws.hear.Goals as goal
-
--- a segment whose timestamp is taken is not rejected
-none_rejected : (a b t : Bool) → t ≡ true → (a && (b && not t)) ≡ false
-none_rejected true true true is = refl
-none_rejected true false true is = refl
-none_rejected false true true is = refl
-none_rejected false false true is = refl
-none_rejected a b false is = absurd (cc)
 
 pub returns-clause-further : goal.returns-clause-further
 returns-clause-further c = λ by end taken waiting a stands.

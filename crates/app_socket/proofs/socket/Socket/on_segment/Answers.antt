@@ -149,7 +149,7 @@ returns-in_default-clause-learns c = λ opened after.
             ack = duplicate.ack ∙ ap Some (sym c.before-before.ensures.una);
             same = duplicate.same ∙ sym c.before-before.ensures.window;
           } in
-          subst (λ (x : Socket). (x.flow.resend ≡ true) ⊎ (old.flow.congestion.duplicates < x.flow.congestion.duplicates)) (sym c.answer.ensures.same)
+          subst (λ (x : Socket). (x.flow.resend ≡ true) ⊎ ((old.flow.congestion.duplicates < x.flow.congestion.duplicates) × (x.flow.congestion.duplicates < 3))) (sym c.answer.ensures.same)
           (c.learn.ensures.counted is (newly ∙ none) twin calm (subst (λ (x : Connection). is_past old.flow.congestion.phase x.sending.una ≡ true) same past) few);
       third = λ none duplicate synced calm past two.
           let twin : IsDuplicate b.una b.flight b.window b.next b.room s = record {
