@@ -254,7 +254,8 @@ fn no_answer_to_a_syn(rt: HostRuntime) {
     check(&rt, "no answer to a SYN", &rows, S::Closed);
 }
 
-// The first of four segments is lost, and goes again after three duplicate acknowledgements.
+// The first of four segments is lost, and goes again after three duplicate acknowledgements. Then cwnd is half of what was in
+// flight.
 #[test]
 fn a_lost_segment(rt: HostRuntime) {
     let rows = [
@@ -279,6 +280,10 @@ fn a_lost_segment(rt: HostRuntime) {
         (303, Tick, None, Some(500)),
         (403, Gets(ack(300, 4100)), None, Some(100_403)),
         (403, Tick, None, Some(100_403)),
+        (403, Write(4000), None, Some(100_403)),
+        (403, Tick, Some(text(4100, 300, 1000)), Some(703)),
+        (403, Tick, Some(text(5100, 300, 1000)), Some(703)),
+        (403, Tick, None, Some(703)),
     ];
     check(&rt, "a lost segment", &rows, S::Established);
 }
