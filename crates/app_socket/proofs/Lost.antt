@@ -185,5 +185,3 @@ all_news edge next room least shift closed some much =
 -- the same between equals
 pub le_between : (a b c d : ℕ) → a ≡ b → d ≡ c → b ≤ c → a ≤ d
 le_between a b c d is same le = omega (arith, is, same, le)
-
--- ---- acknowledgements

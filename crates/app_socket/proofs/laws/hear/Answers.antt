@@ -1,5 +1,5 @@
-use Rattle.std.proofs.Common.{◌≡◌, refl, sym, subst, Bool, true, false, length}
-use Rattle.std.specs.Prelude.{◌&&◌, not, Option, None}
+use Rattle.std.proofs.Common.{◌≡◌, sym, subst, false, length}
+use Rattle.std.specs.Prelude.{Option, None}
 use Rattle.app_connection.specs.declared.step.Event.TheVariants as move
 use Rattle.app_options.specs.declared.timestamps.Recent.{Recent}
 use Rattle.app_socket.specs.Segments.{GoesForward, rejects}
