@@ -97,8 +97,8 @@ func ExampleSetBytes() {
 // A router checks the source, chooses a route and forwards the packet to its next hop.
 func ExampleForward() {
 	routes, err := ipwire.NewRoutes([]ipwire.Route{
-		{Block: netip.MustParsePrefix("192.0.2.0/24"), Interface: 1},
-		{Block: netip.MustParsePrefix("0.0.0.0/0"), NextHop: netip.MustParseAddr("203.0.113.1"), Interface: 2},
+		{Prefix: netip.MustParsePrefix("192.0.2.0/24"), Interface: 1},
+		{Prefix: netip.MustParsePrefix("0.0.0.0/0"), NextHop: netip.MustParseAddr("203.0.113.1"), Interface: 2},
 	})
 	if err != nil {
 		log.Fatal(err)
