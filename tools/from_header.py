@@ -170,7 +170,7 @@ def rust(header):
 
 
 def rust_numbers(header):
-    yield "//! The numbers of header fields, written by tools/from_header.py: EtherTypes, protocols, ICMP types and others."
+    yield "//! The numbers of header fields, written by `tools/from_header.py`: EtherTypes, protocols, ICMP types and others."
     yield '#![allow(missing_docs, reason = "their names say it")]\n'
     for name, comment, numbers in numbers_of(header):
         kind = NUMBERS[name]

@@ -1,4 +1,4 @@
-//! The numbers of header fields, written by tools/from_header.py: EtherTypes, protocols, ICMP types and others.
+//! The numbers of header fields, written by `tools/from_header.py`: EtherTypes, protocols, ICMP types and others.
 #![allow(missing_docs, reason = "their names say it")]
 
 pub const UDP_HEADER_LEN: usize = 8;
