@@ -207,7 +207,8 @@ int lk_contains(const struct lk_prefix *prefix, const struct lk_addr *addr);
  * itself, without brackets, which has port 0. */
 int lk_parse_endpoint(const char *text, size_t len, struct lk_endpoint *endpoint);
 
-/* Prints an endpoint, also with port 0. Fails with LK_NO_VERSION. */
+/* Prints an endpoint, also with port 0: of a packet without ports print the address (lk_print_addr). Fails with
+ * LK_NO_VERSION. */
 ptrdiff_t lk_print_endpoint(const struct lk_endpoint *endpoint, char *out, size_t cap);
 
 /* Parses an Ethernet (MAC) address, 6 bytes: six groups of 1 or 2 hex digits, all joined by '-' or all by ':'. */
@@ -377,7 +378,7 @@ struct lk_tcp_options {
     struct lk_sack_range sack_ranges[4]; /* the first `sack_range_count` count */
     uint32_t tsval;                      /* the timestamp */
     uint32_t tsecr;                      /* the timestamp that it answers */
-    uint16_t mss;               /* in bytes */
+    uint16_t mss;                        /* in bytes */
     uint8_t window_scale;                /* in bits; at most 14 is read */
     uint8_t sack_permitted;
     uint8_t sack_range_count;            /* at most 4 */
@@ -408,7 +409,7 @@ struct lk_ndisc {
 /* ---- reading ---- */
 
 enum lk_network { LK_NO_NETWORK, LK_ARP, LK_IPV4, LK_IPV6 };
-enum lk_transport { LK_NO_TRANSPORT, LK_UDP, LK_TCP, LK_ICMP };
+enum lk_transport { LK_NO_TRANSPORT, LK_UDP, LK_TCP, LK_ICMP }; /* LK_ICMP: also ICMPv6 */
 
 /* Why a header was rejected. If several reasons apply to it, it is the first of them in this order. If several
  * headers of a frame are wrong, the outermost of them is rejected, and no later header is parsed. */
@@ -735,7 +736,7 @@ void lk_make_reply(struct lk_frame *frame);
 ptrdiff_t lk_emit_udp_frame(const struct lk_frame *headers, const uint8_t *ptr, size_t len, uint8_t *out,
                             size_t cap);
 
-/* The same with a TCP segment. Uses `tcp` of `headers` too. Fails also with LK_EMIT_PORT_ZERO if the source port is 0,
+/* The same with a TCP segment. Uses `tcp` of `headers` too. `options` of zeros are none. Fails also with LK_EMIT_PORT_ZERO if the source port is 0,
  * and with LK_TWO_CONTROLS and LK_OPTIONS_TOO_LONG. Header and payload have at most 65515 bytes over IPv4, 65535
  * over IPv6. */
 ptrdiff_t lk_emit_tcp_frame(const struct lk_frame *headers, const struct lk_tcp_options *options,
@@ -751,8 +752,9 @@ ptrdiff_t lk_wrap_tcp_frame(const struct lk_frame *headers, const struct lk_tcp_
                             size_t len, uint8_t *out, size_t cap);
 
 /* Writes a whole frame with an ICMP message, as lk_emit_udp_frame does with a UDP packet: the header `icmp` of `headers`
- * and the `len` bytes at `ptr`, at most 65507 over IPv4 and 65527 over IPv6. The protocol is 1 over IPv4 and 58 over
- * IPv6. No port is used. */
+ * and the `len` bytes at `ptr`, at most 65507 over IPv4 and 65527 over IPv6. Uses `ethernet.src`, `ethernet.dst`,
+ * `src.addr`, `dst.addr`, `ip` and `icmp`. The type is an `lk_icmp_type`, over IPv6 an `lk_icmpv6_type`, with other
+ * numbers. The protocol is filled in: 1 over IPv4, 58 over IPv6. */
 ptrdiff_t lk_emit_icmp_frame(const struct lk_frame *headers, const uint8_t *ptr, size_t len, uint8_t *out,
                              size_t cap);
 
@@ -780,7 +782,8 @@ ptrdiff_t lk_emit_arp(const struct lk_arp *header, const struct lk_addr *src, co
                       uint8_t *out, size_t cap);
 
 /* Writes an IPv4 header of 20 bytes or an IPv6 header of 40 bytes, by the version of the addresses, for
- * a payload of `payload_len` bytes: at most 65515 for IPv4 and 65535 for IPv6. Fails with LK_BAD_FIELD if
+ * a payload of `payload_len` bytes: at most 65515 for IPv4 and 65535 for IPv6. `protocol` is written as it is, while
+ * lk_emit_.._frame writes that of its packet. Fails with LK_BAD_FIELD if
  *
  * - `dscp` is more than 63 or `ecn` more than 3,
  * - IPv4: `ident` is more than 65535, or `fragment_offset` is no multiple of 8,
@@ -980,15 +983,15 @@ struct lk_host {
     size_t open_port_count;         /* as many must be there: a count is not compared with LK_MAX_LEN */
     const uint16_t *open_udp_ports; /* the UDP ports that the caller serves: what they get is not answered, */
     size_t open_udp_port_count;     /* but at `echo_port`; as many must be there too */
-    struct lk_addr ipv4;            /* an IPv4 address; 0.0.0.0: none */
-    struct lk_addr ipv6;            /* an IPv6 address; `::`: none */
+    struct lk_addr ipv4;            /* an IPv4 address; 0.0.0.0, which is {{0}, 4}: none */
+    struct lk_addr ipv6;            /* an IPv6 address; `::`, which is {{0}, 6}: none */
     uint8_t hardware[6];            /* an Ethernet address */
     uint16_t echo_port;             /* the UDP port that echoes, to higher ports from 1024 on; 0: none */
     /* what an open port sends */
     uint32_t seq_number;            /* hard to guess, another for each connection (RFC 9293, section 3.4.1) */
     uint32_t tsval;                 /* the timestamp */
     uint16_t window_len;            /* in bytes; not scaled, because it is sent with SYN */
-    uint16_t mss;          /* in bytes */
+    uint16_t mss;                   /* in bytes */
     uint8_t window_scale;           /* in bits; more than 14 is sent as 14 */
     /* what its neighbour advertisements say */
     uint8_t is_router;              /* not 0: it forwards packets; sets R (RFC 4861, section 7.2.4) */
@@ -1066,8 +1069,8 @@ ptrdiff_t lk_answer(const struct lk_host *host, const uint8_t *ptr, size_t len, 
 
 /* An interface of a host or router. */
 struct lk_interface {
-    struct lk_addr ipv4; /* an IPv4 address; 0.0.0.0: none */
-    struct lk_addr ipv6; /* an IPv6 address; `::`: none */
+    struct lk_addr ipv4; /* an IPv4 address; 0.0.0.0, which is {{0}, 4}: none */
+    struct lk_addr ipv6; /* an IPv6 address; `::`, which is {{0}, 6}: none */
     uint8_t hardware[6]; /* an Ethernet address */
 };
 
@@ -1091,7 +1094,7 @@ enum lk_problem {
  *   problem                    IPv4    IPv6   tested; else the result is 0
  *   LK_HOP_LIMIT_EXPIRED       11, 0   3, 0   the hop limit is 0 or 1
  *   LK_PACKET_TOO_BIG          3, 4    2, 0   the packet is longer than `mtu`, and over IPv4 has DF
- *   LK_NO_ROUTE_TO_DESTINATION           3, 0    1, 0   nothing
+ *   LK_NO_ROUTE_TO_DESTINATION 3, 0    1, 0   nothing
  *   LK_NEIGHBOUR_MISSING       3, 1    1, 3   nothing
  *   LK_PORT_CLOSED             3, 3    1, 4   nothing, not even that it is UDP or TCP
  *   LK_PROHIBITED              3, 13   1, 1   nothing
@@ -1374,8 +1377,8 @@ size_t lk_expire_reassembly(struct lk_reassembly *reassemblies, size_t count, co
  *   nothing else does. lk_set_addr, lk_set_port and lk_set_bytes guess which it is (LK_GUESS). Callers that know it tell
  *   lk_set_addr_as, lk_set_port_as and lk_set_bytes_as.
  * - lk_read_frame must read the IP header. Of TCP, UDP or ICMP only the bytes up to the checksum field must be there,
- *   also in the first of several fragments. If a packet was captured in part, pad it with zeros to its length: only
- *   lk_fill_checksum needs the bytes themselves.
+ *   also in the first of several fragments. If a packet was captured in part, test it by lk_read_captured, and then pad it
+ *   with zeros to its length: only lk_fill_checksum needs the bytes themselves, and a checksum over the zeros is wrong.
  * - IPv6 extension headers are stepped through, as lk_read_frame does, up to the header of a fragment. They are not
  *   changed. Not supported: a Home Address option (RFC 6275), whose address the checksum covers instead of the source.
  * - Of the Ethernet header only the EtherType is used. For a frame with VLAN tags give `frame + link.offset - 14`, where
@@ -1427,7 +1430,7 @@ int lk_set_bytes(uint8_t *frame, size_t len, size_t offset, const uint8_t *ptr, 
 int lk_set_bytes_as(uint8_t *frame, size_t len, size_t offset, const uint8_t *ptr, size_t count, int offload);
 
 /* Computes the TCP, UDP, ICMP or ICMPv6 checksum anew, as a device does for LK_CHECKSUM_PARTIAL, also where UDP has none.
- * If an IPv4 source route has hops left, the result covers the next hop, and the last receiver rejects it. Returns 0 for
+ * A wrong checksum becomes valid too: of a packet that was received, call it only for LK_CHECKSUM_PARTIAL. If an IPv4 source route has hops left, the result covers the next hop, and the last receiver rejects it. Returns 0 for
  * fragments other than atomic ones, and for UDP whose length does not fit. */
 int lk_fill_checksum(uint8_t *frame, size_t len);
 
