@@ -222,7 +222,7 @@ $(PROGRAM) $(CALLS) $(ARCHIVE): $(SOURCES)
 	@tools/alone $@ tests/gate/build $(notdir $(@D:/out=)) $(COMMAND)
 endif
 
-$(PAGES): c/pages c/ip_wire.h c/proved.txt man/ip_wire.3 $(wildcard examples/*.[ch] examples/*/*.c)
+$(PAGES): c/pages include/ip_wire.h c/proved.txt man/ip_wire.3 $(wildcard examples/*.c programs/*.[ch] programs/*/*.c)
 	@$(CAN_WRITE)
 	@tools/alone $@ $(PYTHON) c/pages $(@D)
 
@@ -230,6 +230,6 @@ $(PAGES): c/pages c/ip_wire.h c/proved.txt man/ip_wire.3 $(wildcard examples/*.[
 $(SHARED): | $(LIBRARY)
 	@test -e $@ || exec tools/alone $@ c/link $(ARCHIVE) $(@D)
 
-$(LIBRARY): $(ARCHIVE) c/link c/version c/cpu.c c/names.c c/ip_wire.h c/ip_wire.map
+$(LIBRARY): $(ARCHIVE) c/link c/version c/cpu.c c/names.c include/ip_wire.h c/ip_wire.map
 	@$(CAN_WRITE)
 	@tools/alone $@ c/link $(ARCHIVE) $(@D)

@@ -5,7 +5,7 @@ bench/bench.py [--calls LIBRARY.so] [--program PROGRAM [WORD..]]
 bench/bench.py --equal [COUNT [LIBRARY.so]]
                         compares the floor, or a library of another commit, with ours on so many damaged frames, 1000000
 
-LIBRARY.so has the calls of c/ip_wire.h (bench/reference.rs has them over smoltcp): they are
+LIBRARY.so has the calls of include/ip_wire.h (bench/reference.rs has them over smoltcp): they are
 timed in one process with ours, and with those of bench/floor.c. PROGRAM is timed on the same
 lines as ours. Where there is one, "speed" is its time divided by ours, so that 1.00 is as fast
 and 2.00 twice as fast. Times are medians. The last three cells of a call are ratios of the least

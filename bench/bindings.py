@@ -203,7 +203,7 @@ def main(folder):
         room = pathlib.Path(name)
         write_frames(room / "frames", data)
         (room / "lib").symlink_to(library)
-        (room / "ip_wire.pc").write_text(PC.format(library, version, TOP / "c"))
+        (room / "ip_wire.pc").write_text(PC.format(library, version, TOP / "include"))
         os.environ.update(IP_WIRE_LIBRARY=f"{library}/libip_wire.so", PKG_CONFIG_PATH=name, LD_LIBRARY_PATH=str(library))
         os.environ.update(BENCH_FRAMES=f"{name}/frames", BENCH_SUM=str(total))
         print("| Language | Call | ns |\n|---|---|---|")

@@ -1,10 +1,10 @@
 /* Segments per second of one TCP connection in this process, over a link in memory, with all checksums:
  *     connections ours|lwip oneway|echo COUNT
- * Both ends are of examples/sockets.h, or of lwIP as Debian builds it. COUNT is how many segments of 1460 bytes go one
+ * Both ends are of programs/sockets.h, or of lwIP as Debian builds it. COUNT is how many segments of 1460 bytes go one
  * way, or how many times 100 bytes go there and back. `perf stat -e instructions:u` and callgrind count the
  * instructions. Compile it with -DSOCKETS=1: lwIP has a list of one connection, too.
  *
- *     cc -O2 -Ic -DSOCKETS=1 bench/connections.c out/lib/libip_wire.a $(pkg-config --cflags --libs lwip) */
+ *     cc -O2 -Iinclude -DSOCKETS=1 bench/connections.c out/lib/libip_wire.a $(pkg-config --cflags --libs lwip) */
 #define _GNU_SOURCE
 #include "../tests/tcp/memory_link.h"
 #include <sys/syscall.h>

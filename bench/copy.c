@@ -1,7 +1,7 @@
 /* Moves frames between two interfaces, and does nothing else: what a router costs beside its steps.
  *     copy INTERFACE INTERFACE
- * The interfaces are those of examples/router.c. Each frame gets the Ethernet address of no host. A signal ends it. */
-#include "../examples/routing/router.h"
+ * The interfaces are those of programs/router.c. Each frame gets the Ethernet address of no host. A signal ends it. */
+#include "../programs/routing/router.h"
 
 #include <poll.h>
 #include <stdio.h>

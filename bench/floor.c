@@ -1,4 +1,4 @@
-/* The calls of c/ip_wire.h on packets, by hand: straight code with all checks that they make, to see how far the
+/* The calls of include/ip_wire.h on packets, by hand: straight code with all checks that they make, to see how far the
  * machine goes. bench/bench.py builds it as a shared library, for the processors that the library needs. */
 #include "floor_route.h"
 

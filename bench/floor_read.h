@@ -1,6 +1,6 @@
 /* lk_read_frame, lk_find_tcp_options and both in one by hand: straight code with all checks that the library makes. */
 #include <tmmintrin.h>
-#include "../c/ip_wire.h"
+#include "../include/ip_wire.h"
 #include "sums.h"
 
 enum { ETHERNET_LEN = 14, ARP_LEN = 28, IPV4_LEN = 20, IPV6_LEN = 40 };

@@ -1,5 +1,5 @@
 #!/usr/bin/env python3
-"""Frames per second of examples/router.c and nat.c, beside copying alone and beside the kernel's forwarding.
+"""Frames per second of programs/router.c and nat.c, beside copying alone and beside the kernel's forwarding.
 
 bench/forwarding.py [ROUNDS [SECONDS]]
 
@@ -55,7 +55,7 @@ def frame_of(size):
 
 def compiled(room, name, *sources):
     library = os.environ.get("LIBRARY", f"{TOP}/out/lib/libip_wire.a")
-    subprocess.run(["cc", "-O2", f"-I{TOP}/c", "-o", f"{room}/{name}", *sources, library], check=True)
+    subprocess.run(["cc", "-O2", f"-I{TOP}/include", "-o", f"{room}/{name}", *sources, library], check=True)
     return f"{room}/{name}"
 
 
@@ -112,10 +112,10 @@ class Path:
 
 def main(rounds=5, seconds=1.0):
     with tempfile.TemporaryDirectory() as room:
-        examples = f"{TOP}/examples"
-        parts = [f"{examples}/routing/{name}" for name in os.listdir(f"{examples}/routing") if name.endswith(".c")]
-        programs = {name: compiled(room, name, f"{examples}/{name}.c", *parts) for name in ("router", "nat")}
-        programs["copy"] = compiled(room, "copy", f"{TOP}/bench/copy.c", f"{examples}/routing/device.c")
+        sources = f"{TOP}/programs"
+        parts = [f"{sources}/routing/{name}" for name in os.listdir(f"{sources}/routing") if name.endswith(".c")]
+        programs = {name: compiled(room, name, f"{sources}/{name}.c", *parts) for name in ("router", "nat")}
+        programs["copy"] = compiled(room, "copy", f"{TOP}/bench/copy.c", f"{sources}/routing/device.c")
         blast = compiled(room, "blast", f"{TOP}/bench/blast.c")
         for kind in ("tap", "packet"):
             left, right = f"{kind}:left", f"{kind}:right"

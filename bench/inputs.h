@@ -1,7 +1,7 @@
 /* What the calls are timed on: the calls of a library, a row of the table, and the inputs of the rows. */
 #include <stdint.h>
 #include <string.h>
-#include "../c/ip_wire.h"
+#include "../include/ip_wire.h"
 
 enum {
     MOST_BYTES = 1 << 16,

@@ -1,11 +1,11 @@
-/* A path between two interfaces of examples/router.c, with a rate and a queue, delay, jitter, loss and repetition:
+/* A path between two interfaces of programs/router.c, with a rate and a queue, delay, jitter, loss and repetition:
  *     path INTERFACE INTERFACE SEED RATE QUEUE DELAY JITTER LOSS REPETITION
  * RATE is in bytes per second. QUEUE, DELAY and JITTER are in microseconds, LOSS and REPETITION of a million frames. In each
  * direction a frame is lost, or waits until those before it have left at the rate. It is dropped if it would wait for longer
  * than QUEUE. Then it takes DELAY, and up to JITTER more or less: so later frames overtake it, as with netem of Linux. What
  * happens to the frame number n depends only on SEED. Prints "ready". SIGTERM ends it, and it prints counts. */
 #define _GNU_SOURCE
-#include "../examples/routing/router.h"
+#include "../programs/routing/router.h"
 
 #include <poll.h>
 #include <stdlib.h>

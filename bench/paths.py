@@ -178,7 +178,7 @@ def main(seconds=6, seeds=3, at_once=8, *words):
     os.sched_setscheduler(0, os.SCHED_RR, os.sched_param(1))  # so that other load delays no frame
     signal.signal(signal.SIGINT, signal.SIG_DFL)
     with tempfile.TemporaryDirectory() as room, concurrent.futures.ProcessPoolExecutor(int(at_once)) as pool:
-        compiled(room, "path", f"{TOP}/bench/path.c", f"{TOP}/examples/routing/device.c")
+        compiled(room, "path", f"{TOP}/bench/path.c", f"{TOP}/programs/routing/device.c")
         compiled(room, "stream", f"-DBUFFER={BUFFER}", f"{TOP}/bench/stream.c")
         with open(f"{room}/file", "wb") as file:
             file.write(random.Random(1).randbytes(FILE_LEN))

@@ -1,4 +1,4 @@
-//! The calls of `c/ip_wire.h` over smoltcp 0.14, to be timed beside ours.
+//! The calls of `include/ip_wire.h` over smoltcp 0.14, to be timed beside ours.
 //!
 //! Build it as a shared library: `rustc --edition 2024 --crate-type cdylib -C opt-level=3 -C panic=abort
 //! --extern smoltcp=libsmoltcp.rlib -L FOLDER bench/reference.rs`, with a smoltcp that has Ethernet, ARP, IPv4,
@@ -55,7 +55,7 @@ fn written(len: Result<usize>) -> isize {
 }
 
 /// # Safety
-/// As `c/ip_wire.h` asks, here and below.
+/// As `include/ip_wire.h` asks, here and below.
 #[unsafe(no_mangle)]
 pub unsafe extern "C" fn lk_checksum(ptr: *const u8, len: usize) -> u16 {
     checksum::data(unsafe { input(ptr, len) })

@@ -7,7 +7,7 @@
 #define BUFFER (1 << 22)
 #endif
 #define SOCKETS 1
-#include "../examples/sockets.h"
+#include "../programs/sockets.h"
 
 enum { PORT = 7, LONGEST = 1 << 20 };
 

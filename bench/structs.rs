@@ -1,4 +1,4 @@
-//! The structs of `c/ip_wire.h`.
+//! The structs of `include/ip_wire.h`.
 
 macro_rules! structs {
     ($($(#[$meta:meta])* struct $name:ident { $($field:ident: $type:ty,)* })*) => {

@@ -1,4 +1,4 @@
-//! The calls of `c/ip_wire.h` that parse and print texts, over smoltcp 0.14 and Rust's `core::net`.
+//! The calls of `include/ip_wire.h` that parse and print texts, over smoltcp 0.14 and Rust's `core::net`.
 
 use crate::reading::addr;
 use crate::structs::*;

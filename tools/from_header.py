@@ -1,5 +1,5 @@
 #!/usr/bin/env python3
-"""Writes what other files say of c/ip_wire.h: its structs and calls for Rust and Python, and its version.
+"""Writes what other files say of include/ip_wire.h: its structs and calls for Rust and Python, and its version.
 
     tools/from_header.py [--check]
 
@@ -11,7 +11,7 @@ import re
 import sys
 
 TOP = os.path.dirname(os.path.dirname(os.path.abspath(__file__)))
-HEADER = "c/ip_wire.h"
+HEADER = "include/ip_wire.h"
 # What a program in C alone uses.
 ONLY_C = {"lk_out"}
 # The calls that the Rust crate has no method for, and what a program has instead.
@@ -55,7 +55,7 @@ VERSIONS = [
     ("docs/C.md", "`libip_wire.so.{series}`"),
     ("examples/cmake/CMakeLists.txt", "find_package(ip_wire {series} REQUIRED)"),
     ("examples/go/go.mod", "require lerkvist.example/ipwire v{version}"),
-    ("examples/ip_dump", 'VERSION = "{version}"'),
+    ("programs/ip_dump", 'VERSION = "{version}"'),
     ("man/*", ".Os ip_wire {version}"),
 ]
 

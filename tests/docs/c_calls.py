@@ -1,5 +1,5 @@
 #!/usr/bin/env python3
-"""Compares the calls, structs and enums of c/ip_wire.h with the sources of the C library.
+"""Compares the calls, structs and enums of include/ip_wire.h with the sources of the C library.
 
     tests/docs/c_calls.py
     tests/docs/c_calls.py --write    writes docs/audit/CALLS.md
@@ -91,7 +91,7 @@ def wrong_counts(text):
 def guessed_counts(top, text):
     """Where a program takes a name of an enum for the last one. Then it has too few places after the next one came."""
     names = "|".join(name for _, numbers in c_enums(text) for name in numbers)
-    for path in sorted(glob.glob(top + "/examples/**/*.[ch]", recursive=True) + glob.glob(top + "/c/*.c")):
+    for path in sorted(path for pattern in ("examples/*.c", "programs/**/*.[ch]", "c/*.c") for path in glob.glob(f"{top}/{pattern}", recursive=True)):
         for found in re.findall(rf"\b(?:{names}) *\+ *1\b", read(path)):
             yield f"{os.path.relpath(path, top)}: {found}: the header has a constant for the number of names"
 
@@ -208,7 +208,7 @@ def old_names(top, text):
     yield from (f"CHANGELOG.md: no row has `{name}` and `{new}`" for name, new in old.items() if f"| `{name}` | `{new}` |" not in changes)
     listed = subprocess.run(["git", "-C", top, "ls-files"], capture_output=True, text=True, check=False).stdout.splitlines()
     for path in listed:
-        if re.match(r"(README|bench|bindings|c/names|docs|examples|man|packaging|tests/[^d]|tools)", path):
+        if re.match(r"(README|bench|bindings|c/names|docs|examples|man|packaging|programs|tests/[^d]|tools)", path):
             with open(f"{top}/{path}", encoding="utf-8", errors="ignore") as file:
                 yield from (f"{path}: {found} has another name now" for found in sorted(set(names.findall(file.read()))))
 
@@ -216,7 +216,7 @@ def old_names(top, text):
 def main(words):
     if words not in ([], ["--write"]):
         sys.exit(__doc__)
-    header = read(TOP + "/c/ip_wire.h")
+    header = read(TOP + "/include/ip_wire.h")
     sources = Library(TOP)
     calls = dict(c_calls(header))
     found = [

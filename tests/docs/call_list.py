@@ -1,4 +1,4 @@
-"""The list docs/audit/CALLS.md: where each call of c/ip_wire.h is judged, counted and wrapped, or why it is not.
+"""The list docs/audit/CALLS.md: where each call of include/ip_wire.h is judged, counted and wrapped, or why it is not.
 
 tests/docs/c_calls.py compares it, and writes it with --write. What stands in a column is found in the sources. The reasons are
 here. A call that is not in a column needs one, and a call that is in it has none.
@@ -47,7 +47,7 @@ REASONS = [
 HEAD = """# Calls of the C library
 
 This page is for people who change calls of the C library. `tests/docs/c_calls.py --write` makes it. For each call of
-`c/ip_wire.h` it says:
+`include/ip_wire.h` it says:
 
 | Column | Contents |
 |---|---|
@@ -63,7 +63,7 @@ neither. A new reason goes into the list in `tests/docs/call_list.py`.
 
 def expanded(source):
     """A file of C after the preprocessor, with the files of this repository that it includes, but for the header."""
-    output = subprocess.run(["cc", "-E", "-Ic", source], cwd=TOP, check=True, stdout=subprocess.PIPE).stdout.decode("utf-8")
+    output = subprocess.run(["cc", "-E", "-Iinclude", source], cwd=TOP, check=True, stdout=subprocess.PIPE).stdout.decode("utf-8")
     lines, is_ours = [], False
     for line in output.split("\n"):
         marker = re.match(r'# \d+ "([^"]*)"', line)

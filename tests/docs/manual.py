@@ -1,5 +1,5 @@
 #!/usr/bin/env python3
-"""Reads the manual pages that c/pages makes of c/ip_wire.h, which takes comments apart.
+"""Reads the manual pages that c/pages makes of include/ip_wire.h, which takes comments apart.
 
     tests/docs/manual.py
 
@@ -20,9 +20,9 @@ import tempfile
 from datetime import date, datetime
 
 TOP = os.path.dirname(os.path.dirname(os.path.dirname(os.path.abspath(__file__))))
-SOURCES = ("c/pages", "c/ip_wire.h", "c/proved.txt", "man/ip_wire.3")
+SOURCES = ("c/pages", "include/ip_wire.h", "c/proved.txt", "man/ip_wire.3")
 # The pages that are written by hand, with the files whose changes they show.
-DATED = {"man/ip_wire.3": ["man/ip_wire.3", "c/ip_wire.h"], "man/ip_frames.1": ["man/ip_frames.1"], "man/ip_dump.1": ["man/ip_dump.1"]}
+DATED = {"man/ip_wire.3": ["man/ip_wire.3", "include/ip_wire.h"], "man/ip_frames.1": ["man/ip_frames.1"], "man/ip_dump.1": ["man/ip_dump.1"]}
 # Sections of names, declarations and references.
 OF_CODE = ("NAME", "SYNOPSIS", "TYPES", "SEE ALSO")
 BEGINS_WITH_IT = re.compile(r"(?:\w+ )?its?\b", re.I)
@@ -97,12 +97,12 @@ def old_dates():
 
 def unnoticed(top):
     """The planted faults that are not noticed. `top` has the sources, which are changed."""
-    path = os.path.join(top, "c/ip_wire.h")
+    path = os.path.join(top, "include/ip_wire.h")
     with open(path, encoding="utf-8") as file:
         header = file.read()
     for page, message, old, new in FAULTS:
         if header.count(old) != 1:
-            yield f"{old!r} is not once in c/ip_wire.h"
+            yield f"{old!r} is not once in include/ip_wire.h"
             continue
         with open(path, "w", encoding="utf-8") as file:
             file.write(header.replace(old, new))

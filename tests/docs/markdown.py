@@ -30,8 +30,8 @@ FOREIGN = {"ip_nat", "pretty_print", "AsMut", "is_private", "to_ipv6_mapped", "C
 UNNAMED = {"CHANGELOG.md", "docs/audit/REQUIREMENTS.md"}
 EXCERPTS = {
     "rust": ["crates/**/*.rt", "crates/**/*.antt", "bindings/rust/**/*.rs", "examples/rust/*.rs", "examples/native/*.rs", "crates.txt"],
-    "c": ["c/*.[ch]", "examples/**/*.[ch]", "bench/*.[ch]"],
-    "python": ["bindings/python/**/*.py", "examples/**/*.py"],
+    "c": ["include/*.h", "c/*.c", "examples/*.c", "programs/**/*.[ch]", "bench/*.[ch]"],
+    "python": ["bindings/python/**/*.py", "examples/**/*.py", "programs/*.py"],
     "go": ["bindings/go/*.go", "examples/go/**/*.go", "examples/go/go.mod"],
 }
 LANGUAGES = {*EXCERPTS, "console", "sh", "text"}
@@ -221,7 +221,7 @@ def command_faults(page, tree):
                 command = line.split(" # ")[0]
                 goals = re.findall(r"\bmake ([a-z-]+)(?![\w/])", command)
                 yield from ((number, "there is no goal " + goal) for goal in goals if goal not in tree.goals)
-                paths = re.findall(r"(?<![^\s(])(?:tests|bench|tools|c|examples)/[\w./-]+", command)
+                paths = re.findall(r"(?<![^\s(])(?:tests|bench|tools|c|examples|include|programs)/[\w./-]+", command)
                 yield from ((number, "there is no file " + path) for path in paths if not tree.has_file(path, ""))
 
 

@@ -24,7 +24,7 @@ has a row.
 | State | Meaning |
 |---|---|
 | met | The named statements are proved, or the named tests show it. |
-| tested | A program of `examples/` does it. It is only tested. |
+| tested | A program of `programs/` does it. It is only tested. |
 | caller | The program that calls the library has to do it. |
 | deviates | The code does something else, for the reason that the row gives. |
 | not supported | The code does not do it. |

@@ -1,5 +1,5 @@
 #!/usr/bin/env python3
-"""The rebuilt frame by the rules of c/ip_wire.h (`lk_rebuild`), without the library.
+"""The rebuilt frame by the rules of include/ip_wire.h (`lk_rebuild`), without the library.
 
     tests/frames/rebuilt.py
 
@@ -201,8 +201,8 @@ def emitted(options, is_ack):
 
 
 def listed():
-    """The changes in the table of c/ip_wire.h, by header and field. A row with two fields counts as two."""
-    with open(f"{TOP}/c/ip_wire.h", encoding="utf-8") as file:
+    """The changes in the table of include/ip_wire.h, by header and field. A row with two fields counts as two."""
+    with open(f"{TOP}/include/ip_wire.h", encoding="utf-8") as file:
         heading, rows = re.search(r"^([ *]*header +field +change +consequence)\n(.*?)\n[ *]*\n", file.read(), re.M | re.S).groups()
     columns = [heading.find(name) for name in ("header", "field", "change", "consequence")]
     for row in rows.splitlines():

@@ -43,7 +43,7 @@ def abi():
     """The lines of the present header."""
     text = read(f"{TOP}/{HEADER}")
     with tempfile.TemporaryDirectory() as room:
-        subprocess.run(["cc", f"-I{TOP}/c", "-x", "c", "-o", f"{room}/abi", "-"], input=program(text).encode(), check=True)
+        subprocess.run(["cc", f"-I{TOP}/include", "-x", "c", "-o", f"{room}/abi", "-"], input=program(text).encode(), check=True)
         printed = subprocess.run([f"{room}/abi"], stdout=subprocess.PIPE, check=True).stdout.decode()
     return [f"symbol {name}" for name, *_ in calls_of(text)] + printed.splitlines()
 

@@ -5,7 +5,7 @@ loads_by_python() {
     local package="$prefix/share/ip_wire/python"
     diff -r -x __pycache__ bindings/python/ip_wire "$package/ip_wire" || return 1
     PYTHONPATH=$package IP_WIRE_LIBRARY=$prefix/lib/libip_wire.so python3 -m unittest discover -s bindings/python/tests &&
-        runs "PYTHONPATH='$package' python3 '$top/examples/python/quick.py'" | diff - examples/quick.txt &&
+        runs "PYTHONPATH='$package' python3 '$top/examples/python/quick.py'" | diff - tests/data/examples/quick.txt &&
         reads_captures env PYTHONPATH="$package" LD_LIBRARY_PATH="$prefix/lib" python3 examples/python/read_pcap.py
 }
 
@@ -26,7 +26,7 @@ in_venv() {
         unset IP_WIRE_LIBRARY LD_LIBRARY_PATH PYTHONPATH
         cd "$room/folder" || exit
         "$venv/bin/python" -m unittest discover -s "$top/bindings/python/tests" &&
-            "$venv/bin/python" "$top/examples/python/quick.py" | diff - "$top/examples/quick.txt"
+            "$venv/bin/python" "$top/examples/python/quick.py" | diff - "$top/tests/data/examples/quick.txt"
     )
 }
 
@@ -74,6 +74,6 @@ go_in() {
 # The package has its form, no remark and no failing test, and the example uses it.
 builds_by_go() {
     [ -z "$(gofmt -l bindings/go examples/go bench/bindings tests/tcp)" ] && go_in bindings/go vet && go_in bindings/go test &&
-        go_in examples/go vet ./... && go_in examples/go run . | diff - examples/quick.txt &&
+        go_in examples/go vet ./... && go_in examples/go run . | diff - tests/data/examples/quick.txt &&
         reads_captures go_in examples/go run ./pcap
 }

@@ -22,7 +22,7 @@ reads_captures() {
     local capture data=$top/tests/data/tools
     swap examples/echo.pcap "$room/swapped.pcap" && head -c 100 examples/echo.pcap > "$room/cut.pcap" || return 1
     for capture in "$top/examples/echo.pcap" "$data/nanoseconds.pcap" "$room/swapped.pcap"; do
-        "$@" "$capture" | diff - examples/pcap.txt || return 1
+        "$@" "$capture" | diff - tests/data/examples/pcap.txt || return 1
     done
     "$@" "$data/raw_ip.pcap" | diff - <(echo 'IPv4 192.0.2.1 > 192.0.2.2 proto=253 len=0 (header checksum incorrect)') &&
         "$@" "$data/snap.pcap" | finds -F '(checksum cut)' && fails_with 'this is no pcap file' "$@" "$top/README.md" &&

@@ -12,8 +12,8 @@ cargo_at() {
 
 # The example with the static library and with the shared one, and all tests.
 builds_by_cargo() {
-    cargo_at "$prefix" run -q --example quick | diff - examples/quick.txt &&
-        IP_WIRE_SHARED=1 cargo_at "$prefix" run -q --example quick | diff - examples/quick.txt &&
+    cargo_at "$prefix" run -q --example quick | diff - tests/data/examples/quick.txt &&
+        IP_WIRE_SHARED=1 cargo_at "$prefix" run -q --example quick | diff - tests/data/examples/quick.txt &&
         cargo_at "$prefix" test -q || return 1
     PKG_CONFIG_LIBDIR=$room fails_with 'pkg-config does not find the C library ip_wire' cargo_at "$room" build -q
 }
@@ -39,7 +39,7 @@ packs_by_cargo() (
     packs bundled/libip_wire.a bundled/ip_wire.h &&
         tar -xzf "$room/cargo/package/ip_wire_c-$(c/version).crate" -C "$room/crate" || exit 1
     crate=$room/crate/ip_wire_c-$(c/version)
-    cargo_at / run -q --example quick | diff - examples/quick.txt && cargo_at / test -q
+    cargo_at / run -q --example quick | diff - tests/data/examples/quick.txt && cargo_at / test -q
 )
 
 has_clean_rust() {

@@ -15,7 +15,7 @@ from tools import RECORDED, Case, run_cases
 
 ECHO = "examples/echo.pcap"
 # Where it would wait for ever if it did not write in time
-LIMITED = "timeout 200 examples/ip_dump"
+LIMITED = "timeout 200 programs/ip_dump"
 ENDS = ["02-00-00-00-00-01", "02-00-00-00-00-02"]
 
 
@@ -74,7 +74,7 @@ FRAMES_STATS = counts("11 frames", "6 changed", "0 only shorter", "0 not hex", "
 def case(words, output="", error="", status=0, data=b"", name=None):
     """ip_dump with these words. Each line of the error stands here without its name."""
     lines = error if isinstance(error, re.Pattern) else "".join(f"ip_dump: {line}\n" for line in error.splitlines())
-    return Case(f"ip_dump: {name or words}", f"examples/ip_dump {words}", data, output, lines, status)
+    return Case(f"ip_dump: {name or words}", f"programs/ip_dump {words}", data, output, lines, status)
 
 
 FORMS = [
@@ -90,9 +90,9 @@ FORMS = [
          f"{RECORDED}/raw_ip.pcap: no Ethernet in this capture: link type 101; --lines prints other link types", 1),
     case(f"<(gzip -c {ECHO}) | cat", ECHO_TEXT),
     case("--stats < <(gzip -c examples/frames.hex)", FRAMES_STATS),
-    Case("ip_dump: a dump in two writes", "(printf 0000; sleep 0.2; printf '  02 00\\n') | examples/ip_dump", b"",
+    Case("ip_dump: a dump in two writes", "(printf 0000; sleep 0.2; printf '  02 00\\n') | programs/ip_dump", b"",
          "1: EthernetII (wire::Error)\n", "", 0),
-    Case("ip_dump: lines in two writes", "(printf 02; sleep 0.2; printf '00\\n') | examples/ip_dump", b"",
+    Case("ip_dump: lines in two writes", "(printf 02; sleep 0.2; printf '00\\n') | programs/ip_dump", b"",
          "1: EthernetII (wire::Error)\n", "", 0),
 ]
 
@@ -297,7 +297,7 @@ FILES = [
          SUMMARIES.encode(), "tcpdump without -xx"),
     case(f"{ECHO} > /dev/full", "", "cannot write: No space left on device", 1),
     case("--help > /dev/full", "", "cannot write: No space left on device", 1),
-    Case("ip_dump: a reader that ends", f"{MANY} | examples/ip_dump | head -n 1", b"", f"1: {LINE_TEXT}", "", 141),
+    Case("ip_dump: a reader that ends", f"{MANY} | programs/ip_dump | head -n 1", b"", f"1: {LINE_TEXT}", "", 141),
     # The input goes on until there is output.
     Case("ip_dump: output before the input ends", f'd=$(mktemp -d) && mkfifo "$d/end" && ({MANY}; cat "$d/end") | '
          f'{LIMITED} | (head -n 1; : > "$d/end"; cat > /dev/null); rm -r "$d"', b"", f"1: {LINE_TEXT}", "", 0),
@@ -305,11 +305,11 @@ FILES = [
          f'd=$(mktemp -d) && (until [ -e "$d/end" ]; do echo {LINE}; sleep 0.5; done) | '
          f'{LIMITED} | (head -n 2; : > "$d/end"; cat > /dev/null); rm -r "$d"', b"",
          f"1: {LINE_TEXT}2: {LINE_TEXT}", "", 0),
-    Case("ip_dump: an interrupt", f"(echo {LINE}; sleep 12) | timeout --preserve-status -s INT 8 examples/ip_dump", b"",
+    Case("ip_dump: an interrupt", f"(echo {LINE}; sleep 12) | timeout --preserve-status -s INT 8 programs/ip_dump", b"",
          "", "", 130),
     Case("ip_dump: a name that is no text", r"""d=$(mktemp -d) && f=$d/$'\xff' && echo 02 > "$f" &&
-         echo 03 > "$d/2" && examples/ip_dump "$f" "$d/2" | sed "s,$d/,," &&
-         examples/ip_dump --json "$f" | cut -d '"' -f 4 | sed "s,$d/,," && rm -r "$d" """, b"",
+         echo 03 > "$d/2" && programs/ip_dump "$f" "$d/2" | sed "s,$d/,," &&
+         programs/ip_dump --json "$f" | cut -d '"' -f 4 | sed "s,$d/,," && rm -r "$d" """, b"",
          b"\xff:1: EthernetII (wire::Error)\n2:1: EthernetII (wire::Error)\n\\udcff\n", "", 0),
 ]
 
@@ -317,7 +317,7 @@ FILES = [
 ON_A_TERMINAL = """
 import os, select, subprocess, time
 ours, theirs = os.openpty()
-dump = subprocess.Popen(["examples/ip_dump", "--stats"], stdin=subprocess.PIPE, stdout=subprocess.DEVNULL, stderr=theirs)
+dump = subprocess.Popen(["programs/ip_dump", "--stats"], stdin=subprocess.PIPE, stdout=subprocess.DEVNULL, stderr=theirs)
 end = time.monotonic() + 200
 while not select.select([ours], [], [], 0.2)[0] and time.monotonic() < end:
     dump.stdin.write(b"LINE\\n" * 5000)
@@ -334,7 +334,7 @@ PROGRESS = Case("ip_dump: progress on a terminal", f"python3 -c {shlex.quote(ON_
 def beside(name, program, error="", words=ECHO, output="", status=1):
     """A copy of ip_dump in a folder $d, with a stand-in for ip_frames, and with no other one on PATH."""
     python = shlex.quote(sys.executable)
-    command = ("""d=$(mktemp -d) && trap 'rm -r "$d"' EXIT && cp examples/{ip_dump,*.py} "$d" && mkdir "$d/bin" && """
+    command = ("""d=$(mktemp -d) && trap 'rm -r "$d"' EXIT && cp programs/{ip_dump,*.py} "$d" && mkdir "$d/bin" && """
                f'ln -s "$(command -v sh)" "$d/bin/sh" && ln -s {python} "$d/bin/python3" && '
                f'{program} && PATH=$d/bin "$d/ip_dump" {words}')
     return Case(f"ip_dump: {name}", command, b"", output, re.compile(f"ip_dump: {error}\n" if error else ""), status)
@@ -360,7 +360,7 @@ PROGRAMS = [
 ]
 
 # The script names the version of the library.
-VERSION = Case("ip_dump: --version", "examples/ip_dump --version | diff - <(echo ip_dump $(c/version))", b"", "", "", 0)
+VERSION = Case("ip_dump: --version", "programs/ip_dump --version | diff - <(echo ip_dump $(c/version))", b"", "", "", 0)
 CASES = [*FORMS, *OPTIONS, *LINES, *FILES, PROGRESS, *PROGRAMS, VERSION]
 
 if __name__ == "__main__":

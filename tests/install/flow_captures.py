@@ -1,5 +1,5 @@
 #!/usr/bin/env python3
-"""Writes captures for the tests of examples/flows.c.
+"""Writes captures for the tests of programs/flows.c.
 
     tests/install/flow_captures.py FOLDER
 

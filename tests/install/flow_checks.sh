@@ -1,4 +1,4 @@
-# Checks of examples/flows.c, for tests/install/run.
+# Checks of programs/flows.c, for tests/install/run.
 
 prints_flows() {
     runs "$(commands_of_the_man_page | grep -F flows.c)" || return 1

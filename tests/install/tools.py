@@ -31,7 +31,7 @@ def recorded(name):
 
 def tool_case(tool, name, words, data, output, error, status):
     lines = "".join(f"{tool}: {line}\n" for line in error.splitlines())
-    return Case(f"{tool}: {name}", f"examples/{tool} {words}", data, output, lines, status)
+    return Case(f"{tool}: {name}", f"programs/{tool} {words}", data, output, lines, status)
 
 
 def capture(name, data, output="", error="", words=""):
@@ -291,7 +291,7 @@ def devices(tool, source, lines, long):
     def fails(words, error, output="", status=1):
         return tool_case(tool, words, words, b"", output, error, status)
 
-    run_non_blocking = f"import os; os.set_blocking(0, False); os.execv('examples/{tool}', ['{tool}'])"
+    run_non_blocking = f"import os; os.set_blocking(0, False); os.execv('programs/{tool}', ['{tool}'])"
     return [
         fails(f"< {source} >&-", "cannot write: standard output is closed"),
         fails(f"< {source} > /dev/full", "cannot write: No space left on device"),

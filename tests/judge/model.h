@@ -1,4 +1,4 @@
-/* A model of the C interface: for each call of c/ip_wire.h the same arguments and results, written only
+/* A model of the C interface: for each call of include/ip_wire.h the same arguments and results, written only
  * from the comments of that header and from the RFCs. It is slow and simple, so that it can be checked by reading.
  * "Open" in a comment says that the header leaves a case open, and which answer the model takes. */
 #ifndef MODEL_H

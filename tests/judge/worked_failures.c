@@ -1,4 +1,4 @@
-/* Worked calls that fail for several reasons at once. By c/ip_wire.h the failure is the first of them in the order of
+/* Worked calls that fail for several reasons at once. By include/ip_wire.h the failure is the first of them in the order of
  * the failures there. */
 #include "worked.h"
 

@@ -370,7 +370,7 @@ static void reads_verdicts(void)
     }
 }
 
-/* ---- two faults at once: the first reason of the list in c/ip_wire.h that applies ---- */
+/* ---- two faults at once: the first reason of the list in include/ip_wire.h that applies ---- */
 
 /* IPv4 and IPv6 begin at byte 14, the transport header after them at byte 34 or 54. */
 static const struct {

@@ -1,8 +1,8 @@
 #!/usr/bin/env python3
 """The kernel's side of tests/kernel, for the two hosts.
 
-tests/kernel/client.py host DEVICE    exchanges packets with examples/host.c on this TAP device
-tests/kernel/client.py proved DEVICE  the same with examples/proved_host.c, which keeps no connection
+tests/kernel/client.py host DEVICE    exchanges packets with programs/host.c on this TAP device
+tests/kernel/client.py proved DEVICE  the same with programs/proved_host.c, which keeps no connection
 tests/kernel/client.py address ADDRESS  exchanges packets with an echo server
 
 Prints how many exchanges were right. The status is 1 if one was wrong, or if the kernel counted an error.

@@ -1,5 +1,5 @@
 #!/usr/bin/env python3
-"""The kernel's side of tests/kernel, for what one host or link must not do to others through examples/router.c and nat.c.
+"""The kernel's side of tests/kernel, for what one host or link must not do to others through programs/router.c and nat.c.
 
 tests/kernel/edges.py ROUTER CLOCK
 

@@ -1,5 +1,5 @@
 #!/usr/bin/env python3
-"""The kernel's side of tests/kernel, for faults around examples/router.c and nat.c, and in them.
+"""The kernel's side of tests/kernel, for faults around programs/router.c and nat.c, and in them.
 
 tests/kernel/faults.py taps ROUTER             while TAP devices fail, and hostile frames come
 tests/kernel/faults.py flood NAT               while hostile frames come from inside and outside

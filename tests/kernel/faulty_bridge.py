@@ -2,7 +2,7 @@
 """Bridges between two TAP devices over the library, each with one fault that tests/kernel must notice.
 
 tests/kernel/faulty_bridge.py                                  prints the faults, a line each
-tests/kernel/faulty_bridge.py LIBRARY FAULT DEVICE DEVICE      is examples/bridge.c over this shared library, with the fault
+tests/kernel/faulty_bridge.py LIBRARY FAULT DEVICE DEVICE      is programs/bridge.c over this shared library, with the fault
 
 `no fault` is the control: tests/kernel must notice nothing.
 """

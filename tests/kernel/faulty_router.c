@@ -1,6 +1,6 @@
-/* Faults for examples/router.c and nat.c, linked with --wrap for the five calls. The variable FAULT is the number of
+/* Faults for programs/router.c and nat.c, linked with --wrap for the five calls. The variable FAULT is the number of
  * one; with 0 there is none. */
-#include "../../examples/routing/router.h"
+#include "../../programs/routing/router.h"
 #include <ip_wire.h>
 #include <stddef.h>
 #include <stdlib.h>

@@ -1,10 +1,10 @@
 #!/usr/bin/env python3
 """The kernel's side of tests/kernel, for packets in fragments.
 
-tests/kernel/fragments.py host DEVICE           to examples/host.c or proved_host.c on this TAP device
-tests/kernel/fragments.py router PROGRAM CLOCK  to examples/router.c itself, and those that it forwards
-tests/kernel/fragments.py nat PROGRAM           through examples/nat.c on TAP devices, in both directions
-tests/kernel/fragments.py sockets PROGRAM       through examples/nat.c on packet sockets
+tests/kernel/fragments.py host DEVICE           to programs/host.c or proved_host.c on this TAP device
+tests/kernel/fragments.py router PROGRAM CLOCK  to programs/router.c itself, and those that it forwards
+tests/kernel/fragments.py nat PROGRAM           through programs/nat.c on TAP devices, in both directions
+tests/kernel/fragments.py sockets PROGRAM       through programs/nat.c on packet sockets
 
 CLOCK is a fast clock to be preloaded. The kernel's fragments come in their order. Those that are made here come in any
 order, and more than once; the answers are put together without the library. Prints how many exchanges were right. The

@@ -1,15 +1,15 @@
 #!/usr/bin/env python3
-"""What tests/kernel does to examples/host.c that no right peer does.
+"""What tests/kernel does to programs/host.c that no right peer does.
 
 tests/kernel/hostile.py WHAT DEVICE PROCESS [SLOW]
-    flood           sends 60,000 hostile frames to examples/host.c
+    flood           sends 60,000 hostile frames to programs/host.c
     acks            counts the acknowledgements of segments; while there is the file SLOW, the host's clock goes slowly
     queue           exchanges packets over short queues, and after the host was stopped for a while
     open            leaves connections open
     retransmitting  leaves a connection whose peer acknowledges nothing
     full            fills the queue of frames to the host, and sends it SIGTERM while more come
-    proved          sends 60,000 hostile frames to examples/proved_host.c, and sets its device down and up
-    bridge          the same for examples/bridge.c from DEVICE to the device `far`, and sends it SIGTERM while more come
+    proved          sends 60,000 hostile frames to programs/proved_host.c, and sets its device down and up
+    bridge          the same for programs/bridge.c from DEVICE to the device `far`, and sends it SIGTERM while more come
 
 PROCESS is the program on this TAP device. The frames are built here, apart from the library. The status is 1 if
 something was wrong.

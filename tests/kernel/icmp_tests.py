@@ -1,10 +1,10 @@
 #!/usr/bin/env python3
 """The kernel's side of tests/kernel, for ICMP and neighbour discovery.
 
-tests/kernel/icmp_tests.py host DEVICE      with examples/host.c or proved_host.c on this TAP device
-tests/kernel/icmp_tests.py router PROGRAM   through and with examples/router.c, on TAP devices
+tests/kernel/icmp_tests.py host DEVICE      with programs/host.c or proved_host.c on this TAP device
+tests/kernel/icmp_tests.py router PROGRAM   through and with programs/router.c, on TAP devices
 tests/kernel/icmp_tests.py link PROGRAM     the same on packet sockets, with a smaller link behind it
-tests/kernel/icmp_tests.py nat PROGRAM      through and with examples/nat.c, on packet sockets
+tests/kernel/icmp_tests.py nat PROGRAM      through and with programs/nat.c, on packet sockets
 
 Prints how many exchanges were right. The status is 1 if one was wrong, or if a kernel counted an error.
 """

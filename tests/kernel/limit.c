@@ -1,12 +1,12 @@
-/* Tests examples/routing/limit.c: counts the instructions of a call where very many addresses are at their limit, and
+/* Tests programs/routing/limit.c: counts the instructions of a call where very many addresses are at their limit, and
  * compares what it allows with a count of all live mappings. */
 #define _GNU_SOURCE
-#include "../../examples/routing/router.h"
+#include "../../programs/routing/router.h"
 #include "../counts/steps.h"
 
 #include <stdlib.h>
 
-/* As in examples/nat.c: the most mappings, and the most of one address. */
+/* As in programs/nat.c: the most mappings, and the most of one address. */
 enum { MAPPINGS = LK_MAPPINGS(64512), MOST_OF_ONE = 4096 };
 /* The most instructions of a call. It may read 64 counters and 64 mappings. */
 enum { MOST_STEPS = 2500, LOOKS = 64 };

@@ -1,5 +1,5 @@
 #!/usr/bin/env python3
-"""The kernel's side of tests/kernel, for examples/host.c where segments, a peer or the device are lost.
+"""The kernel's side of tests/kernel, for programs/host.c where segments, a peer or the device are lost.
 
 tests/kernel/losses.py silent DEVICE SLOW
                                       is a silent peer of the host on this TAP device: many SYNs, a closed window, a loss.

@@ -1,5 +1,5 @@
 #!/usr/bin/env python3
-"""The kernel's side of tests/kernel, for examples/nat.c.
+"""The kernel's side of tests/kernel, for programs/nat.c.
 
 tests/kernel/nat.py taps PROGRAM CLOCK  exchanges packets through a NAT on TAP devices, and compares all frames
 tests/kernel/nat.py sockets PROGRAM     through a NAT on packet sockets, with the offloads of the kernel

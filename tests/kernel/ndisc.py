@@ -1,4 +1,4 @@
-"""Neighbour discovery of examples/router.c, for icmp_tests.py: what it asks, and what it learns."""
+"""Neighbour discovery of programs/router.c, for icmp_tests.py: what it asks, and what it learns."""
 import socket
 import time
 

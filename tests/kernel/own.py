@@ -1,5 +1,5 @@
 #!/usr/bin/env python3
-"""The kernel's side of tests/kernel, for the addresses that examples/router.c and nat.c have on their links.
+"""The kernel's side of tests/kernel, for the addresses that programs/router.c and nat.c have on their links.
 
 tests/kernel/own.py ROUTER NAT HOST PROVED_HOST
 

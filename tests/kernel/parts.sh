@@ -21,7 +21,7 @@ adds_tap() {
         ip address add fd77::1/64 dev "$1" nodad
 }
 
-# host_on_tap0 COMMAND..: starts examples/host.c on this device
+# host_on_tap0 COMMAND..: starts programs/host.c on this device
 host_on_tap0() {
     adds_tap tap0 && start_and_wait "$programs/host.out" "$@" "${host[@]}"
 }
@@ -47,7 +47,7 @@ part_proved_host() {
     wait "$!" 2> /dev/null
 }
 
-# examples/host.c without an address of IPv4, and of IPv6
+# programs/host.c without an address of IPv4, and of IPv6
 part_with_one_version() {
     local start=(start_and_wait "$programs/host.out" "$programs/host" tap0 "$hardware")
     adds_tap tap0 && "${start[@]}" 0.0.0.0 fd77::2 && tests/kernel/segments.py without 4 tap0 && ends_well 'without IPv4' &&
@@ -98,7 +98,7 @@ part_deleted() {
     return 1
 }
 
-# examples/http.c over a path that loses segments, with slow, right and wrong requests
+# programs/http.c over a path that loses segments, with slow, right and wrong requests
 part_web() {
     head -c 1000000 /dev/urandom > "$programs/file" && ip tuntap add tap2 mode tap && ip link set tap2 up &&
         ip tuntap add web mode tap && ip link set web up && ip address add 10.74.0.1/24 dev web &&

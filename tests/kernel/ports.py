@@ -1,5 +1,5 @@
 #!/usr/bin/env python3
-"""The ports of examples/nat.c, on TAP devices: those that two inside addresses want, and those that are forwarded.
+"""The ports of programs/nat.c, on TAP devices: those that two inside addresses want, and those that are forwarded.
 
 tests/kernel/ports.py NAT CLOCK    a clock to be preloaded, which goes slowly, so that no mapping ends
 """

@@ -1,5 +1,5 @@
 #!/usr/bin/env python3
-"""The kernel's side of tests/kernel, for examples/router.c.
+"""The kernel's side of tests/kernel, for programs/router.c.
 
 tests/kernel/router.py taps PROGRAM CLOCK  exchanges packets through a router on TAP devices, and compares all frames
 tests/kernel/router.py sockets PROGRAM     through a router on packet sockets, with the offloads of the kernel

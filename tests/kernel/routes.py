@@ -1,5 +1,5 @@
 #!/usr/bin/env python3
-"""The kernel's side of tests/kernel, for routes of examples/router.c that change, and packets from elsewhere.
+"""The kernel's side of tests/kernel, for routes of programs/router.c that change, and packets from elsewhere.
 
 tests/kernel/routes.py PROGRAM CLOCK
 

@@ -1,5 +1,5 @@
 #!/usr/bin/env python3
-"""TCP segments and ICMP errors to examples/host.c that are built here, and what it sends then by the RFCs.
+"""TCP segments and ICMP errors to programs/host.c that are built here, and what it sends then by the RFCs.
 
 tests/kernel/segments.py host DEVICE             exchanges them with the host on this TAP device
 tests/kernel/segments.py without VERSION DEVICE  the host has no address of this IP version, and takes no connection

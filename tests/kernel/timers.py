@@ -1,5 +1,5 @@
 #!/usr/bin/env python3
-"""The timers of examples/host.c: when it sends again, when it gives up, and which silent peer loses its place.
+"""The timers of programs/host.c: when it sends again, when it gives up, and which silent peer loses its place.
 
 tests/kernel/timers.py again DEVICE FACTOR  the host on this TAP device has a clock that goes FACTOR times as fast. Times are
                                             seconds of this clock

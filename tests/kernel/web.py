@@ -1,5 +1,5 @@
 #!/usr/bin/env python3
-"""The kernel fetches a file from examples/http.c.
+"""The kernel fetches a file from programs/http.c.
 
 tests/kernel/web.py lost DEVICE TAP FILE  the server of FILE is on the TAP device DEVICE; the kernel has addresses on TAP.
                                           This process copies frames between the two devices, but for 3 % of the TCP
@@ -71,7 +71,7 @@ def fetched(url, *options):
 
 def fetches(device, tap, name):
     if not shutil.which("curl"):
-        print("tests/kernel: skipped: examples/http.c: curl is not on the path")
+        print("tests/kernel: skipped: programs/http.c: curl is not on the path")
         return
     with open(name, "rb") as file:
         data = file.read()

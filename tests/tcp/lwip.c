@@ -1,4 +1,4 @@
-/* TCP connections between examples/sockets.h and lwIP, through a link that loses, repeats, reorders and damages
+/* TCP connections between programs/sockets.h and lwIP, through a link that loses, repeats, reorders and damages
  * segments:
  *     lwip SEED COUNT
  * Either end opens, over IPv4 or IPv6. Both write at once, in their own way, and close. The link may take only short

@@ -1,10 +1,10 @@
-/* A link in memory, in virtual time, between hosts: those with the connections of examples/sockets.h, and those of
+/* A link in memory, in virtual time, between hosts: those with the connections of programs/sockets.h, and those of
  * lwIP. Each has a number, which is its device. The program says what the link does. Clock, random numbers and writes
  * of libc are replaced. */
 #ifndef MEMORY_LINK_H
 #define MEMORY_LINK_H
 
-#include "../../examples/sockets.h"
+#include "../../programs/sockets.h"
 #include <lwip/etharp.h>
 #include <lwip/ethip6.h>
 #include <lwip/init.h>

@@ -162,7 +162,7 @@ def own_files():
     yield pathlib.Path("frames/src/hex.rs"), (OWN / "src" / "hex.rs").read_text()
     yield pathlib.Path("src/lib.rs"), root((OWN / "src" / "lib.rs").read_text())
     yield pathlib.Path("LICENSE"), (TOP / "LICENSE").read_text()
-    for path in sorted((TOP / "examples" / "native").iterdir()):
+    for path in [*sorted((TOP / "examples" / "native").iterdir()), TOP / "bench" / "speed.rs"]:
         yield pathlib.Path("examples") / path.name, path.read_text()
     for path in (TOP / "tests" / "native").glob("*.rs"):
         yield pathlib.Path("tests") / path.name, path.read_text()

@@ -29,7 +29,7 @@ def c_pages(top):
     page_of = {name: name if name in bodies else re.sub(r"\.so man3/(\w+)\.3\n", r"\1", text)
                for name, text in texts.items()}
     found = {f"c/{name}.html": page(name, linked(body, page_of), "../") for name, body in bodies.items()}
-    with open(os.path.join(top, "c/ip_wire.h"), encoding="utf-8") as file:
+    with open(os.path.join(top, "include/ip_wire.h"), encoding="utf-8") as file:
         constants = constants_of(file.read(), texts)
     found["c/index.html"] = index(texts["ip_wire"], page_of, constants)
     return found

@@ -18,7 +18,7 @@ from ip_wire import Problem, Reason, Rejection, Side, Tcp, TcpFlag, TcpOptions, 
 from ip_wire import _c as c
 
 TOP = os.path.join(os.path.dirname(os.path.abspath(__file__)), "..", "..", "..")
-HEADERS = [os.path.join(TOP, folder, "ip_wire.h") for folder in ("c", "include")]
+HEADERS = [os.path.join(TOP, "include", "ip_wire.h")]
 HEADER = os.environ.get("IP_WIRE_HEADER") or next(filter(os.path.exists, HEADERS), HEADERS[0])
 
 

@@ -1585,7 +1585,7 @@ struct lk_mapping {
  *   row are taken, it gets one of a later row. Later endpoints that hash to this port search as many rows: `reach` of
  *   the mapping there is their number. It shrinks only by lk_shrink_reach. If no port is free, the call reads all
  *   mappings of the protocol.
- * - One inside host can take every port. A program limits the mappings of each host, as `nat -m` of examples/ does.
+ * - One inside host can take every port. A program limits the mappings of each host, as `nat -m` of programs/ does.
  * - A mapping is live until its time-out has passed since the last packet of its inside endpoint. Packets that come in
  *   do not keep it alive (REQ-6).
  * - A TCP mapping has `tcp_transitory_timeout` after its inside endpoint sent SYN, FIN or RST, and `tcp_timeout` after
