@@ -1,4 +1,4 @@
-//! The packet layer for programs in other languages. `c/ip_wire.h` declares these functions for C.
+//! The packet layer for programs in other languages. `include/ip_wire.h` declares these functions for C.
 #![tactic(auto)]
 
 pub mod addresses;

@@ -1,4 +1,4 @@
-//! ICMP in the structs of `c/ip_wire.h`: messages that are written, neighbour discovery, multicast
+//! ICMP in the structs of `include/ip_wire.h`: messages that are written, neighbour discovery, multicast
 //! listener discovery, and ICMP errors. `c_exports` exports it to C.
 #![tactic(auto)]
 

@@ -1,4 +1,4 @@
-//! The structs of `c/ip_wire.h` for neighbour discovery, ICMP errors and host answers.
+//! The structs of `include/ip_wire.h` for neighbour discovery, ICMP errors and host answers.
 
 use c_structs::Addr;
 

@@ -1,4 +1,4 @@
--- The numbers of `enum lk_rejection` in `c/ip_wire.h`.
+-- The numbers of `enum lk_rejection` in `include/ip_wire.h`.
 -- Pinned by: `worked/route`, `worked/nat`
 use Rattle.std.specs.Prelude.{ℕ, None, Option, Some}
 use Rattle.c_routing.specs.declared.rejections.Rejection.{Rejection}

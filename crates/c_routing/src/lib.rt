@@ -1,4 +1,4 @@
-//! The steps of a router and of NAT on frames, and edits of single fields, as the calls of `c/ip_wire.h` make them. `c_exports` exports them to C.
+//! The steps of a router and of NAT on frames, and edits of single fields, as the calls of `include/ip_wire.h` make them. `c_exports` exports them to C.
 #![tactic(auto)]
 
 mod clamping;

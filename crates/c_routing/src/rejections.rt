@@ -1,4 +1,4 @@
-//! Why a frame is rejected, as the numbers of `c/ip_wire.h`.
+//! Why a frame is rejected, as the numbers of `include/ip_wire.h`.
 
 ghost use Rattle.std.specs.Prelude.{◌≡◌, pos};
 ghost use Rattle.c_routing.specs.Rejections.{of_header, of_nat, of_source, rejection_code};

@@ -1,4 +1,4 @@
-//! TCP connections, as the calls of `c/ip_wire.h` make them. `c_exports` exports them to C.
+//! TCP connections, as the calls of `include/ip_wire.h` make them. `c_exports` exports them to C.
 #![tactic(auto)]
 
 mod application;

@@ -1,4 +1,4 @@
--- The numbers of the enums of `c/ip_wire.h`.
+-- The numbers of the enums of `include/ip_wire.h`.
 -- Pinned by: `worked/read`
 use Rattle.std.specs.Prelude.{ℕ}
 use Rattle.c_structs.specs.declared.codes.NetworkKind.{NetworkKind}

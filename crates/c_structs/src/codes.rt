@@ -1,4 +1,4 @@
-//! The enums of `c/ip_wire.h`, whose numbers are stored in bytes.
+//! The enums of `include/ip_wire.h`, whose numbers are stored in bytes.
 
 ghost use Rattle.std.specs.Prelude.{◌≡◌};
 ghost use Rattle.c_structs.specs.Codes.{network_code, reason_code, transport_code, verdict_code};

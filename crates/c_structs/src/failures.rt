@@ -6,7 +6,7 @@ ghost use Rattle.c_structs.specs.Written.{failure_code};
 
 use crate::types::{Addr, Block};
 
-/// `LK_NO_VERSION` and the others of `c/ip_wire.h`, in their order.
+/// `LK_NO_VERSION` and the others of `include/ip_wire.h`, in their order.
 #[derive(Clone, Copy)]
 pub enum Failure {
     /// An address has another version than the call can write.

@@ -1,4 +1,4 @@
-//! The structs of `c/ip_wire.h`, with their numbers and failures. `c_read` and `c_write` fill and write them.
+//! The structs of `include/ip_wire.h`, with their numbers and failures. `c_read` and `c_write` fill and write them.
 #![tactic(auto)]
 
 mod addresses;

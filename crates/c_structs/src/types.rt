@@ -1,4 +1,4 @@
-//! The structs of `c/ip_wire.h`.
+//! The structs of `include/ip_wire.h`.
 
 use ip_wire::SACK_BLOCKS;
 

@@ -1,4 +1,4 @@
-//! What writes and rebuilds frames from the structs of `c/ip_wire.h`, and why it cannot. `c_exports` exports
+//! What writes and rebuilds frames from the structs of `include/ip_wire.h`, and why it cannot. `c_exports` exports
 //! it to C.
 #![tactic(auto)]
 
