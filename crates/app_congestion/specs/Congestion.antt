@@ -1,7 +1,8 @@
 -- The congestion window (RFC 5681) with NewReno (RFC 6582) and limited transmit (RFC 3042): what each event makes of it, in
 -- bytes.
 -- Pinned by: `congestion/windows`
-use Rattle.std.specs.Prelude.{ℕ, ◌+◌, ◌-◌, ◌*◌, ◌/◌, ◌%◌, ◌==◌, ◌&&◌, Bool, true, false, not, nat_lt, if◌then◌else◌, min, max}
+use Rattle.std.specs.Prelude.{ℕ, ◌+◌, ◌-◌, ◌*◌, ◌/◌, ◌==◌, ◌&&◌, Bool, true, false, nat_lt, if◌then◌else◌, min, max}
+use Rattle.tcp_model.specs.Endpoint.{is_earlier}
 use Rattle.app_congestion.specs.declared.congestion.Congestion.{Congestion}
 use Rattle.app_congestion.specs.declared.phase.Phase.{Phase}
 use Rattle.app_congestion.specs.declared.phase.Phase.TheVariants.{Open, Recovery, Recovered}
@@ -34,10 +35,6 @@ initial_window mss = min (10 * mss) (max (2 * mss) 14600)
 -- a sender that begins (RFC 5681, section 3.1)
 abbrev pub begins : ℕ → Sender
 begins mss = record { mss = mss; cwnd = initial_window mss; ssthresh = 1073741824; acked = 0; duplicates = 0; first_flight = 0; phase = Open; is_resent = false }
-
--- whether a is before b (RFC 9293, section 3.4)
-abbrev pub is_earlier : ℕ → ℕ → Bool
-is_earlier a b = not (a == b) && nat_lt ((b + (4294967296 - a)) % 4294967296) 2147483648
 
 -- ssthresh after a loss (RFC 5681, section 3.1, equation 4)
 abbrev pub halved : Sender → ℕ → ℕ

@@ -1,10 +1,9 @@
 //! What is known of losses, and the numbers of it.
 
 ghost use Rattle.std.specs.Prelude.{◌≡◌, ◌≤◌};
-ghost use Rattle.app_congestion.specs.Congestion.{initial_window, is_earlier, outside_of};
+ghost use Rattle.app_congestion.specs.Congestion.{initial_window, outside_of};
 
-// Half of the sequence numbers.
-const HALF: u32 = 1 << 31;
+use app_tcp::is_before;
 
 /// What is known of losses. The number is `recover` of RFC 6582, as a next number: one more than there.
 #[derive(Debug, Clone, Copy, PartialEq, Eq)]
@@ -34,11 +33,4 @@ pub(crate) fn outside(recover: u32, una: u32) -> Phase
     } else {
         Phase::Recovered(recover)
     }
-}
-
-// Whether `a` is before `b` (RFC 9293, section 3.4).
-pub(crate) fn is_before(a: u32, b: u32) -> bool
-    ensures { result ≡ is_earlier a b }
-{
-    a != b && b.wrapping_sub(a) < HALF
 }

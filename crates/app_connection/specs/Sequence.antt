@@ -1,7 +1,7 @@
 -- Windows of sequence numbers (RFC 9293, sections 3.4 and 3.10.7.4).
 -- Pinned by: `connection/figures`
 use Rattle.std.specs.Prelude.{ℕ, ◌+◌, ◌-◌, ◌%◌, ◌==◌, ◌&&◌, ◌||◌, Bool, false, not, nat_lt, if◌then◌else◌}
-use Rattle.tcp_model.specs.Endpoint.{distance}
+use Rattle.tcp_model.specs.Endpoint.{distance, is_earlier}
 
 -- the next sequence number
 abbrev pub after : ℕ → ℕ
@@ -24,10 +24,6 @@ is_acceptable_at next window number len =
 abbrev pub is_taken_at : ℕ → ℕ → ℕ → ℕ → Bool
 is_taken_at next window number len =
     if len == 0 then nat_lt (distance number next) (window + 2) else is_acceptable_at next window number len
-
--- whether a is before b: a < b of section 3.4
-abbrev pub is_earlier : ℕ → ℕ → Bool
-is_earlier a b = not (a == b) && nat_lt (distance b a) 2147483648
 
 -- whether SND.UNA =< ack =< SND.NXT
 abbrev pub is_of_sent : ℕ → ℕ → ℕ → Bool

@@ -1,10 +1,7 @@
 //! Tests of sequence numbers (RFC 9293, sections 3.4 and 3.10.7.4).
 
 ghost use Rattle.std.specs.Prelude.{◌≡◌, ◌<◌};
-ghost use Rattle.app_connection.specs.Sequence.{is_inside, is_acceptable_at, is_taken_at, is_earlier};
-
-// Half of the sequence numbers.
-const HALF: u32 = 1 << 31;
+ghost use Rattle.app_connection.specs.Sequence.{is_inside, is_acceptable_at, is_taken_at};
 
 /// Whether a number is in a window that begins at `next`.
 pub(crate) fn is_in_window(next: u32, window: u32, number: u32) -> bool
@@ -38,11 +35,4 @@ pub(crate) fn is_taken(next: u32, window: u32, number: u32, len: u32) -> bool
         return is_in_window(next, window + 2, number);
     }
     is_acceptable(next, window, number, len)
-}
-
-/// Whether `a` is before `b`: less than 2^31 numbers.
-pub(crate) fn is_before(a: u32, b: u32) -> bool
-    ensures { result ≡ is_earlier a b }
-{
-    a != b && b.wrapping_sub(a) < HALF
 }

@@ -3,7 +3,7 @@ use Rattle.std.proofs.Common.{◌≡◌, ◌⊎◌, inl, inr, refl, sym, ◌∙�
 use Rattle.std.specs.Prelude.{Option, is_some, ◌==◌, ◌||◌}
 use Rattle.std.proofs.lemmas.Bool.{cases_lt, cond-true, cond-false}
 use Rattle.std.proofs.lemmas.Bool.Decides.{nat_tests}
-use Rattle.tcp_model.specs.Endpoint.{Item, Receiver, accepted, distance, fresh, received}
+use Rattle.tcp_model.specs.Endpoint.{Item, Receiver, accepted, distance, fresh, is_earlier, received}
 use Rattle.tcp_model.specs.Network.{World, Event, Segment_comes, happens, is_ended, number_at, run, stream}
 use Rattle.tcp_model.proofs.Kept.{Good, fresh_from}
 use Rattle.tcp_model.proofs.Numbers.{number_more}
@@ -22,7 +22,7 @@ use Rattle.app_connection.specs.declared.step.Event.TheVariants as event
 use Rattle.app_connection.specs.Endpoints.{OutFits, is_of_unsent, len_of, next_of}
 use Rattle.app_connection.specs.Promises.{GetsTextOf}
 use Rattle.app_connection.specs.Runs.{End, IsFrom}
-use Rattle.app_connection.specs.Sequence.{is_earlier, is_taken_at}
+use Rattle.app_connection.specs.Sequence.{is_taken_at}
 use Rattle.app_connection.specs.Steps.{Steps}
 use Rattle.app_connection.specs.Worlds.{Goes, OfReceiver, Said, Stand, said}
 use Rattle.app_connection.proofs.Arrived.{all_acked}

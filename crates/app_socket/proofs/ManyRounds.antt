@@ -4,7 +4,7 @@ use Rattle.std.specs.Prelude.{Option, Some, None, IfSome, MatchOption, is_some, 
 use Rattle.std.proofs.lemmas.Bool.{cases_lt, cond-true, cond-false}
 use Rattle.std.proofs.lemmas.Bool.Decides.{nat_tests}
 use Rattle.std.proofs.lemmas.List.{at_drop_more, length-map, length-take-le}
-use Rattle.tcp_model.specs.Endpoint.{Byte, distance, newly}
+use Rattle.tcp_model.specs.Endpoint.{Byte, distance, is_earlier, newly}
 use Rattle.tcp_model.specs.Network.{World, Send, Ack_comes, end_of, happens, is_alive, number_at, run, sends, stream}
 use Rattle.tcp_model.proofs.Numbers.{distance_after, number_more}
 use Rattle.app_tcp.specs.Items.{syn_of}
@@ -24,7 +24,7 @@ use Rattle.app_connection.specs.declared.state.State.{State}
 use Rattle.app_connection.specs.declared.state.State.TheVariants as state
 use Rattle.app_connection.specs.declared.step.Event.TheVariants as move
 use Rattle.app_connection.specs.Endpoints.{OutFits, endpoint_of, is_of_unsent, len_of, next_of}
-use Rattle.app_connection.specs.Sequence.{is_earlier, is_of_sent}
+use Rattle.app_connection.specs.Sequence.{is_of_sent}
 use Rattle.app_connection.specs.States.{has_peer, state_at, state_from, state_in}
 use Rattle.app_connection.specs.Steps.{Steps}
 use Rattle.app_connection.specs.Worlds.{Brings, HearsAck, Said, Stand, said}

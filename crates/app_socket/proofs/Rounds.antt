@@ -4,7 +4,7 @@ use Rattle.std.specs.Prelude.{Option, Some, None, IfSome, ◌==◌, ◌&&◌, no
 use Rattle.std.proofs.lemmas.Bool.{cond-true, cases_lt}
 use Rattle.std.proofs.lemmas.Bool.Decides.{nat_tests}
 use Rattle.std.proofs.lemmas.List.{length-map}
-use Rattle.tcp_model.specs.Endpoint.{Item, Byte, Fin, distance}
+use Rattle.tcp_model.specs.Endpoint.{Item, Byte, Fin, distance, is_earlier}
 use Rattle.tcp_model.specs.Network.{Ack, World, Event, Send, Segment_comes, Answer, end_of, happens, number_at, run, start, stream}
 use Rattle.tcp_model.proofs.Kept.{Good, good_start, run_good}
 use Rattle.tcp_model.proofs.Numbers.{distance_after, distance_before, number_more}
@@ -17,7 +17,7 @@ use Rattle.app_tcp.proofs.Rounds.{answer_acked, answer_sender, pending_some, seg
 use Rattle.app_connection.specs.declared.connection.Connection.{Connection}
 use Rattle.app_connection.specs.declared.segment.Segment.{Segment}
 use Rattle.app_connection.specs.Endpoints.{is_of_unsent, next_of, one}
-use Rattle.app_connection.specs.Sequence.{is_earlier, is_of_sent, is_taken_at}
+use Rattle.app_connection.specs.Sequence.{is_of_sent, is_taken_at}
 use Rattle.app_connection.specs.Worlds.{HearsAck}
 use Rattle.app_connection.proofs.Going.{ack_of}
 use Rattle.app_socket.specs.Resends.{ComesAcross, GoesRound, SendsFirst}

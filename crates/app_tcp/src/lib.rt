@@ -3,11 +3,13 @@
 #![tactic(auto)]
 
 pub mod laws;
+mod order;
 mod ranges;
 mod receiving;
 mod ring;
 mod sending;
 
+pub use order::is_before;
 pub use ranges::Blocks;
 pub use receiving::Receiving;
 pub use sending::{Segment, Sending};

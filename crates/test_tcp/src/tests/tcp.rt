@@ -1,3 +1,4 @@
 //! Tests of both halves together.
 
+mod order;
 mod stream;

@@ -1,0 +1,15 @@
+//! The order of sequence numbers (RFC 9293, section 3.4).
+
+ghost use Rattle.std.specs.Prelude.{◌≡◌};
+ghost use Rattle.tcp_model.specs.Endpoint.{is_earlier};
+
+// Half of the sequence numbers.
+const HALF: u32 = 1 << 31;
+
+/// Whether `a` is before `b`, by less than 2^31 numbers. A timestamp is before another one in the same way (RFC 7323, section
+/// 5.2).
+pub fn is_before(a: u32, b: u32) -> bool
+    ensures { result ≡ is_earlier a b }
+{
+    a != b && b.wrapping_sub(a) < HALF
+}
