@@ -1,27 +1,20 @@
 -- Timestamps, and protection against wrapped sequence numbers (PAWS; RFC 7323, sections 3 to 5), in milliseconds.
 -- Pinned by: `options/timestamps`
-use Rattle.std.specs.Prelude.{ℕ, ◌+◌, ◌-◌, ◌%◌, Bool, true, false, not, ◌&&◌, nat_lt, if◌then◌else◌, Option, Some, None}
+use Rattle.std.specs.Prelude.{ℕ, ◌+◌, ◌%◌, Bool, true, false, not, ◌&&◌, nat_lt, if◌then◌else◌, Option, Some, None}
+use Rattle.tcp_model.specs.Endpoint.{distance, is_ahead, is_earlier}
 use Rattle.app_options.specs.declared.timestamps.Recent.{Recent}
 
 -- the timestamp clock at a time (section 5.4)
 abbrev pub stamp : ℕ → ℕ → ℕ
 stamp offset now = (offset + now) % 4294967296
 
--- the way forward from a timestamp s to t, in unsigned 32-bit arithmetic
-abbrev pub ahead : ℕ → ℕ → ℕ
-ahead t s = (t + (4294967296 - s)) % 4294967296
-
--- s < t: 0 < (t - s) < 2^31 (section 5.2)
-abbrev pub is_before : ℕ → ℕ → Bool
-is_before s t = nat_lt 0 (ahead t s) && nat_lt (ahead t s) 2147483648
-
 -- TS.Recent is older than 24 days, so it is not used (section 5.5)
 abbrev pub is_outdated : Recent → ℕ → Bool
 is_outdated recent now = nat_lt (recent.heard_at + 2073600000) now
 
--- a timestamp shows an old duplicate (section 5.3, the first rule)
+-- A timestamp shows an old duplicate (section 5.3, the first rule). Timestamps have the order of sequence numbers (section 5.2).
 abbrev pub is_old : Recent → ℕ → ℕ → Bool
-is_old recent tsval now = not (is_outdated recent now) && is_before tsval recent.value
+is_old recent tsval now = not (is_outdated recent now) && is_earlier tsval recent.value
 
 -- Whether a segment without RST is taken, by TS.Recent and its own timestamp. If timestamps are agreed on, each segment has one
 -- (section 3.2).
@@ -48,7 +41,7 @@ echoes (Some recent) offset now = Some (stamp offset now, recent.value)
 
 -- the time since the clock showed a timestamp, if it is not ahead of the clock
 abbrev pub since : ℕ → ℕ → ℕ → Option ℕ
-since offset stamped now = if nat_lt (ahead (stamp offset now) stamped) 2147483648 then Some (ahead (stamp offset now) stamped) else None
+since offset stamped now = if is_ahead stamped (stamp offset now) then Some (distance (stamp offset now) stamped) else None
 
 -- the round trip that the TSecr of a segment tells, if timestamps are agreed on (section 4.1)
 abbrev pub round_trip : Option Recent → ℕ → Option (ℕ × ℕ) → ℕ → Option ℕ

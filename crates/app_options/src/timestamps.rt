@@ -3,11 +3,10 @@
 ghost use Rattle.std.specs.Prelude.{◌≡◌};
 ghost use Rattle.app_options.specs.Timestamps.{is_old, since, stamp};
 
+use app_tcp::{is_ahead, is_before};
+
 // How many timestamps there are.
 const CLOCK: u64 = 1 << 32;
-
-// Half of them.
-const HALF: u32 = 1 << 31;
 
 // How long TS.Recent is valid, in milliseconds: 24 days (section 5.5).
 const VALID: u64 = 24 * 24 * 3600 * 1000;
@@ -26,7 +25,7 @@ impl Recent {
         ensures { result ≡ is_old self.now tsval now }
     {
         let is_valid = now <= self.heard_at.saturating_add(VALID);
-        is_valid && tsval != self.value && self.value.wrapping_sub(tsval) < HALF
+        is_valid && is_before(tsval, self.value)
     }
 }
 
@@ -41,6 +40,10 @@ pub(crate) fn stamp(offset: u32, now: u64) -> u32
 pub(crate) fn since(offset: u32, stamped: u32, now: u64) -> Option<u32>
     ensures { result ≡ since offset stamped now }
 {
-    let elapsed = stamp(offset, now).wrapping_sub(stamped);
-    if elapsed < HALF { Some(elapsed) } else { None }
+    let clock = stamp(offset, now);
+    if is_ahead(stamped, clock) {
+        Some(clock.wrapping_sub(stamped))
+    } else {
+        None
+    }
 }

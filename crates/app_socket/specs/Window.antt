@@ -1,7 +1,7 @@
 -- The window that is advertised (RFC 9293, section 3.8.6).
 -- Pinned by: `socket/scenarios`
 use Rattle.std.specs.Prelude.{ℕ, ◌≡◌, ◌+◌, ◌-◌, ◌*◌, ◌/◌, ◌%◌, ◌^◌, ◌≤◌, ◌&&◌, ◌||◌, Bool, true, min, max, not, nat_lt, if◌then◌else◌}
-use Rattle.tcp_model.specs.Endpoint.{distance}
+use Rattle.tcp_model.specs.Endpoint.{distance, is_ahead}
 use Rattle.app_tcp.specs.Stands.{room_of}
 use Rattle.app_tcp.specs.declared.receiving.Receiving.{Receiving}
 use Rattle.app_connection.specs.Endpoints.{edge_of, len_of}
@@ -22,10 +22,6 @@ is_kept edge next room least = not (nat_lt room (promised edge next)) && nat_lt 
 -- the window to advertise
 abbrev pub advertised : ℕ → ℕ → ℕ → ℕ → ℕ
 advertised edge next room least = if is_kept edge next room least then promised edge next else room
-
--- whether a right edge is that one or after it
-abbrev pub is_ahead : ℕ → ℕ → Bool
-is_ahead edge target = nat_lt (distance target edge) 2147483648
 
 -- the right edge after another one was told
 abbrev pub moved : ℕ → ℕ → ℕ

@@ -16,10 +16,8 @@ use crate::socket::Socket;
 use crate::tick::is_open;
 use app_connection::{Segment, State};
 use app_options::{Agreed, peer_mss};
+use app_tcp::is_ahead;
 use wire_tcp_options::TcpOptionSummary;
-
-// Half of the sequence numbers.
-const HALF: u32 = 1 << 31;
 
 impl Socket {
     // Whether it may be a segment of an earlier round of the sequence numbers (PAWS; RFC 7323, section 5).
@@ -98,8 +96,8 @@ impl Socket {
             && !segment.rst
             && !segment.syn
             && is_acknowledged
-            && next.wrapping_sub(segment.number) < HALF
-            && end.wrapping_sub(next) < HALF
+            && is_ahead(segment.number, next)
+            && is_ahead(next, end)
     }
 
     // The segment with the window of the peer in bytes. That of a SYN is not scaled (RFC 7323, section 2.2).

@@ -3,8 +3,7 @@
 ghost use Rattle.std.specs.Prelude.{◌≡◌, ◌≤◌};
 ghost use Rattle.app_socket.specs.Window.{least_growth, advertised, moved, is_update_due, read_as};
 
-// Half of the sequence numbers.
-const HALF: u32 = 1 << 31;
+use app_tcp::is_ahead;
 
 // By how much the window has to grow before a larger one is advertised (section 3.8.6.2.2), with a ring of this size.
 pub(crate) fn least_growth(size: usize, mss: u16) -> u32
@@ -29,11 +28,7 @@ pub(crate) fn advertised(edge: u32, next: u32, room: u32, least: u32) -> u32
 pub(crate) fn moved(edge: u32, target: u32) -> u32
     ensures { result ≡ moved edge target }
 {
-    if target.wrapping_sub(edge) < HALF {
-        target
-    } else {
-        edge
-    }
+    if is_ahead(edge, target) { target } else { edge }
 }
 
 // A window as the peer reads it: windows are scaled by 2^shift.

@@ -9,7 +9,7 @@ mod receiving;
 mod ring;
 mod sending;
 
-pub use order::is_before;
+pub use order::{is_ahead, is_before};
 pub use ranges::Blocks;
 pub use receiving::Receiving;
 pub use sending::{Segment, Sending};

@@ -1,7 +1,7 @@
 //! The order of sequence numbers (RFC 9293, section 3.4).
 
 ghost use Rattle.std.specs.Prelude.{◌≡◌};
-ghost use Rattle.tcp_model.specs.Endpoint.{is_earlier};
+ghost use Rattle.tcp_model.specs.Endpoint.{is_ahead, is_earlier};
 
 // Half of the sequence numbers.
 const HALF: u32 = 1 << 31;
@@ -12,4 +12,11 @@ pub fn is_before(a: u32, b: u32) -> bool
     ensures { result ≡ is_earlier a b }
 {
     a != b && b.wrapping_sub(a) < HALF
+}
+
+/// Whether `target` is `edge` or after it, by less than 2^31 numbers.
+pub fn is_ahead(edge: u32, target: u32) -> bool
+    ensures { result ≡ is_ahead edge target }
+{
+    target.wrapping_sub(edge) < HALF
 }

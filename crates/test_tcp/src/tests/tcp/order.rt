@@ -1,6 +1,6 @@
 //! The order of sequence numbers, by the examples of RFC 1982.
 
-use app_tcp::is_before;
+use app_tcp::{is_ahead, is_before};
 
 // The second number of each row is before the first one, in 8 bits (section 5.2). Shifted by 24 bits they are examples in 32 bits.
 const LATER: [(u32, u32); 10] = [
@@ -23,6 +23,11 @@ fn serial_numbers(rt: HostRuntime) {
         assert!(rt; is_before(earlier, later), "{earlier} {later}");
         assert!(rt; !is_before(later, earlier), "{later} {earlier}");
         assert!(rt; !is_before(later, later), "{later}");
+        assert!(rt;
+            is_ahead(earlier, later) && is_ahead(later, later),
+            "{earlier} {later}"
+        );
+        assert!(rt; !is_ahead(later, earlier), "{later} {earlier}");
     }
 }
 
@@ -39,5 +44,6 @@ fn half_apart(rt: HostRuntime) {
     ];
     for (a, b, is_earlier) in rows {
         assert_eq!(rt; is_before(a, b), is_earlier, "{a} {b}");
+        assert_eq!(rt; is_ahead(a, b), is_earlier, "{a} {b}");
     }
 }

@@ -1,7 +1,8 @@
 use Rattle.std.proofs.Common.{◌≡◌, refl, ◌∙◌, ap, ℕ, Bool, true, false}
 use Rattle.std.specs.Prelude.{Option, Some, not, ◌&&◌}
+use Rattle.tcp_model.specs.Endpoint.{is_earlier}
 use Rattle.app_options.specs.declared.timestamps.Recent.{Recent}
-use Rattle.app_options.specs.Timestamps.{is_before, is_outdated, takes, updated}
+use Rattle.app_options.specs.Timestamps.{is_outdated, takes, updated}
 use Rattle.app_socket.proofs.laws.schedules.rounds_of_two_sockets_may_take_so_long.Goals as goal
 
 not_old : (b : Bool) → not (not b && false) ≡ true
@@ -9,13 +10,13 @@ not_old true = refl
 not_old false = refl
 
 -- a timestamp that is not before TS.Recent is taken, at any time
-takes_later : (recent : Recent) (o : Option (ℕ × ℕ)) (value echo now : ℕ) → o ≡ Some (value, echo) → is_before value recent.value ≡ false → takes (Some recent) o now ≡ true
+takes_later : (recent : Recent) (o : Option (ℕ × ℕ)) (value echo now : ℕ) → o ≡ Some (value, echo) → is_earlier value recent.value ≡ false → takes (Some recent) o now ≡ true
 takes_later recent o value echo now is later =
     ap (λ (x : Option (ℕ × ℕ)). takes (Some recent) x now) is ∙ ap (λ (b : Bool). not (not (is_outdated recent now) && b)) later ∙ not_old (is_outdated recent now)
 
 -- also after the one before it was taken, or was not
 takes_both : (recent : Recent) (o p : Option (ℕ × ℕ)) (value echo value2 echo2 now now2 : ℕ) → o ≡ Some (value, echo) → p ≡ Some (value2, echo2)
-    → is_before value recent.value ≡ false → is_before value2 recent.value ≡ false → is_before value2 value ≡ false
+    → is_earlier value recent.value ≡ false → is_earlier value2 recent.value ≡ false → is_earlier value2 value ≡ false
     → (takes (Some recent) o now ≡ true) × ((takes (Some recent) p now2 ≡ true) × (takes (updated (Some recent) o now) p now2 ≡ true))
 takes_both recent o p value echo value2 echo2 now now2 is is2 first second third =
     let next : Recent = record { value = value; heard_at = now } in

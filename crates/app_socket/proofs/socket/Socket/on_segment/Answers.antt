@@ -8,7 +8,7 @@ use Rattle.app_connection.specs.Endpoints.{acknowledgement_of, answers_bare, edg
 use Rattle.app_connection.specs.Events.{GetsBy}
 use Rattle.app_connection.specs.declared.step.Event.{Event as Move}
 use Rattle.app_connection.specs.declared.step.Event.TheVariants as move
-use Rattle.tcp_model.specs.Endpoint.{distance}
+use Rattle.tcp_model.specs.Endpoint.{distance, is_ahead}
 use Rattle.app_congestion.specs.Congestion.{is_partial, is_past}
 use Rattle.app_connection.specs.Worlds.{HearsAck}
 use Rattle.app_connection.specs.Sequence.{is_of_sent}
@@ -18,7 +18,6 @@ use Rattle.app_socket.specs.Undo.{Undoes}
 use Rattle.app_socket.specs.Resends.{IsArmed, IsDuplicate, IsSound, newly_in, restarted_at}
 use Rattle.app_socket.specs.Replies.{IsAcknowledgement}
 use Rattle.app_socket.specs.Times.{is_open, later}
-use Rattle.app_socket.specs.Window.{is_ahead}
 use Rattle.app_socket.proofs.Opened.{answers_as, answers_exactly, is_said, is_spoken, open_not_shut, open_phase}
 use Rattle.app_connection.specs.Worlds.{said}
 use Rattle.app_socket.proofs.Stepping.{steps_result, steps_to}
