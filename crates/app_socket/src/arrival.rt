@@ -1,6 +1,6 @@
 //! A segment arrives.
 
-ghost use Rattle.std.specs.Prelude.{false, ◌≤◌, None, max, ◌≡◌, ◌<◌, ℕ, List, is_some, length, true, IfSome, if◌then◌else◌, option_map, ◌+◌, ◌-◌, ◌%◌, ◌&&◌, not, nat_le, min, Option, Some};
+ghost use Rattle.std.specs.Prelude.{false, ◌≤◌, None, max, ◌≡◌, ◌<◌, ℕ, List, is_some, length, true, IfSome, if◌then◌else◌, option_map, ◌+◌, ◌-◌, ◌%◌, min, Option, Some};
 ghost use Rattle.tcp_model.specs.Network.{World};
 ghost use Rattle.app_tcp.specs.Stands.{Stands, room_of};
 ghost use Rattle.app_connection.specs.Endpoints.{OutFits, InFits, acknowledgement_of, answers_bare, endpoint_of, has_items, is_bare, len_of, spoken};
@@ -19,6 +19,7 @@ ghost use Rattle.app_connection.specs.Promises.{HasNoText, IsAnswerOf};
 ghost use Rattle.app_socket.specs.Promises.{AcknowledgesReceived, AcksSoon, AdvertisesWindow, ChangesOnlyAck, IsOpen, IsPatient, KeepsRecent, KeepsRoom, OwesNoAck, RemembersFlight, StepsBy, WhileOpen};
 ghost use Rattle.app_socket.specs.Replies.{IsAcknowledgement};
 
+use crate::before::Before;
 use crate::socket::Socket;
 use crate::tick::is_open;
 use app_connection::{Event as Move, Segment, State};
@@ -26,53 +27,6 @@ use wire_tcp_options::TcpOptionSummary;
 
 // How many segments one acknowledgement counts for at most: receivers hold back no more than that.
 const MAX_SEGMENTS: u32 = 64;
-
-// What a connection was before the segment.
-#[derive(Debug, Clone, Copy)]
-pub(crate) struct Before {
-    state: State,
-    una: u32,
-    flight: u32,
-    window: u32,
-    // RCV.NXT and RCV.WND
-    next: u32,
-    room: u32,
-    // Whether something was kept after a gap.
-    has_gap: bool,
-}
-
-impl Before {
-    // Whether the segment is near what is expected.
-    fn is_near(&self, segment: &Segment) -> bool
-        ensures { result ≡ (not segment.now.rst && nat_le (distance segment.now.number self.now.next)
-            (min 4294967295 (self.now.room + 1))) }
-    {
-        !segment.rst && segment.number.wrapping_sub(self.next) <= self.room.saturating_add(1)
-    }
-
-    // Whether it is taken with its SACK option.
-    fn has_sack(&self, segment: &Segment, options: &TcpOptionSummary) -> bool {
-        self.is_near(segment)
-            && !segment.syn
-            && segment.ack.is_some()
-            && options.sack_ranges[0].is_some()
-    }
-
-    // Whether it is a duplicate acknowledgement (RFC 5681, section 2), or has a SACK block, also with text (RFC 6675, section 2).
-    // One with a closed window answers a probe.
-    fn is_duplicate(&self, segment: &Segment, has_sack: bool) -> bool
-        ensures { IsDuplicate self.now.una self.now.flight self.now.window self.now.next self.now.room segment.now
-            → result ≡ true }
-    {
-        let is_bare = segment.payload.is_empty() && !segment.fin && segment.window == self.window;
-        self.flight > 0
-            && self.window > 0
-            && self.is_near(segment)
-            && !segment.syn
-            && segment.ack == Some(self.una)
-            && (is_bare || has_sack)
-    }
-}
 
 impl Socket {
     // Takes a segment with its options, unless its timestamp is too old.
@@ -195,26 +149,6 @@ impl Socket {
                 self.learn(&before, now, segment, options);
                 self.answer(&before, incoming.len(), now, segment, reply)
             }
-        }
-    }
-
-    fn before(&self, incoming: usize) -> Before
-        requires { InFits self.now.connection.receiving incoming }
-        ensures state { result.state ≡ state_from self.now.connection }
-        ensures next { self.now.connection.receiving.is_open ≡ true → result.next ≡ self.now.connection.receiving.next }
-        ensures una { result.una ≡ self.now.connection.sending.una }
-        ensures flight { result.flight ≡ self.now.connection.sending.flight }
-        ensures window { result.window ≡ self.now.connection.wnd }
-        ensures room { result.room ≡ room_of self.now.connection.receiving incoming }
-    {
-        Before {
-            state: self.connection.state(),
-            una: self.connection.una(),
-            flight: self.connection.flight(),
-            window: self.connection.window(),
-            next: self.next(),
-            room: self.connection.room(incoming),
-            has_gap: self.connection.has_gap(),
         }
     }
 

@@ -4,6 +4,7 @@
 #![tactic(auto)]
 
 mod arrival;
+mod before;
 mod calls;
 mod fields;
 mod flow;
