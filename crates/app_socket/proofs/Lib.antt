@@ -13,3 +13,4 @@ pub mod Answering
 pub mod Sending
 pub mod Exchanging
 pub mod Lost
+pub mod Telling

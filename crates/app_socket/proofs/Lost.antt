@@ -147,10 +147,10 @@ pub armed_anew : (o : Option ℕ) (now : ℕ) → IsArmed None o now → MatchOp
 armed_anew None now armed = armed
 armed_anew (Some t) now armed = elim armed [ inl is ↦ absurd (cc) | inr le ↦ le ]
 
--- a segment goes, and this is its acknowledgement
-pub goes_with : (o : Option Segment) (ack mid : Option ℕ) → is_some o ≡ true → IfSome o (λ s. s.ack ≡ mid) → mid ≡ ack → MatchOption o ⊥ (λ s. s.ack ≡ ack)
-goes_with None ack mid some acks same = absurd (cc)
-goes_with (Some s) ack mid some acks same = acks ∙ same
+-- a segment goes, and these are its acknowledgement and its window
+pub goes_with : (o : Option Segment) (ack mid : Option ℕ) (room : ℕ) → is_some o ≡ true → IfSome o (λ s. s.ack ≡ mid) → mid ≡ ack → IfSome o (λ s. s.window ≡ room) → MatchOption o ⊥ (λ s. (s.ack ≡ ack) × (s.window ≡ room))
+goes_with None ack mid room some acks same tells = absurd (cc)
+goes_with (Some s) ack mid room some acks same tells = (acks ∙ same, tells)
 
 -- of a window that was closed all the room is news, as far as the peer reads it
 both : (a b : Bool) → a ≡ true → b ≡ true → (a && b) ≡ true

@@ -30,7 +30,7 @@ use Rattle.app_socket.specs.declared.step.Event.TheVariants as event
 use Rattle.app_socket.specs.Segments.{rejects, text_of}
 use Rattle.app_socket.specs.Times.{later, mss_of}
 use Rattle.app_socket.specs.Undo.{Undoes, is_needless, saved}
-use Rattle.app_socket.specs.Window.{is_update_due, least_growth}
+use Rattle.app_socket.specs.Window.{advertised, is_update_due, least_growth}
 
 -- whether a timer expires
 abbrev pub is_due : Option ℕ → ℕ → Bool
@@ -267,12 +267,22 @@ is_room_news s incoming =
     waits_for_bytes (state_from s.connection) && is_update_due s.edge s.connection.receiving.next
     (room_of s.connection.receiving incoming) (least_growth incoming (mss_of s.options)) (own_scale s.agreed incoming)
 
+-- the window that a socket advertises
+abbrev pub window_of : Socket → ℕ → ℕ
+window_of s incoming =
+    advertised s.edge s.connection.receiving.next (room_of s.connection.receiving incoming)
+    (least_growth incoming (mss_of s.options))
+
 -- What is acknowledged when time passes in an open connection.
 pub record Acknowledges (old : Socket) (incoming now : ℕ) (given : Option Segment) : Type 0 where
   -- A delayed acknowledgement goes at its time at the latest, also with text (RFC 9293, section 3.8.6.3).
   pub due : is_due old.timers.ack_at now ≡ true → is_some given ≡ true
   -- so does the news of a window that opened
   pub room : old.connection.receiving.is_open ≡ true → is_room_news old incoming ≡ true → is_some given ≡ true
+  -- which advertises all the room that there is.
+  pub opens :
+      old.connection.receiving.is_open ≡ true → is_room_news old incoming ≡ true
+      → IfSome given (λ s. s.window ≡ room_of old.connection.receiving incoming)
   -- Each segment acknowledges all that came.
   pub ack : IfSome given (λ s. s.ack ≡ (acknowledgement_of old.connection).ack)
   -- One without items is at SND.NXT, or one before it to probe a silent peer (RFC 9293, section 3.8.4).

@@ -11,7 +11,7 @@ ghost use Rattle.app_connection.specs.States.{has_peer, state_from};
 ghost use Rattle.app_congestion.specs.Congestion.{is_in_recovery};
 ghost use Rattle.app_congestion.specs.Scoreboard.{IsHole};
 ghost use Rattle.app_socket.specs.Pieces.{IsWithin};
-ghost use Rattle.app_socket.specs.Resends.{Acknowledges, IsArmed, IsHeld, IsSound, Resends, SendsFirst, SendsSyn, TimesOut, is_due, is_room_news, queue_of, KeepsCount, WhenDue, WhenNotDue, WhenTimeout};
+ghost use Rattle.app_socket.specs.Resends.{Acknowledges, IsArmed, IsHeld, IsSound, Resends, SendsFirst, SendsSyn, TimesOut, is_due, is_room_news, queue_of, window_of, KeepsCount, WhenDue, WhenNotDue, WhenTimeout};
 ghost use Rattle.app_socket.specs.Segments.{IsSent, text_of};
 ghost use Rattle.app_socket.specs.Times.{is_open, later};
 ghost use Rattle.app_socket.specs.Window.{HasRoom, Tells, end_after, limit_of};
@@ -411,6 +411,7 @@ impl Socket {
         ensures answers { IsAnswerOf self.old.connection.receiving result.ack }
         ensures tells { IfSome result.ack
             (λ ack. Tells self.old.edge self.new.edge self.old.connection.receiving incoming ack result.window) }
+        ensures window { IfSome result.ack (λ ack. result.window ≡ window_of self.old incoming) }
         ensures keeps { HasRoom self.old.edge self.old.connection.receiving incoming
             → HasRoom self.new.edge self.old.connection.receiving incoming }
     {
@@ -439,6 +440,7 @@ impl Socket {
         ensures answers { IsAnswerOf self.old.connection.receiving result.ack }
         ensures tells { IfSome result.ack
             (λ ack. Tells self.old.edge self.new.edge self.old.connection.receiving incoming ack result.window) }
+        ensures window { IfSome result.ack (λ ack. result.window ≡ window_of self.old incoming) }
         ensures keeps { HasRoom self.old.edge self.old.connection.receiving incoming
             → HasRoom self.new.edge self.old.connection.receiving incoming }
     {
@@ -465,6 +467,7 @@ impl Socket {
         requires rings { InFits self.old.connection.receiving incoming }
         ensures same { self.new ≡ record self.old { edge = self.new.edge } }
         ensures tells { Tells self.old.edge self.new.edge self.old.connection.receiving incoming next result }
+        ensures window { result ≡ window_of self.old incoming }
     {
         let least = least_growth(incoming, self.options.most());
         let window = advertised(self.edge, next, self.connection.room(incoming), least);

@@ -128,7 +128,7 @@ pub fn an_acknowledgement_resends<'a>(
 }
 
 /// The program reads after the window was closed. Once half of the ring or a segment is free, as the peer reads a scaled window, the
-/// next call advertises it (RFC 9293, section 3.8.6.2.2).
+/// next call advertises all of it (RFC 9293, section 3.8.6.2.2).
 pub fn a_window_that_opens_is_told<'a>(
     socket: &mut Socket,
     outgoing: &'a [u8],
@@ -145,7 +145,8 @@ pub fn a_window_that_opens_is_told<'a>(
     ensures { least_growth (length incoming.old) (mss_of socket.old.options)
         ≤ read_as (room_of socket.new.connection.receiving (length incoming.old))
         (own_scale socket.old.agreed (length incoming.old))
-        → MatchOption result ⊥ (λ s. s.ack ≡ Some socket.old.connection.receiving.next) }
+        → MatchOption result ⊥ (λ s. (s.ack ≡ Some socket.old.connection.receiving.next)
+        × (s.window ≡ room_of socket.new.connection.receiving (length incoming.old))) }
 {
     let _ = socket.read(incoming, count);
     socket.step(outgoing, incoming, now, Event::Tick)

@@ -1,5 +1,5 @@
-use Rattle.std.proofs.Common.{◌≡◌, sym, ◌∙◌, ap, ℕ, ◌<◌, true, length, arith}
-use Rattle.std.specs.Prelude.{Some, ◌&&◌}
+use Rattle.std.proofs.Common.{◌≡◌, sym, ◌∙◌, ap, subst, ℕ, ◌<◌, true, length, arith}
+use Rattle.std.specs.Prelude.{Some, IfSome, ◌&&◌}
 use Rattle.app_connection.specs.declared.connection.Connection.{Connection}
 use Rattle.app_connection.specs.declared.state.State.{State}
 use Rattle.app_connection.specs.States.{state_from}
@@ -39,4 +39,6 @@ returns c = λ much.
     let news : is_room_news mid size ≡ true =
     ap (λ (s : State). waits_for_bytes s && is_update_due mid.edge mid.connection.receiving.next (room_of mid.connection.receiving size) least shift) state ∙ due
     in
-    goes_with c.step.result (Some old.connection.receiving.next) _ (acks.room synced news) acks.ack (ack_some mid.connection synced ∙ ap Some next)
+    let all : room_of mid.connection.receiving size ≡ room_of c.step.new.self.connection.receiving size = sym (ap (λ (x : Connection). room_of x.receiving size) r.only) in
+    goes_with c.step.result (Some old.connection.receiving.next) _ (room_of c.step.new.self.connection.receiving size) (acks.room synced news) acks.ack (ack_some mid.connection synced ∙ ap Some next)
+    (subst (λ (n : ℕ). IfSome c.step.result (λ s. s.window ≡ n)) all (acks.opens synced news))

@@ -1,14 +1,17 @@
-use Rattle.std.proofs.Common.{ap, subst, ◌≡◌, ◌∙◌, refl, sym, ℕ, ◌≤◌, List, arith}
+use Rattle.std.proofs.Common.{ap, subst, ◌≡◌, ◌∙◌, inl, inr, refl, sym, ℕ, ◌≤◌, List, arith}
+use Rattle.std.proofs.lemmas.Bool.{false≢true}
 use Rattle.std.specs.Prelude.{Some, Option, option_map, None, if◌then◌else◌, min}
 use Rattle.app_connection.specs.Worlds.{Goes, said}
 use Rattle.app_connection.specs.declared.segment.Segment.{Segment}
 use Rattle.app_socket.specs.declared.socket.Socket.{Socket}
 use Rattle.app_socket.proofs.Opened.{patience_on}
 use Rattle.app_socket.proofs.Stepping.{goes_result, goes_to}
+use Rattle.app_socket.proofs.Telling.{all_told}
 use Rattle.app_socket.proofs.socket.Socket.tick_open.Goals as goal
 use Rattle.app_tcp.specs.declared.receiving.Receiving.{Receiving}
 use Rattle.app_connection.specs.declared.connection.Connection.{Connection}
-use Rattle.app_connection.specs.Endpoints.{len_of}
+use Rattle.app_connection.specs.declared.segment.Reply.{Reply}
+use Rattle.app_connection.specs.Endpoints.{len_of, next_of}
 use Rattle.app_socket.specs.declared.timers.Timers.{Timers}
 use Rattle.app_socket.specs.Resends.{IsArmed, Resends, is_due, is_room_news}
 use Rattle.app_socket.specs.Times.{later}
@@ -125,16 +128,53 @@ pub returns-in-Some-clause-acknowledges : goal.returns-in-Some-clause-acknowledg
 returns-in-Some-clause-acknowledges c = λ opened. record {
   due = λ due. refl;
   room = λ synced room. refl;
+  opens = λ synced news.
+      all_told c.args.self.now c.next_text.new.self c.args.incoming c.advertise.result (c.advertise.ensures.ack ∙ ack_as c.args.self.now.connection.receiving c.next_text.new.self.connection.receiving c.next_text.ensures.receiving)
+      c.advertise.ensures.window c.next_text.ensures.edge c.next_text.ensures.receiving (ap (λ (x : Socket). x.options) c.next_text.ensures.same) synced news;
   ack = c.advertise.ensures.ack ∙ ack_as c.args.self.now.connection.receiving c.next_text.new.self.connection.receiving c.next_text.ensures.receiving;
   number = λ none. absurd (omega (arith, none, ap len_of c.advertise.ensures.segment, c.in-Some.ensures.items opened));
   at = λ due none. absurd (omega (arith, none, ap len_of c.advertise.ensures.segment, c.in-Some.ensures.items opened));
   rst = ap (λ (s : Segment). s.rst) c.advertise.ensures.segment ∙ c.in-Some.ensures.rst;
 }
 
+pub returns-then-is_reached-clause-acknowledges : goal.returns-then-is_reached-clause-acknowledges
+returns-then-is_reached-clause-acknowledges c = λ opened.
+    let old = c.args.self.now in
+    let mid = c.next_text.new.self in
+    let it = c.acknowledge in
+    let acks = it.ensures.ack ∙ ack_as old.connection.receiving mid.connection.receiving c.next_text.ensures.receiving in
+    let next = ap (λ (r : Reply). r.number) c.acknowledgement-number.ensures.value ∙ ap next_of (c.in_default.ensures.none refl) in
+    record {
+      due = λ due. refl;
+      room = λ synced room. refl;
+      opens = λ synced news. all_told old mid c.args.incoming it.result acks it.ensures.window c.next_text.ensures.edge c.next_text.ensures.receiving (ap (λ (x : Socket). x.options) c.next_text.ensures.same) synced news;
+      ack = acks;
+      number = λ none. inl (it.ensures.number ∙ next);
+      at = λ due none. it.ensures.number ∙ next;
+      rst = it.ensures.rst;
+    }
+
 pub returns-then-is_reached-clause-resends : goal.returns-then-is_reached-clause-resends
 returns-then-is_reached-clause-resends c = λ opened has.
     let bare = resends_bare c.args.self.now c.next_text.new.self c.args.outgoing.now c.args.now c.acknowledge.result c.acknowledge.ensures.len (c.in_default.ensures.resends opened has) in
     resends_on c.args.self.now c.next_text.new.self c.acknowledge.new.self _ c.args.outgoing.now c.args.now (Some c.acknowledge.result) c.acknowledge.ensures.same refl refl bare
+
+pub returns-then-is_probe_due-clause-acknowledges : goal.returns-then-is_probe_due-clause-acknowledges
+returns-then-is_probe_due-clause-acknowledges c = λ opened.
+    let old = c.args.self.now in
+    let mid = c.next_text.new.self in
+    let it = c.acknowledge-then-is_probe_due in
+    let acks = it.ensures.ack ∙ ack_as old.connection.receiving mid.connection.receiving c.next_text.ensures.receiving in
+    let next = ap (λ (r : Reply). r.number) c.acknowledgement-number.ensures.value ∙ ap next_of (c.in_default.ensures.none refl) in
+    record {
+      due = λ due. refl;
+      room = λ synced room. refl;
+      opens = λ synced news. all_told old mid c.args.incoming it.result acks it.ensures.window c.next_text.ensures.edge c.next_text.ensures.receiving (ap (λ (x : Socket). x.options) c.next_text.ensures.same) synced news;
+      ack = acks;
+      number = λ none. inr (omega (arith, it.ensures.number, next));
+      at = λ due none. absurd (false≢true (sym c.if-is_reached.false ∙ c.is_reached.ensures.value ∙ ap (λ (o : Option ℕ). is_due o c.args.now) c.next_text.ensures.ack_at ∙ due));
+      rst = it.ensures.rst;
+    }
 
 pub returns-then-is_probe_due-clause-resends : goal.returns-then-is_probe_due-clause-resends
 returns-then-is_probe_due-clause-resends c = λ opened has.
@@ -154,6 +194,7 @@ returns-clause-acknowledges c = λ opened.
           ∙ ap (λ (x : Socket). is_room_news x c.args.incoming) c.next_text.ensures.same
           ∙ ap (λ (x : Connection). is_room_news (record old { connection = x }) c.args.incoming) (c.in_default.ensures.none refl)
           ∙ news;
+      opens = λ synced news. tt;
       ack = tt;
       number = tt;
       at = λ due. tt;
