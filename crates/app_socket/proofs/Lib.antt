@@ -13,4 +13,6 @@ pub mod Answering
 pub mod Sending
 pub mod Exchanging
 pub mod Lost
+pub mod Repairs
+pub mod Small
 pub mod Telling

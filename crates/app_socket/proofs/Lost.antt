@@ -36,7 +36,7 @@ use Rattle.app_socket.specs.Window.{is_update_due, promised, read_as}
 le_true : (a b : ℕ) → a ≤ b → nat_le a b ≡ true
 le_true a b le = grind (arith, nat_tests)
 
-due_at : (o : Option ℕ) (at now : ℕ) → o ≡ Some at → at ≤ now → is_due o now ≡ true
+pub due_at : (o : Option ℕ) (at now : ℕ) → o ≡ Some at → at ≤ now → is_due o now ≡ true
 due_at o at now is le = subst (λ (x : Option ℕ). is_due x now ≡ true) (sym is) (le_true at now le)
 
 -- ---- a SYN

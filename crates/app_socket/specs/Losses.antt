@@ -1,6 +1,8 @@
 -- What the laws of losses say of a call.
 -- Pinned by: `socket/scenarios`
-use Rattle.std.specs.Prelude.{ℕ, ◌≡◌, ◌<◌, true, false, Option, MatchOption}
+use Rattle.std.specs.Prelude.{ℕ, ◌≡◌, ◌<◌, ◌||◌, true, false, Option, MatchOption}
+use Rattle.app_congestion.specs.Scoreboard.{has, is_within}
+use Rattle.app_congestion.specs.declared.scoreboard.Scoreboard.{Scoreboard}
 use Rattle.app_connection.specs.declared.segment.Segment.{Segment}
 use Rattle.app_connection.specs.Endpoints.{len_of}
 use Rattle.app_connection.specs.States.{state_from}
@@ -21,3 +23,10 @@ pub record IsEarly (s : Socket) (now : ℕ) : Type 0 where
 -- a segment with items goes at this number
 abbrev pub GoesAt : Option Segment → ℕ → Type 0
 GoesAt given number = MatchOption given ⊥ (λ s. (s.number ≡ number) × (0 < len_of s))
+
+-- The peer has the items of two blocks after gaps, counted from SND.UNA on, and no other ones.
+pub record HasTwoBlocks (s : Scoreboard) (a b c d : ℕ) : Type 0 where
+  pub first : a < b
+  pub apart : b < c
+  pub second : c < d
+  pub known : (n : ℕ) → has s n ≡ (is_within a b n || is_within c d n)

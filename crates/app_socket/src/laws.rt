@@ -19,6 +19,7 @@ ghost use Rattle.app_socket.specs.Times.{is_open, resend_or_probe};
 
 pub mod losses;
 pub mod pair;
+pub mod repairs;
 pub mod rounds;
 pub mod schedules;
 

@@ -1,70 +1,7 @@
-use Rattle.std.proofs.Common.{◌≡◌, ◌⊎◌, inl, inr, ◌∙◌, sym, ap, subst, ℕ, ◌*◌, ◌≤◌, ◌<◌, nat_lt, Bool, true, false, length, arith}
-use Rattle.std.specs.Prelude.{Option, Some, None, MatchOption, ◌==◌, ◌&&◌, ◌||◌, not}
-use Rattle.std.proofs.lemmas.Bool.{cases_lt}
-use Rattle.std.proofs.lemmas.Bool.Decides.{nat_tests}
-use Rattle.app_tcp.specs.Items.{syn_of}
-use Rattle.app_tcp.specs.Waits.{count_of}
-use Rattle.app_tcp.proofs.Pending.{short_end}
-use Rattle.app_connection.specs.declared.connection.Connection.{Connection}
-use Rattle.app_connection.specs.declared.segment.Segment.{Segment}
-use Rattle.app_connection.specs.Endpoints.{len_of}
-use Rattle.app_socket.specs.declared.flow.Flow.{Flow}
-use Rattle.app_socket.specs.declared.flow.Queue.{Queue}
-use Rattle.app_socket.specs.Resends.{IsHeld, SendsNone, available_of, next_count, queue_of}
+use Rattle.app_socket.proofs.Small.{goes_at_once}
 use Rattle.app_socket.proofs.laws.small_text_goes_at_once.Goals as goal
-
--- items go, or none do
-items_or : (o : Option Segment) → MatchOption o ⊥ (λ s. 0 < len_of s) ⊎ SendsNone o
-items_or None = inr tt
-items_or (Some s) = elim (cases_lt 0 (len_of s)) [ inl some ↦ inl some | inr none ↦ inr (omega (arith, none)) ]
-
-worth : (full eager fin small : Bool) → (full || ((true && (eager || (true || fin))) || small)) ≡ false → ⊥
-worth true true fin small is = absurd (cc)
-worth true false fin small is = absurd (cc)
-worth false true fin small is = absurd (cc)
-worth false false fin small is = absurd (cc)
-
-same_test : (n m : ℕ) → n ≡ m → (n == m) ≡ true
-same_test n m is = grind (arith, nat_tests)
-
--- with nothing in flight, what fits is not held back
-not_held : (f : Flow) (q : Queue) → q.flight ≡ 0 → f.cursor ≡ 0 → 0 < q.unsent → q.unsent < 1073741827 → q.unsent ≤ q.mss → q.unsent ≤ q.window → q.unsent ≤ f.congestion.cwnd → IsHeld f q → ⊥
-not_held f q idle cursor some few mss window cwnd held =
-    let all : available_of f q ≡ q.unsent = omega arith in
-    let count : next_count f q ≡ q.unsent = omega arith in
-    elim held.rest [
-      | inl none ↦ omega (arith, none, count)
-      | inr waits ↦
-          let is_all : (next_count f q == available_of f q) ≡ true = same_test _ _ (count ∙ sym all) in
-          let at_once : (q.flight == 0) ≡ true = same_test _ _ idle in
-          let full = next_count f q == q.mss in
-          let small = not (nat_lt (2 * next_count f q) f.max_window) in
-          let first : (full || ((true && (q.is_eager || ((q.flight == 0) || q.has_fin))) || small)) ≡ false =
-          subst (λ (a : Bool). (full || ((a && (q.is_eager || ((q.flight == 0) || q.has_fin))) || small)) ≡ false) is_all waits.1
-          in
-          worth full q.is_eager q.has_fin small (subst (λ (b : Bool). (full || ((true && (q.is_eager || (b || q.has_fin))) || small)) ≡ false) at_once first)
-    ]
-
-syn_few : (b : Bool) → length (syn_of b) ≤ 1
-syn_few true = omega arith
-syn_few false = omega arith
 
 pub returns : goal.returns
 returns c = λ segment cwnd.
-    let old = c.args.socket.now in
-    let new = c.step.new.self in
-    let sending = old.connection.sending in
-    let r = c.step.ensures.resends tt c.requires.opened c.requires.patient in
-    let few : sending.flight ≤ count_of sending = omega (arith, c.requires.idle) in
-    elim (items_or c.step.result) [
-      | inl some ↦ some
-      | inr none ↦
-          let same = r.quiet none in
-          let idle : new.connection.sending.flight ≡ 0 = ap (λ (x : Connection). x.sending.flight) same ∙ c.requires.idle in
-          let count : count_of new.connection.sending ≡ count_of sending = ap (λ (x : Connection). count_of x.sending) same in
-          let window : new.connection.wnd ≡ old.connection.wnd = ap (λ (x : Connection). x.wnd) same in
-          let sound = r.sound few c.requires.sound in
-          let small : count_of sending < 1073741827 = omega (arith, c.requires.out.len, c.requires.out.small, syn_few sending.has_syn, short_end sending.has_fin) in
-          absurd (not_held new.flow (queue_of new) idle (omega (arith, sound.cursor, idle)) (omega (arith, count, idle, c.requires.waits)) (omega (arith, count, small)) (omega (arith, count, segment))
-          (omega (arith, count, window, c.requires.window)) (omega (arith, count, cwnd)) (r.held few c.requires.waits c.requires.sound none))
-    ]
+    goes_at_once c.args.socket.now c.step.new.self c.args.outgoing.now c.args.now c.step.result (c.step.ensures.resends tt c.requires.opened c.requires.patient) c.requires.out c.requires.sound c.requires.idle c.requires.waits c.requires.window
+    segment cwnd
