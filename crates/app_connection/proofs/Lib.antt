@@ -9,4 +9,5 @@ pub mod Pair
 pub mod Resegments
 pub mod Delivery
 pub mod Arrived
+pub mod Bytes
 pub mod Openings

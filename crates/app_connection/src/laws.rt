@@ -15,6 +15,9 @@ ghost use Rattle.app_connection.specs.SetUp.{Turn, BothAgree, run_ends, both_idl
 ghost use Rattle.app_connection.specs.States.{has_peer, state_from};
 ghost use Rattle.app_connection.specs.Worlds.{Said, Stand, ComesNext, said};
 
+pub mod bytes;
+pub mod openings;
+
 use crate::connection::Connection;
 use crate::segment::{Reply, Segment};
 use crate::state::State;
