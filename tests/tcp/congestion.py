@@ -70,13 +70,17 @@ class Congestion:
         return max(0, min(window, self.cwnd) - flight)
 
     def on_ack(self, newly, flight, una):
-        """New data is acknowledged. Returns whether the first segment goes again: after a partial acknowledgement."""
+        """New data is acknowledged. Returns whether the first segment goes again: after a partial acknowledgement. A cwnd of
+        which less than half was in flight does not grow (RFC 7661, section 4.4)."""
         unlimited, self.duplicates, self.is_resent = self.unlimited, 0, False
         if self.is_recovering:
             return self.on_ack_in_recovery(newly, flight, una)
         self.cwnd = unlimited
         self.forget(una)
-        self.grow(newly)
+        if 2 * (flight + newly) < self.cwnd:
+            self.acked = 0
+        else:
+            self.grow(newly)
         return False
 
     def forget(self, una):
@@ -97,9 +101,11 @@ class Congestion:
         return False
 
     def grow(self, newly):
-        """Slow start, or congestion avoidance by the bytes that are acknowledged (RFC 5681, section 3.1)."""
+        """Slow start (RFC 3465, section 2.3: with L = 2 before the first loss), or congestion avoidance by the bytes that are
+        acknowledged (RFC 5681, section 3.1)."""
         if self.cwnd < self.ssthresh:
-            self.set_cwnd(self.cwnd + min(newly, self.mss))
+            self.set_cwnd(self.cwnd + min(newly, self.mss * (2 if self.ssthresh == MAX_CWND else 1)))
+            self.acked = 0
             return
         self.acked += newly
         if self.acked >= self.cwnd:

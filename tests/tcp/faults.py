@@ -368,9 +368,52 @@ class NoRestart(Socket):
     """cwnd stays after a pause."""
 
     def time_what_waits(self):
-        self.probe_at, probe_at = self.now + self.keep_alive, self.probe_at
+        self.sent_at, sent_at = self.now, self.sent_at
         super().time_what_waits()
-        self.probe_at = probe_at
+        self.sent_at = sent_at
+
+
+class RestartsWhenSilent(Socket):
+    """cwnd is that of the beginning again when the peer was silent, and not when nothing was sent."""
+
+    def time_what_waits(self):
+        self.sent_at, sent_at = self.probe_at - self.keep_alive, self.sent_at
+        super().time_what_waits()
+        self.sent_at = sent_at
+
+
+class OneSegment(Socket):
+    """Slow start adds at most a segment, also before the first loss."""
+
+    def establish(self):
+        super().establish()
+        grow, congestion = self.congestion.grow, self.congestion
+        is_slow = lambda: congestion.cwnd < congestion.ssthresh
+        congestion.grow = lambda newly: grow(min(newly, congestion.mss) if is_slow() else newly)
+
+
+class TwoAfterLoss(Socket):
+    """Slow start adds up to two segments, also after a loss."""
+
+    def establish(self):
+        super().establish()
+        congestion = self.congestion
+
+        def grow(newly):
+            if congestion.cwnd >= congestion.ssthresh:
+                return type(congestion).grow(congestion, newly)
+            congestion.acked = 0
+            return congestion.set_cwnd(congestion.cwnd + min(newly, 2 * congestion.mss))
+        congestion.grow = grow
+
+
+class GrowsUnused(Socket):
+    """cwnd grows also if the program sends less."""
+
+    def establish(self):
+        super().establish()
+        on_ack, congestion = self.congestion.on_ack, self.congestion
+        congestion.on_ack = lambda newly, flight, una: on_ack(newly, max(flight, congestion.cwnd), una)
 
 
 class SillyWindow(Socket):

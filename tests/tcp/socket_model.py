@@ -31,6 +31,8 @@ class Socket:
         self.threshold = max(1, min(size_in // 2, self.mss))
         self.now = 0
         self.edge = 0
+        # When text or a FIN was sent last.
+        self.sent_at = 0
         self.agree_on_nothing(0)
         self.begin(0)
 
@@ -383,7 +385,7 @@ class Socket:
         if not self.is_waiting:
             self.resend_at = None
         elif self.resend_at is None:
-            if self.now > self.probe_at - self.keep_alive + self.rto.timeout:
+            if self.now > self.sent_at + self.rto.timeout:
                 self.congestion.on_idle()
                 self.met.append("idle")
             self.resend_at = self.now + self.timer
@@ -414,7 +416,10 @@ class Socket:
         self.timing, self.is_probed = None, True
         self.go_back()
         self.resend_at = self.now + self.rto.timeout
-        return self.send_first() if self.snd_wnd else self.advertised(self.connection.send(0, 1))
+        if self.snd_wnd:
+            return self.send_first()
+        self.sent_at = self.now
+        return self.advertised(self.connection.send(0, 1))
 
     def go_back(self):
         """All in flight goes again, also what the peer had after a gap: it may have dropped that (RFC 2018, section 8)."""
@@ -422,7 +427,7 @@ class Socket:
 
     def send_again(self, offset, count):
         """Items that were sent before, from this one after SND.UNA on. They are not timed (RFC 6298, section 3)."""
-        self.timing = None
+        self.timing, self.sent_at = None, self.now
         seg = self.connection.send(offset, count)
         end = offset + seg.length
         self.cursor, self.rescued = max(self.cursor, end), max(self.rescued, end)
@@ -453,7 +458,7 @@ class Socket:
         self.met.append("goes on")
         seg = self.connection.send(self.cursor, count)
         self.timing = self.timing or ((seg.seq + seg.length) & MASK, self.now)
-        self.cursor += seg.length
+        self.cursor, self.sent_at = self.cursor + seg.length, self.now
         return self.advertised(seg)
 
     def is_worth(self, count, available):

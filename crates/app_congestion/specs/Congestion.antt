@@ -1,7 +1,7 @@
 -- The congestion window (RFC 5681) with NewReno (RFC 6582) and limited transmit (RFC 3042): what each event makes of it, in
 -- bytes.
 -- Pinned by: `congestion/windows`
-use Rattle.std.specs.Prelude.{ℕ, ◌+◌, ◌-◌, ◌*◌, ◌/◌, ◌==◌, ◌&&◌, Bool, true, false, nat_lt, if◌then◌else◌, min, max}
+use Rattle.std.specs.Prelude.{ℕ, ◌+◌, ◌-◌, ◌*◌, ◌/◌, ◌==◌, ◌&&◌, Bool, true, false, nat_lt, if◌then◌else◌, min, max, nat_le}
 use Rattle.tcp_model.specs.Endpoint.{is_earlier}
 use Rattle.app_congestion.specs.declared.congestion.Congestion.{Congestion}
 use Rattle.app_congestion.specs.declared.phase.Phase.{Phase}
@@ -40,9 +40,14 @@ begins mss = record { mss = mss; cwnd = initial_window mss; ssthresh = 107374182
 abbrev pub halved : Sender → ℕ → ℕ
 halved s flight = capped (max (flight / 2) (2 * s.mss))
 
--- slow start (RFC 5681, section 3.1, equation 2)
+-- The limit L of what slow start adds for an acknowledgement (RFC 3465, section 2.3): two segments before the first loss, and then
+-- one, since in slow start after a time-out an acknowledgement may be of much that left the network long ago.
+abbrev pub limit_of : Sender → ℕ
+limit_of s = if s.ssthresh == 1073741824 then 2 * s.mss else s.mss
+
+-- slow start (RFC 3465, section 2.2), by the bytes that are acknowledged
 abbrev pub slow_start : Sender → ℕ → Sender
-slow_start s newly = record s { acked = 0; cwnd = capped (s.cwnd + min newly s.mss) }
+slow_start s newly = record s { acked = 0; cwnd = capped (s.cwnd + min newly (limit_of s)) }
 
 -- congestion avoidance (RFC 5681, section 3.1): when as many bytes as cwnd are acknowledged, it grows
 abbrev pub avoidance : Sender → ℕ → Sender
@@ -51,9 +56,20 @@ avoidance s newly =
     then record s { acked = s.acked + newly }
     else record s { acked = 0; cwnd = capped (s.cwnd + s.mss) }
 
--- new data is acknowledged outside fast recovery
-abbrev pub grown : Sender → ℕ → Sender
-grown s newly = if nat_lt s.cwnd s.ssthresh then slow_start s newly else avoidance s newly
+-- Whether cwnd is validated (RFC 7661, section 4.3): at least half of it was in flight before an acknowledgement of `newly` bytes,
+-- after which `flight` bytes are.
+abbrev pub is_validated : Sender → ℕ → ℕ → Bool
+is_validated s newly flight = nat_le s.cwnd (2 * (flight + newly))
+
+-- New data is acknowledged outside fast recovery. A cwnd that is not validated must not grow (RFC 7661, section 4.4), and the bytes
+-- that were counted for it are forgotten.
+abbrev pub grown : Sender → ℕ → ℕ → Sender
+grown s newly flight =
+    if not (is_validated s newly flight)
+    then record s { acked = 0 }
+    else if nat_lt s.cwnd s.ssthresh
+    then slow_start s newly
+    else avoidance s newly
 
 -- whether more than `recover` is acknowledged; there is no `recover` before the first loss
 abbrev pub is_past : Phase → ℕ → Bool
@@ -75,8 +91,8 @@ full s flight recover una = record s { acked = 0; cwnd = min s.ssthresh (max fli
 
 -- new data is acknowledged, in a phase
 abbrev pub acknowledged_in : Phase → Sender → ℕ → ℕ → ℕ → Sender
-acknowledged_in Open s newly flight una = grown s newly
-acknowledged_in (Recovered recover) s newly flight una = grown (record s { phase = outside_of recover una }) newly
+acknowledged_in Open s newly flight una = grown s newly flight
+acknowledged_in (Recovered recover) s newly flight una = grown (record s { phase = outside_of recover una }) newly flight
 acknowledged_in (Recovery recover) s newly flight una = if is_earlier una recover then partial s newly else full s flight recover una
 
 -- whether the sender is in fast recovery

@@ -1,4 +1,5 @@
-//! The congestion window (RFC 5681) with NewReno (RFC 6582) and limited transmit (RFC 3042), in bytes.
+//! The congestion window (RFC 5681) with NewReno (RFC 6582), limited transmit (RFC 3042), byte counting (RFC 3465) and validation
+//! (RFC 7661), in bytes.
 
 ghost use Rattle.std.specs.Prelude.{◌≤◌, ◌<◌, ◌*◌};
 
@@ -40,7 +41,7 @@ pub struct Congestion {
 
 impl Congestion {
     ghost use Rattle.std.specs.Prelude.{◌≡◌, ◌+◌, ◌/◌, ◌==◌, ◌&&◌, not, max, min, true, false};
-    ghost use Rattle.app_congestion.specs.Congestion.{sender_of, begins, halved, capped, is_past, is_partial, is_in_recovery, is_third, grown, unchanged, allowed, partial, acknowledged, duplicated, probed, timed_out, restarted, undone};
+    ghost use Rattle.app_congestion.specs.Congestion.{sender_of, begins, halved, capped, is_past, is_partial, is_in_recovery, is_third, grown, limit_of, unchanged, allowed, partial, acknowledged, duplicated, probed, timed_out, restarted, undone};
 
     /// A connection with this maximum segment size (SMSS); 0 counts as 1. Its initial window is that of RFC 6928: 10 segments
     /// of up to 1,460 bytes.
@@ -118,12 +119,15 @@ impl Congestion {
     }
 
     /// An acknowledgement of `newly` bytes, which leaves `flight` bytes in flight from `una` on (SND.UNA). That of the SYN does
-    /// not count (RFC 6928, section 2). Takes away again what limited transmit allowed. Returns whether to send the segment at
-    /// `una` again now: in fast recovery, after a partial acknowledgement (RFC 6582, section 3.2).
+    /// not count (RFC 6928, section 2). cwnd does not grow if less than half of it was in flight (RFC 7661). Takes away again what
+    /// limited transmit allowed. Returns whether to send the segment at `una` again now: in fast recovery, after a partial
+    /// acknowledgement (RFC 6582, section 3.2).
     pub fn on_ack(&mut self, newly: u32, flight: u32, una: u32) -> bool
         ensures sender { sender_of self.new ≡ acknowledged (sender_of self.old) newly flight una }
         ensures again { result ≡ (not (newly == 0) && is_partial self.old.phase una) }
-        ensures slow { is_in_recovery self.old.phase ≡ false → self.new.cwnd ≤ self.old.cwnd + self.old.mss }
+        ensures slow { is_in_recovery self.old.phase ≡ false → self.new.cwnd ≤ self.old.cwnd + 2 * self.old.mss }
+        ensures once { is_in_recovery self.old.phase ≡ false → self.old.ssthresh < 1073741824 → self.new.cwnd ≤ self.old.cwnd + self.old.mss }
+        ensures unused { is_in_recovery self.old.phase ≡ false → 2 * (flight + newly) < unchanged (sender_of self.old) → self.new.cwnd ≤ self.old.cwnd }
         ensures deflated { is_in_recovery self.old.phase ≡ true → is_in_recovery self.new.phase ≡ false → self.new.cwnd ≤ self.old.ssthresh }
     {
         if newly == 0 {
@@ -131,10 +135,10 @@ impl Congestion {
         }
         self.is_resent = false;
         match self.phase {
-            Phase::Open => self.grow(newly),
+            Phase::Open => self.grow(newly, flight),
             Phase::Recovered(recover) => {
                 self.phase = outside(recover, una);
-                self.grow(newly);
+                self.grow(newly, flight);
             }
             Phase::Recovery(recover) => {
                 self.duplicates = 0;
@@ -231,21 +235,35 @@ impl Congestion {
         self.acked = 0;
     }
 
-    // New data is acknowledged outside fast recovery: the window grows from what it was before limited transmit.
-    fn grow(&mut self, newly: u32)
-        ensures { sender_of self.new ≡ grown (record (sender_of self.old) { cwnd = unchanged (sender_of self.old); duplicates = 0 }) newly }
+    // New data is acknowledged outside fast recovery: the window grows from what it was before limited transmit, if it was used.
+    fn grow(&mut self, newly: u32, flight: u32)
+        ensures { sender_of self.new ≡ grown (record (sender_of self.old) { cwnd = unchanged (sender_of self.old); duplicates = 0 }) newly flight }
     {
         let cwnd = self.unchanged();
+        let used = u64::from(flight) + u64::from(newly);
+        self.cwnd = cwnd;
         self.duplicates = 0;
-        if cwnd < self.ssthresh {
+        if 2 * used < u64::from(cwnd) {
             self.acked = 0;
-            self.cwnd = (cwnd + newly.min(self.mss)).min(MAX_CWND);
+        } else if cwnd < self.ssthresh {
+            self.acked = 0;
+            self.cwnd = (cwnd + newly.min(self.limit())).min(MAX_CWND);
         } else if newly < cwnd.saturating_sub(self.acked) {
             self.acked += newly;
-            self.cwnd = cwnd;
         } else {
             self.acked = 0;
             self.cwnd = (cwnd + self.mss).min(MAX_CWND);
+        }
+    }
+
+    // The most that slow start adds for an acknowledgement.
+    fn limit(&self) -> u32
+        ensures { result ≡ limit_of (sender_of self.now) }
+    {
+        if self.ssthresh == MAX_CWND {
+            2 * self.mss
+        } else {
+            self.mss
         }
     }
 

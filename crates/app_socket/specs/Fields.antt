@@ -31,6 +31,7 @@ flow_of f = record {
   is_probed = f.is_probed;
   undo = f.undo;
   expired_at = f.expired_at;
+  sent_at = f.sent_at;
 }
 
 -- the socket

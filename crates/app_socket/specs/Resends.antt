@@ -9,7 +9,7 @@ use Rattle.app_tcp.specs.Waits.{Waits, count_of, unsent_of}
 use Rattle.app_congestion.specs.declared.rto.Rto.{Rto}
 use Rattle.app_congestion.specs.declared.scoreboard.Scoreboard.{Scoreboard}
 use Rattle.app_congestion.specs.Rto.{probe_after, sampled, timeout_of}
-use Rattle.app_congestion.specs.Congestion.{is_in_recovery, is_partial, is_past, sender_of, timed_out}
+use Rattle.app_congestion.specs.Congestion.{is_in_recovery, is_partial, is_past, restarted, sender_of, timed_out}
 use Rattle.app_congestion.specs.Scoreboard.{HasNoHole, IsHole, has}
 use Rattle.app_connection.specs.declared.segment.Segment.{Segment}
 use Rattle.app_connection.specs.Endpoints.{OutFits, acknowledgement_of, endpoint_of, len_of, next_of, spoken}
@@ -79,6 +79,15 @@ next_in q = (q.una + q.flight) % 4294967296
 -- Whether a loss probe begins fast recovery: the window is open, more than a segment is in flight, and not all goes again.
 abbrev pub is_probe_useful : Flow → Queue → Bool
 is_probe_useful f q = not (q.window == 0) && (nat_lt q.mss q.flight && not (nat_lt f.cursor q.flight))
+
+-- whether nothing was sent for longer than the timeout (RFC 5681, section 4.1)
+abbrev pub is_idle : Flow → ℕ → Bool
+is_idle f now = nat_lt (later f.sent_at f.rto.timeout) now
+
+-- Where something begins to wait after an idle time, cwnd is at most the initial window (RFC 5681, section 4.1).
+pub record RestartsIdle (old new : Flow) (now : ℕ) : Type 0 where
+  pub idle : is_idle old now ≡ true → sender_of new.congestion ≡ restarted (sender_of old.congestion)
+  pub busy : is_idle old now ≡ false → new.congestion ≡ old.congestion
 
 -- only what is known of losses changes
 abbrev pub ChangesRecovery : Flow → Flow → Type 0
@@ -214,6 +223,10 @@ pub record Resends (old new : Socket) (outgoing : List ℕ) (now : ℕ) (given :
   pub still : WhenNotDue old now (new.flow.rto ≡ old.flow.rto)
   -- So does what is known of losses, and the count of duplicate acknowledgements.
   pub calm : WhenNotDue old now (KeepsCount old.flow new.flow)
+  -- cwnd is smaller where something begins to wait and nothing was sent for longer than the timeout.
+  pub idle :
+      0 < count_of old.connection.sending → old.timers.resend_at ≡ None → now < 9223372036854775808
+      → RestartsIdle old.flow new.flow now
   -- The first segment goes again at once after a third duplicate acknowledgement or a partial one (RFC 5681, RFC 6582).
   pub again :
       0 < count_of old.connection.sending → old.flow.resend ≡ true

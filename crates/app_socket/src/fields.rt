@@ -24,6 +24,7 @@ pub struct SocketFields {
     agreed: AgreedFields,
     undo: Undo,
     expired_at: u64,
+    sent_at: u64,
     ends_at: u64,
     resend_at: u64,
     ack_at: u64,
@@ -59,6 +60,7 @@ impl Socket {
             undo: flow.undo,
             agreed: self.agreed.fields(),
             expired_at: flow.expired_at,
+            sent_at: flow.sent_at,
             ends_at: timers.ends_at,
             resend_at: timers.resend_at.unwrap_or(0),
             ack_at: timers.ack_at.unwrap_or(0),
@@ -151,6 +153,7 @@ impl SocketFields {
             is_probed: self.is_probed,
             undo: self.undo,
             expired_at: self.expired_at,
+            sent_at: self.sent_at,
         }
     }
 }

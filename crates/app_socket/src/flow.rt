@@ -4,7 +4,7 @@ ghost use Rattle.std.specs.Prelude.{◌≡◌, ◌<◌, ◌≤◌, ◌⊎◌, �
 ghost use Rattle.app_congestion.specs.Congestion.{acknowledged, begins, duplicated, is_in_recovery, is_partial, is_past, is_third, probed, restarted, sender_of};
 ghost use Rattle.app_congestion.specs.Scoreboard.{has, total};
 ghost use Rattle.app_socket.specs.Pieces.{IsSacked, IsWithin};
-ghost use Rattle.app_socket.specs.Resends.{BacksOff, Samples, TimesOut, is_probe_useful, next_in, timer_of, ChangesRecovery, SamplesTimed};
+ghost use Rattle.app_socket.specs.Resends.{BacksOff, Samples, TimesOut, is_idle, is_probe_useful, next_in, timer_of, ChangesRecovery, SamplesTimed};
 ghost use Rattle.app_socket.specs.Undo.{IsUndone, Undoes, is_echo_before, is_spurious, saved, since_expired};
 
 use crate::undo::{Undo, is_echo_before, since_expired};
@@ -41,6 +41,8 @@ pub(crate) struct Flow {
     // What a spurious retransmission restores, and when the timer expired last.
     pub(crate) undo: Undo,
     pub(crate) expired_at: u64,
+    // When text or a FIN was sent last.
+    pub(crate) sent_at: u64,
 }
 
 // What the choice of the next segment sees of a connection.
@@ -100,6 +102,7 @@ impl Flow {
             is_probed: false,
             undo: Undo::NONE,
             expired_at: 0,
+            sent_at: 0,
         }
     }
 
@@ -378,12 +381,17 @@ impl Flow {
         self.max_window = self.max_window.max(window);
     }
 
-    // Nothing was sent for longer than the timeout (RFC 5681, section 4.1).
-    pub(crate) fn on_idle(&mut self)
+    // Something begins to wait, after nothing did. If nothing was sent for longer than the timeout, cwnd is at most the initial
+    // window (RFC 5681, section 4.1).
+    pub(crate) fn on_wait(&mut self, now: u64)
         ensures same { self.new ≡ record self.old { congestion = self.new.congestion } }
-        ensures sender { sender_of self.new.congestion ≡ restarted (sender_of self.old.congestion) }
+        ensures idle { is_idle self.old now ≡ true
+            → sender_of self.new.congestion ≡ restarted (sender_of self.old.congestion) }
+        ensures busy { is_idle self.old now ≡ false → self.new ≡ self.old }
     {
-        self.congestion.on_idle();
+        if now > self.sent_at.saturating_add(u64::from(self.timeout())) {
+            self.congestion.on_idle();
+        }
     }
 
     // The SYN goes again.

@@ -114,13 +114,14 @@ impl Flow {
     // This piece went out, with so many items.
     pub(crate) fn on_sent(&mut self, queue: &Queue, piece: &Piece, items: u32, now: u64)
         ensures same { self.new
-            ≡ record self.old { timing = self.new.timing; cursor = self.new.cursor; rescued = self.new.rescued } }
-        ensures probe { piece.now.kind ≡ Kind.Probe → self.new ≡ self.old }
+            ≡ record self.old { timing = self.new.timing; cursor = self.new.cursor; rescued = self.new.rescued; sent_at = now } }
+        ensures probe { piece.now.kind ≡ Kind.Probe → self.new ≡ record self.old { sent_at = now } }
         ensures cursor { (piece.now.kind ≡ Kind.Probe → ⊥)
             → self.new.cursor ≡ max self.old.cursor (min 4294967295 (piece.now.offset + items)) }
         ensures again { piece.now.kind ≡ Kind.Again → self.new.timing ≡ None }
         ensures karn { IfSome self.new.timing (λ t. (self.old.timing ≡ Some t) ⊎ (piece.now.kind ≡ Kind.New)) }
     {
+        self.sent_at = now;
         if piece.kind == Kind::Probe {
             return;
         }

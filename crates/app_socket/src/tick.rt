@@ -11,7 +11,7 @@ ghost use Rattle.app_connection.specs.States.{has_peer, state_from};
 ghost use Rattle.app_congestion.specs.Congestion.{is_in_recovery};
 ghost use Rattle.app_congestion.specs.Scoreboard.{IsHole};
 ghost use Rattle.app_socket.specs.Pieces.{IsWithin};
-ghost use Rattle.app_socket.specs.Resends.{Acknowledges, IsArmed, IsHeld, IsSound, Resends, SendsFirst, SendsSyn, TimesOut, is_due, is_room_news, queue_of, window_of, KeepsCount, WhenDue, WhenNotDue, WhenTimeout};
+ghost use Rattle.app_socket.specs.Resends.{Acknowledges, IsArmed, IsHeld, IsSound, Resends, SendsFirst, SendsSyn, TimesOut, is_due, is_room_news, queue_of, window_of, KeepsCount, WhenDue, WhenNotDue, WhenTimeout, RestartsIdle};
 ghost use Rattle.app_socket.specs.Segments.{IsSent, text_of};
 ghost use Rattle.app_socket.specs.Times.{is_open, later};
 ghost use Rattle.app_socket.specs.Window.{HasRoom, Tells, end_after, limit_of};
@@ -230,6 +230,9 @@ impl Socket {
             → MatchOption result ⊥ (λ p. p.offset ≡ offset)) }
         ensures rto { WhenNotDue self.old now (self.new.flow.rto ≡ self.old.flow.rto) }
         ensures calm { WhenNotDue self.old now (KeepsCount self.old.flow self.new.flow) }
+        ensures idle { (size : ℕ) → OutFits self.old.connection.sending size → 0 < count_of self.old.connection.sending
+            → self.old.timers.resend_at ≡ None → now < 9223372036854775808
+            → RestartsIdle self.old.flow self.new.flow now }
     {
         let queue = self.queue();
         self.run_timer(now);
@@ -260,15 +263,12 @@ impl Socket {
         ensures phase { self.new.flow.congestion.phase ≡ self.old.flow.congestion.phase }
         ensures duplicates { self.new.flow.congestion.duplicates ≡ self.old.flow.congestion.duplicates }
         ensures rests { WhenNotDue self.old now (is_due self.new.timers.resend_at now ≡ false) }
+        ensures idle { (size : ℕ) → OutFits self.old.connection.sending size → 0 < count_of self.old.connection.sending
+            → self.old.timers.resend_at ≡ None → RestartsIdle self.old.flow self.new.flow now }
     {
         let waits = self.waits();
-        if waits
-            && self.timers.resend_at.is_none()
-            && self
-                .timers
-                .is_idle(now, self.options.idle_time(), self.flow.timeout())
-        {
-            self.flow.on_idle();
+        if waits && self.timers.resend_at.is_none() {
+            self.flow.on_wait(now);
         }
         self.timers.run(now, self.flow.timer(), waits);
     }
@@ -328,6 +328,7 @@ impl Socket {
           timing = self.new.flow.timing;
           cursor = self.new.flow.cursor;
           rescued = self.new.flow.rescued;
+          sent_at = self.new.flow.sent_at;
         } }
         ensures only { ChangesOnlyNext self.old.connection self.new.connection }
         ensures some { self.old.connection.phase ≡ Open → has_peer (state_from self.old.connection) ≡ true

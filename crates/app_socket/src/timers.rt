@@ -104,12 +104,6 @@ impl Timers {
         }
     }
 
-    // Whether the peer was silent for longer than the timeout.
-    pub(crate) fn is_idle(&self, now: u64, idle: u64, rto: u32) -> bool {
-        let heard_at = self.probe_at.saturating_sub(idle);
-        now > heard_at.saturating_add(u64::from(rto))
-    }
-
     // A segment of the peer came.
     pub(crate) fn hear(&mut self, now: u64, idle: u64, waits: bool)
         requires { idle ≤ 4294967295000 }

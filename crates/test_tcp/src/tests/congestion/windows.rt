@@ -1,5 +1,5 @@
-//! Events of a sender with cwnd and ssthresh after each, by hand from RFC 3042, RFC 5681, RFC 6582,
-//! RFC 4015, RFC 6928 and RFC 8985.
+//! Events of a sender with cwnd and ssthresh after each, by hand from RFC 3042, RFC 3465, RFC 5681,
+//! RFC 6582, RFC 4015, RFC 6928, RFC 7661 and RFC 8985.
 
 use Turn::{Ack, Duplicate, Probe, Timeout, Undo};
 use app_congestion::{Congestion, MAX_CWND};
@@ -67,13 +67,13 @@ fn initial_windows(rt: HostRuntime) {
 #[test]
 fn fast_recovery(rt: HostRuntime) {
     let rows = [
-        // Slow start: at most a segment each.
+        // Slow start before a loss: at most two segments each.
         (Ack(1_000, 9_000, 1_001), 11_000, MAX_CWND, false),
         (Ack(500, 9_000, 1_501), 11_500, MAX_CWND, false),
-        (Ack(3_000, 9_000, 4_501), 12_500, MAX_CWND, false),
+        (Ack(3_000, 9_000, 4_501), 13_500, MAX_CWND, false),
         // Two segments are lost. The third duplicate: half of 12,001, and three segments.
-        (Duplicate(12_001, 4_501, 16_501), 13_500, MAX_CWND, false),
         (Duplicate(12_001, 4_501, 16_501), 14_500, MAX_CWND, false),
+        (Duplicate(12_001, 4_501, 16_501), 15_500, MAX_CWND, false),
         (Duplicate(12_001, 4_501, 16_501), 9_000, 6_000, true),
         (Duplicate(12_000, 4_501, 16_501), 10_000, 6_000, false),
         (Duplicate(12_000, 4_501, 16_501), 11_000, 6_000, false),
@@ -94,6 +94,47 @@ fn fast_recovery(rt: HostRuntime) {
         (Duplicate(5_001, 17_501, 22_502), 5_500, 2_500, true),
     ];
     check(&rt, "fast recovery", &rows);
+}
+
+// RFC 3465, section 2.3: L = 2 before the first loss, and L = 1 in the slow start after a time-out.
+#[test]
+fn byte_counting(rt: HostRuntime) {
+    let rows = [
+        (Ack(1, 9_999, 2), 10_001, MAX_CWND, false),
+        (Ack(1_999, 9_000, 2_001), 12_000, MAX_CWND, false),
+        (Ack(2_000, 9_000, 4_001), 14_000, MAX_CWND, false),
+        (Ack(8_000, 5_000, 12_001), 16_000, MAX_CWND, false),
+        (Timeout(16_000, 28_001), 1_000, 8_000, false),
+        (Ack(2_000, 14_000, 14_001), 2_000, 8_000, false),
+        // All that was sent before the time-out is acknowledged, and slow start goes on.
+        (Ack(14_001, 2_000, 28_002), 3_000, 8_000, false),
+        (Ack(2_000, 2_000, 30_002), 4_000, 8_000, false),
+        // Not after an undo.
+        (Undo(14_000, MAX_CWND), 14_000, MAX_CWND, false),
+        (Ack(2_000, 12_000, 32_002), 16_000, MAX_CWND, false),
+    ];
+    check(&rt, "byte counting", &rows);
+}
+
+// RFC 7661, sections 4.3 and 4.4: cwnd grows while at least half of it was in flight, in slow start and in congestion avoidance.
+#[test]
+fn validation(rt: HostRuntime) {
+    let rows = [
+        (Ack(2_000, 2_999, 2_001), 10_000, MAX_CWND, false),
+        (Ack(2_000, 3_000, 4_001), 12_000, MAX_CWND, false),
+        (Ack(1, 0, 4_002), 12_000, MAX_CWND, false),
+        (Undo(4_000, 2_000), 4_000, 2_000, false),
+        // 3,000 of 4,000 bytes are counted, and forgotten when less than half was in flight.
+        (Ack(3_000, 1_000, 7_002), 4_000, 2_000, false),
+        (Ack(1_000, 999, 8_002), 4_000, 2_000, false),
+        (Ack(3_999, 1_000, 12_001), 4_000, 2_000, false),
+        (Ack(1, 1_999, 12_002), 5_000, 2_000, false),
+        // What limited transmit allows does not count.
+        (Duplicate(2_500, 12_002, 14_502), 6_000, 2_000, false),
+        (Ack(2_500, 0, 14_502), 5_000, 2_000, false),
+        (Ack(2_500, 0, 17_002), 6_000, 2_000, false),
+    ];
+    check(&rt, "validation", &rows);
 }
 
 // RFC 4015: after a spurious time-out cwnd and ssthresh are as before, and slow start goes on. The next loss is one of its own:
@@ -139,7 +180,7 @@ fn limited_transmit(rt: HostRuntime) {
         (Ack(2_000, 1_000, 22_001), 3_000, 2_000, false),
         (Duplicate(3_000, 22_001, 25_001), 4_000, 2_000, false),
         (Ack(2_999, 1, 25_000), 3_000, 2_000, false),
-        (Ack(1, 0, 25_001), 4_000, 2_000, false),
+        (Ack(1, 2_000, 25_001), 4_000, 2_000, false),
     ];
     check(&rt, "limited transmit", &rows);
 }
@@ -192,8 +233,8 @@ fn time_outs(rt: HostRuntime) {
         // Congestion avoidance: a segment for 3,000 bytes.
         (Ack(1_000, 2_001, 20_501), 3_000, 2_500, false),
         (Ack(1_999, 2, 22_500), 3_000, 2_500, false),
-        (Ack(1, 1, 22_501), 4_000, 2_500, false),
-        (Ack(1, 0, 22_502), 4_000, 2_500, false),
+        (Ack(1, 2_000, 22_501), 4_000, 2_500, false),
+        (Ack(1, 2_000, 22_502), 4_000, 2_500, false),
         // At least two segments. Another time-out halves again.
         (Timeout(3_000, 25_502), 1_000, 2_000, false),
     ];
@@ -204,7 +245,8 @@ fn time_outs(rt: HostRuntime) {
 #[test]
 fn idle_and_lost_syn(rt: HostRuntime) {
     let mut c = Congestion::new(1_000);
-    let _ = c.on_ack(1_000, 0, 1_001);
+    let _ = c.on_ack(1_000, 9_000, 1_001);
+    assert_eq!(rt; c.cwnd(), 11_000);
     c.on_idle();
     assert_eq!(rt; c.cwnd(), 10_000);
     assert_eq!(rt; c.may_send(9_000, 4_000), 5_000);

@@ -47,6 +47,7 @@ returns-in_default-clause-resends c = λ opened has.
       probed = λ some due. c.piece.ensures.probed _ fits some due;
       still = λ small due. c.piece.ensures.rto small due;
       calm = c.piece.ensures.calm;
+      idle = c.piece.ensures.idle _ fits;
       again = λ some first. c.in_default.ensures.again first;
       hole = λ offset count few sound small due resend calm is text less. c.in_default.ensures.hole _ offset count fits small due resend calm is text less;
       armed = λ some. c.piece.ensures.armed _ fits some;
@@ -104,6 +105,10 @@ returns-clause-resends c = λ opened has.
       calm = λ small due.
           let before = c.piece.ensures.calm small due in
           (ap (λ (f : Flow). f.congestion.phase) c.cut.ensures.flow ∙ before.0, ap (λ (f : Flow). f.congestion.duplicates) c.cut.ensures.flow ∙ before.1);
+      idle = λ some none small.
+          let before = c.piece.ensures.idle _ fits some none small in
+          let flow = ap (λ (f : Flow). f.congestion) c.cut.ensures.flow in
+          record { idle = λ is. ap sender_of flow ∙ before.idle is; busy = λ is. flow ∙ before.busy is };
       again = λ some resend. first (c.in-Some.ensures.again resend) some;
       hole = λ offset count few sound small due resend calm is text less.
           let place : p.offset ≡ offset =

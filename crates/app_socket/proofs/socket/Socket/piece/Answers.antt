@@ -1,6 +1,6 @@
 use Rattle.std.proofs.Common.{◌≡◌, ◌⊎◌, inl, inr, ◌∙◌, refl, sym, ap, subst, ℕ, ◌+◌, ◌≤◌, ◌<◌, Bool, true, false, min, arith}
 use Rattle.std.specs.Prelude.{Option, Some, None, IfSome, MatchOption}
-use Rattle.app_congestion.specs.Congestion.{is_in_recovery}
+use Rattle.app_congestion.specs.Congestion.{is_in_recovery, sender_of}
 use Rattle.app_congestion.specs.Scoreboard.{IsHole}
 use Rattle.app_socket.specs.declared.flow.Flow.{Flow}
 use Rattle.app_socket.specs.declared.flow.Piece.{Piece}
@@ -109,3 +109,24 @@ returns-clause-hole c = λ size offset count fits small due resend calm is text 
     (ap (λ (x : Socket). is_in_recovery x.flow.congestion.phase) same ∙ ap is_in_recovery c.run_timer.ensures.phase ∙ calm) (subst Hole (sym (ap (λ (x : Socket). x.flow) same ∙ flow)) is)
     (subst (λ (n : ℕ). 0 < n) (sym (ap (λ (q : Queue). q.mss) (c.queue-queue.ensures.value size fits))) text)
     (subst (λ (n : ℕ). offset < min n new.flow.congestion.cwnd) (sym c.queue-queue.ensures.window) (subst (λ (f : Flow). offset < min old.connection.wnd f.congestion.cwnd) c.next.ensures.same less))
+
+pub returns-in-Some-clause-idle : goal.returns-in-Some-clause-idle
+returns-in-Some-clause-idle c = λ size fits some none small.
+    let due = ap (λ (at : Option ℕ). is_due at c.args.now) none in
+    let same = (c.in-Some.ensures.rests (c.run_timer.ensures.rests small due)).0 in
+    let before = c.run_timer.ensures.idle size fits some none in
+    record {
+      idle = λ is. ap (λ (x : Socket). sender_of x.flow.congestion) same ∙ before.idle is;
+      busy = λ is. ap (λ (x : Socket). x.flow.congestion) same ∙ before.busy is;
+    }
+
+pub returns-clause-idle : goal.returns-clause-idle
+returns-clause-idle c = λ size fits some none small.
+    let due = ap (λ (at : Option ℕ). is_due at c.args.now) none in
+    let same = (c.in_default.ensures.rests (c.run_timer.ensures.rests small due)).0 in
+    let before = c.run_timer.ensures.idle size fits some none in
+    let flow = ap (λ (f : Flow). f.congestion) c.next.ensures.same in
+    record {
+      idle = λ is. ap sender_of flow ∙ ap (λ (x : Socket). sender_of x.flow.congestion) same ∙ before.idle is;
+      busy = λ is. flow ∙ ap (λ (x : Socket). x.flow.congestion) same ∙ before.busy is;
+    }
