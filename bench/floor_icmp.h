@@ -69,10 +69,9 @@ INLINE int read_lladdr(const uint8_t *ptr, size_t len, uint8_t kind, struct lk_n
 }
 
 /* What a message must be between its addresses. */
-INLINE int is_allowed(const uint8_t *header, const struct lk_ndisc *ndisc)
+INLINE int is_allowed(const uint8_t *src, const uint8_t *dst, const struct lk_ndisc *ndisc)
 {
     static const uint8_t solicited_node[13] = {0xff, 2, [11] = 1, [12] = 0xff};
-    const uint8_t *src = header + 8, *dst = header + 24;
     if (ndisc->is_advert)
         return !ndisc->is_solicited || dst[0] != 0xff;
     return load_64(src) || load_64(src + 8)
@@ -95,7 +94,7 @@ int lk_find_ndisc(const uint8_t *frame, size_t len, struct lk_ndisc *ndisc)
         value.overrides = ptr[4] >> 5 & 1;
     }
     if (!read_lladdr(ptr + NDISC_LEN, packet.len - NDISC_LEN, 1 + value.is_advert, &value)
-        || !is_allowed(packet.header, &value))
+        || !is_allowed(packet.header + 8, packet.header + 24, &value))
         return 0;
     *ndisc = value;
     return 1;
@@ -109,6 +108,8 @@ ptrdiff_t lk_emit_ndisc_frame(const struct lk_frame *headers, const struct lk_nd
     int is_advert = ndisc->is_advert != 0;
     if (src->version != 6 || dst->version != 6 || ndisc->target.version != 6)
         return LK_NO_VERSION;
+    if (ndisc->target.octets[0] == 0xff || !is_allowed(src->octets, dst->octets, ndisc))
+        return LK_BAD_FIELD;
     if (!reaches(cap, AT + len))
         return LK_NO_ROOM;
     struct lk_icmp icmp = {.type = is_advert ? ADVERT : SOLICIT};

@@ -27,6 +27,7 @@ enum {
     X(update_checksum_addr) X(update_udp_checksum) X(update_udp_checksum_addr)                         \
     X(update_checksum_bytes) X(update_udp_checksum_bytes) X(make_route_table)                          \
     X(choose_route_by_table) X(check_source_by_table) X(fragment) X(reassemble)                        \
+    X(emit_udp_packet) X(emit_tcp_packet) X(emit_icmp_packet) X(wrap_udp_packet) X(wrap_tcp_packet)    \
     X(connection_step) X(connection_tick) X(connection_write) X(connection_read)
 #define CALL(name) __typeof__(lk_##name) *name;
 

@@ -67,6 +67,11 @@ REPEAT(call_read_link, read_link, 1, bytes, frame_len, &out.link)
 REPEAT(call_read_linktype, read_linktype, 1, bytes, frame_len, frame_len, &out.frame)
 REPEAT(call_wrap_udp_frame, wrap_udp_frame, &ipv4_headers, row->size, OUT)
 REPEAT(call_wrap_tcp_frame, wrap_tcp_frame, &tcp_headers, &row->header->options, row->size, OUT)
+REPEAT(call_emit_udp_packet, emit_udp_packet, &ipv4_headers, payload, row->size, OUT)
+REPEAT(call_emit_tcp_packet, emit_tcp_packet, &tcp_headers, &row->header->options, payload, row->size, OUT)
+REPEAT(call_emit_icmp_packet, emit_icmp_packet, &echo_headers, payload, row->size, OUT)
+REPEAT(call_wrap_udp_packet, wrap_udp_packet, &ipv4_headers, row->size, OUT)
+REPEAT(call_wrap_tcp_packet, wrap_tcp_packet, &tcp_headers, &row->header->options, row->size, OUT)
 REPEAT(call_update, update_checksum, 0x1234, 0x5678, 0x9abc)
 REPEAT(call_update_addr, update_checksum_addr, 0x1234, &ipv4_headers.src.addr, &ipv4_headers.dst.addr)
 REPEAT(call_update_udp, update_udp_checksum, 0x1234, 0x5678, 0x9abc)
@@ -296,6 +301,9 @@ static const struct call own_rows[] = {
     {"read packet UDP/IPv4", prepare_udp_ipv4, call_read_packet},
     {"read captured UDP/IPv4", prepare_udp_ipv4, call_read_captured},
     {"read captured ICMP/IPv4", prepare_echo_ipv4, call_read_captured},
+    {"emit packet UDP/IPv4", prepare_udp_ipv4, call_emit_udp_packet},
+    {"emit packet ICMP/IPv4", prepare_echo_ipv4, call_emit_icmp_packet},
+    {"wrap packet UDP/IPv4", prepare_udp_ipv4, call_wrap_udp_packet},
 };
 static const struct call link_rows[] = {
     {"read link Ethernet", prepare_udp_ipv4, call_read_link},
@@ -303,7 +311,11 @@ static const struct call link_rows[] = {
     {"wrap frame UDP/IPv4", prepare_udp_ipv4, call_wrap_udp_frame},
     {"print frame UDP/IPv4", prepare_udp_line, call_print_frame},
 };
-static const struct call own_tcp_rows[] = {{"next options", prepare_tcp_ipv4, call_next_options}};
+static const struct call own_tcp_rows[] = {
+    {"next options", prepare_tcp_ipv4, call_next_options},
+    {"emit packet TCP/IPv4", prepare_tcp_ipv4, call_emit_tcp_packet},
+    {"wrap packet TCP/IPv4", prepare_tcp_ipv4, call_wrap_tcp_packet},
+};
 static const struct call line_rows[] = {
     {"wrap frame TCP/IPv4", prepare_tcp_ipv4, call_wrap_tcp_frame},
     {"print frame TCP/IPv4", prepare_tcp_line, call_print_frame},

@@ -71,16 +71,15 @@ static int redirect_virtio(uint8_t *frame, size_t len, unsigned flags)
            lk_set_bytes_as(frame, len, len - 1, (const uint8_t *)"!", 1, offload);
 }
 
-/* Lowers the hop limit of a packet of a TUN device, which was read to `buffer + LK_ETHERNET_HEADER_LEN`. Edits need the
- * EtherType before the packet. */
+/* Lowers the hop limit of a packet of a TUN device, which was read to `buffer + LK_ETHERNET_HEADER_LEN`. Edits need an
+ * Ethernet header before the packet: lk_read_linktype stores its type, and the addresses are 0. */
 static int lower_hop_limit(uint8_t *buffer, size_t len)
 {
     struct lk_frame f;
     uint8_t *packet = buffer + LK_ETHERNET_HEADER_LEN;
-    if (lk_read_packet(packet, len, &f) != LK_READ || f.ip.hop_limit < 2)
+    if (lk_read_linktype(LK_LINKTYPE_RAW, packet, len, len, &f) != LK_READ || f.ip.hop_limit < 2)
         return 0;
-    const unsigned type = f.network == LK_IPV4 ? LK_ETHERTYPE_IPV4 : LK_ETHERTYPE_IPV6;
-    memcpy(packet - 2, (uint8_t[]){(uint8_t)(type >> 8), (uint8_t)type}, 2);
+    lk_emit_ethernet(&f.ethernet, buffer, LK_ETHERNET_HEADER_LEN);
     return lk_set_hop_limit(buffer, LK_ETHERNET_HEADER_LEN + len, (uint8_t)(f.ip.hop_limit - 1));
 }
 
@@ -188,6 +187,29 @@ static ptrdiff_t ping_message(uint16_t ident, uint16_t number, uint8_t *out, siz
     return lk_emit_icmp(&echo, &any, &any, (const uint8_t *)"data", 4, 1, out, cap);
 }
 
+/* The identifier of our echo requests. */
+enum { PING = 7 };
+
+/* Writes an echo request as an IP packet, for a TUN device. */
+static ptrdiff_t ping(const struct lk_addr *src, const struct lk_addr *dst, uint16_t number, uint8_t *out, size_t cap)
+{
+    struct lk_frame headers = {.src = {.addr = *src}, .dst = {.addr = *dst}, .ip = {.hop_limit = 64}};
+    headers.icmp.type = src->version == 4 ? LK_ICMP_ECHO_REQUEST : LK_ICMPV6_ECHO_REQUEST;
+    headers.icmp.word = (uint32_t)PING << 16 | number;
+    return lk_emit_icmp_packet(&headers, (const uint8_t *)"ping", 4, out, cap);
+}
+
+/* Whether a packet of the device is the reply to it. */
+static int is_pong(const struct lk_addr *src, const struct lk_addr *dst, uint16_t number, const uint8_t *packet, size_t len)
+{
+    const int type = src->version == 4 ? LK_ICMP_ECHO_REPLY : LK_ICMPV6_ECHO_REPLY;
+    struct lk_frame f;
+    lk_read_packet(packet, len, &f);
+    return lk_is_valid(&f) && f.transport == LK_ICMP && f.icmp.type == type && f.icmp.code == 0 &&
+           f.icmp.word == ((uint32_t)PING << 16 | number) && memcmp(&f.src.addr, dst, sizeof *dst) == 0 &&
+           memcmp(&f.dst.addr, src, sizeof *src) == 0;
+}
+
 /* Prints why a frame is dropped, or that it may be used. */
 static void judge(const uint8_t *frame, size_t len)
 {
@@ -216,6 +238,7 @@ int main(void)
     const struct lk_frame echo = {.ethernet = {{2, 0, 0, 0, 0, 1}, {2, 0, 0, 0, 0, 2}, 0},
                                   .src = {addr_of("192.0.2.1"), 0}, .dst = {addr_of("192.0.2.2"), 0},
                                   .ip = {.hop_limit = 64}, .icmp = {7u << 16 | 1, LK_ICMP_ECHO_REQUEST, 0}};
+    const struct lk_ethernet ipv4 = {.type = LK_ETHERTYPE_IPV4};
     const struct lk_endpoint before = {addr_of("192.0.2.2"), 53}, after = {addr_of("198.51.100.7"), 5353};
     uint16_t ipv4_checksum, udp = 0;
     ptrdiff_t len;
@@ -250,6 +273,11 @@ int main(void)
     print("echo", frame, len);
     print("reply", out, pong(&before.addr, frame, (size_t)len, out, sizeof out));
     print("no room", out, pong(&before.addr, frame, (size_t)len, out, 40));
+    len = ping(&echo.src.addr, &echo.dst.addr, 1, frame + LK_ETHERNET_HEADER_LEN, sizeof frame - LK_ETHERNET_HEADER_LEN);
+    lk_emit_ethernet(&ipv4, frame, LK_ETHERNET_HEADER_LEN);
+    len = pong(&before.addr, frame, LK_ETHERNET_HEADER_LEN + (size_t)len, out, sizeof out) - LK_ETHERNET_HEADER_LEN;
+    printf("ping over TUN: %td bytes, %s\n", len,
+           is_pong(&echo.src.addr, &echo.dst.addr, 1, out + LK_ETHERNET_HEADER_LEN, (size_t)len) ? "answered" : "lost");
     len = write_syn(0, frame, sizeof frame);
     print("SYN", frame, len);
     print_flags(frame, (size_t)len);

@@ -6,7 +6,8 @@
  *     print and name             lk_print_frame, lk_protocol_name, lk_ethertype_name, lk_tcp_flag_name
  *     reply                      lk_make_reply, and then write a frame
  *     write a frame              lk_emit_udp_frame, lk_emit_tcp_frame, lk_emit_icmp_frame, lk_emit_arp_frame
- *     write before a payload     lk_wrap_udp_frame, lk_wrap_tcp_frame
+ *     write an IP packet (TUN)   lk_emit_udp_packet, lk_emit_tcp_packet, lk_emit_icmp_packet
+ *     write before a payload     lk_wrap_udp_frame, lk_wrap_tcp_frame, lk_wrap_udp_packet, lk_wrap_tcp_packet
  *     write one layer            lk_emit_ethernet, lk_emit_arp, lk_emit_ip, lk_emit_udp, lk_emit_tcp, lk_emit_icmp
  *     edit in place              lk_set_addr, lk_set_port, lk_set_dscp, lk_set_hop_limit, lk_set_bytes, lk_clamp_mss
  *     checksums                  lk_fill_checksum of a frame, lk_checksum of bytes, lk_update_checksum and its kin
@@ -95,7 +96,7 @@ int lk_cpu_supported(void);
 #define LK_EMIT_PORT_ZERO LK_FAILURE(4)   /* a port is 0 where receivers reject it: all but the source port of UDP */
 #define LK_NO_HOP_LIMIT LK_FAILURE(5)     /* the hop limit is 0 */
 #define LK_BAD_FIELD LK_FAILURE(6)        /* a field of `struct lk_ip` that this header has no place for; an
-                                           * identification or MTU of lk_fragment */
+                                           * identification or MTU of lk_fragment; a message of lk_emit_ndisc_frame */
 #define LK_TWO_CONTROLS LK_FAILURE(7)     /* more than one of SYN, FIN and RST */
 #define LK_OPTIONS_TOO_LONG LK_FAILURE(8) /* TCP options of more than 40 bytes, or more than 4 SACK ranges */
 #define LK_PAYLOAD_TOO_LONG LK_FAILURE(9) /* the payload is longer than the length field can say, or than the memory of
@@ -508,7 +509,8 @@ int lk_read_frame(const uint8_t *ptr, size_t len, struct lk_frame *frame);
 
 /* The same for a packet that begins with its IPv4 or IPv6 header: of a TUN device, of a capture of raw packets
  * or cooked frames, or after VLAN tags. `ethernet` is 0. A packet of neither version is rejected with
- * LK_BAD_VERSION, however short it is, but for one without bytes (LK_TOO_SHORT). */
+ * LK_BAD_VERSION, however short it is, but for one without bytes (LK_TOO_SHORT). Calls that take a frame, as lk_answer,
+ * need LK_ETHERNET_HEADER_LEN bytes before it: see lk_set_addr. */
 int lk_read_packet(const uint8_t *ptr, size_t len, struct lk_frame *frame);
 
 /* The same two for a frame or packet of `len` bytes of which only the first `captured` are at `ptr`, as in a
@@ -758,6 +760,20 @@ ptrdiff_t lk_wrap_tcp_frame(const struct lk_frame *headers, const struct lk_tcp_
 ptrdiff_t lk_emit_icmp_frame(const struct lk_frame *headers, const uint8_t *ptr, size_t len, uint8_t *out,
                              size_t cap);
 
+/* Write an IP packet without Ethernet, for a TUN device, a raw socket or a tunnel: what the call that ends in `_frame`
+ * writes after its Ethernet header. `ethernet` of `headers` is not used. Each returns the length of the packet, or a failure
+ * for the same reasons. lk_read_packet parses the packet.
+ *
+ * For lk_wrap_udp_packet and lk_wrap_tcp_packet the payload begins after LK_IPV4_HEADER_LEN or LK_IPV6_HEADER_LEN bytes,
+ * then LK_UDP_HEADER_LEN or lk_tcp_header_len(options). */
+ptrdiff_t lk_emit_udp_packet(const struct lk_frame *headers, const uint8_t *ptr, size_t len, uint8_t *out, size_t cap);
+ptrdiff_t lk_emit_tcp_packet(const struct lk_frame *headers, const struct lk_tcp_options *options, const uint8_t *ptr,
+                             size_t len, uint8_t *out, size_t cap);
+ptrdiff_t lk_emit_icmp_packet(const struct lk_frame *headers, const uint8_t *ptr, size_t len, uint8_t *out, size_t cap);
+ptrdiff_t lk_wrap_udp_packet(const struct lk_frame *headers, size_t len, uint8_t *out, size_t cap);
+ptrdiff_t lk_wrap_tcp_packet(const struct lk_frame *headers, const struct lk_tcp_options *options, size_t len,
+                             uint8_t *out, size_t cap);
+
 /* Returns the length of a TCP header with these options, 20 to 60, or LK_OPTIONS_TOO_LONG. */
 ptrdiff_t lk_tcp_header_len(const struct lk_tcp_options *options);
 
@@ -942,8 +958,8 @@ int lk_find_ndisc(const uint8_t *frame, size_t len, struct lk_ndisc *ndisc);
 
 /* Writes a whole frame with a neighbour solicitation or advertisement, 78 bytes, or 86 with the option. Uses
  * `ethernet.src`, `ethernet.dst`, `src.addr` and `dst.addr` of `headers`. The hop limit is 255; traffic class and flow
- * label are 0. Fails with LK_NO_VERSION unless `src.addr`, `dst.addr` and `target` are IPv6 addresses, and with
- * LK_NO_ROOM. What lk_find_ndisc rejects for its addresses or flags is written too. */
+ * label are 0. Fails with LK_NO_VERSION unless `src.addr`, `dst.addr` and `target` are IPv6 addresses, with LK_BAD_FIELD
+ * if lk_find_ndisc would reject the message for its addresses or flags, and with LK_NO_ROOM. */
 ptrdiff_t lk_emit_ndisc_frame(const struct lk_frame *headers, const struct lk_ndisc *ndisc, uint8_t *out, size_t cap);
 
 /* ---- multicast listener discovery ---- */
@@ -1383,10 +1399,10 @@ size_t lk_expire_reassembly(struct lk_reassembly *reassemblies, size_t count, co
  *   changed. Not supported: a Home Address option (RFC 6275), whose address the checksum covers instead of the source.
  * - Of the Ethernet header only the EtherType is used. For a frame with VLAN tags give `frame + link.offset - 14`, where
  *   `link` is that of lk_read_link. lk_clamp_mss takes these too.
- * - A packet without an Ethernet header needs no copy if at least 14 bytes of the same buffer are before it: write the
- *   EtherType, LK_ETHERTYPE_IPV4 or LK_ETHERTYPE_IPV6, in network byte order to the two bytes before the packet, and
- *   give `packet - 14` and 14 bytes more as `len`. So read a TUN device to `buffer + 14`. In a Linux cooked capture
- *   (LINKTYPE_LINUX_SLL) these two bytes have the EtherType.
+ * - A packet without an Ethernet header needs no copy if LK_ETHERNET_HEADER_LEN bytes of the same buffer are before it. So
+ *   read a TUN device to `buffer + LK_ETHERNET_HEADER_LEN`, and write an Ethernet header to `buffer` by lk_emit_ethernet:
+ *   lk_read_linktype stores its type, also for LK_LINKTYPE_RAW. In a Linux cooked capture (LK_LINKTYPE_LINUX_SLL) the last
+ *   two bytes of the header are the EtherType already.
  * - The checksum of TCP or UDP is updated as one that covers the destination in the header. If an IPv4 source route has
  *   hops left, it covers the last address of the route: a new destination then makes a valid one wrong.
  * - Any `side` but LK_SOURCE is the destination.

@@ -35,7 +35,36 @@ func (h *Headers) EmitICMP(payload, out []byte) ([]byte, error) {
 	return written(out, C.lk_emit_icmp_frame(&frame, ptr, length, to, room))
 }
 
-// EmitARP does the same with an ARP packet, in 42 bytes. Its IPv4 addresses are those of Src and Dst.
+// EmitUDPInIP writes an IP packet with UDP, without Ethernet, as for a TUN device. It is the frame of EmitUDP without
+// its first 14 bytes.
+func (h *Headers) EmitUDPInIP(payload, out []byte) ([]byte, error) {
+	frame := h.c()
+	ptr, length := memory(payload)
+	to, room := memory(out)
+	return written(out, C.lk_emit_udp_packet(&frame, ptr, length, to, room))
+}
+
+// EmitTCPInIP does the same with TCP.
+func (h *Headers) EmitTCPInIP(options *TCPOptions, payload, out []byte) ([]byte, error) {
+	frame := h.c()
+	set, err := options.c()
+	if err != nil {
+		return nil, err
+	}
+	ptr, length := memory(payload)
+	to, room := memory(out)
+	return written(out, C.lk_emit_tcp_packet(&frame, &set, ptr, length, to, room))
+}
+
+// EmitICMPInIP does the same with an ICMP message.
+func (h *Headers) EmitICMPInIP(payload, out []byte) ([]byte, error) {
+	frame := h.c()
+	ptr, length := memory(payload)
+	to, room := memory(out)
+	return written(out, C.lk_emit_icmp_packet(&frame, ptr, length, to, room))
+}
+
+// EmitARP writes a frame as EmitUDP does, with an ARP packet, in 42 bytes. Its IPv4 addresses are those of Src and Dst.
 func (h *Headers) EmitARP(out []byte) ([]byte, error) {
 	frame := h.c()
 	to, room := memory(out)

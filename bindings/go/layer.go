@@ -83,6 +83,25 @@ func (h *Headers) WrapTCP(options *TCPOptions, payloadLen int, out []byte) ([]by
 	return written(out, C.lk_wrap_tcp_frame(&frame, &set, C.size_t(payloadLen), to, room))
 }
 
+// WrapUDPInIP writes the headers of an IP packet with UDP, without Ethernet, before a payload that is in out already. The
+// payload begins 14 bytes before that of WrapUDP.
+func (h *Headers) WrapUDPInIP(payloadLen int, out []byte) ([]byte, error) {
+	frame := h.c()
+	to, room := memory(out)
+	return written(out, C.lk_wrap_udp_packet(&frame, C.size_t(payloadLen), to, room))
+}
+
+// WrapTCPInIP does the same with TCP.
+func (h *Headers) WrapTCPInIP(options *TCPOptions, payloadLen int, out []byte) ([]byte, error) {
+	frame := h.c()
+	set, err := options.c()
+	if err != nil {
+		return nil, err
+	}
+	to, room := memory(out)
+	return written(out, C.lk_wrap_tcp_packet(&frame, &set, C.size_t(payloadLen), to, room))
+}
+
 // Ndisc is a neighbour solicitation or advertisement (RFC 4861, sections 4.3 and 4.4). A solicitation has no flags.
 type Ndisc struct {
 	Target      netip.Addr
@@ -110,7 +129,8 @@ func ReadNdisc(frame []byte) (Ndisc, bool) {
 }
 
 // Emit writes a whole frame with the message, of 78 bytes, or 86 with the option, to the beginning of out, and returns this
-// part of it. The hop limit is 255. The error is NoVersion unless all addresses are IPv6, or NoRoom.
+// part of it. The hop limit is 255. The error is NoVersion unless all addresses are IPv6, BadField if
+// ReadNdisc would reject the message for its addresses or flags, or NoRoom.
 func (n *Ndisc) Emit(ethernet Ethernet, src, dst netip.Addr, out []byte) ([]byte, error) {
 	headers := Headers{Ethernet: ethernet, Src: netip.AddrPortFrom(src, 0), Dst: netip.AddrPortFrom(dst, 0)}
 	frame := headers.c()

@@ -69,6 +69,30 @@ func TestLayers(t *testing.T) {
 		if _, err := h.WrapTCP(&TCPOptions{SackRanges: make([]SackRange, 5)}, 0, make([]byte, 99)); err != OptionsTooLong {
 			t.Error(err)
 		}
+		udp, inIP := joined(t, func(out []byte) ([]byte, error) { return h.EmitUDP(payload, out) }), make([]byte, 200)
+		for name, emit := range map[string]func([]byte) ([]byte, error){
+			"emitted": func(out []byte) ([]byte, error) { return h.EmitUDPInIP(payload, out) },
+			"wrapped": func(out []byte) ([]byte, error) { return h.WrapUDPInIP(4, out) },
+		} {
+			copy(inIP[start-14+8:], payload)
+			if packet, err := emit(inIP); err != nil || !bytes.Equal(packet, udp[14:]) {
+				t.Errorf("%s: %x, %v", name, packet, err)
+			}
+		}
+		tcp := joined(t, func(out []byte) ([]byte, error) { return h.EmitTCP(options, payload, out) })
+		for name, emit := range map[string]func([]byte) ([]byte, error){
+			"emitted": func(out []byte) ([]byte, error) { return h.EmitTCPInIP(options, payload, out) },
+			"wrapped": func(out []byte) ([]byte, error) { return h.WrapTCPInIP(options, 4, out) },
+		} {
+			copy(inIP[start-14+28:], payload)
+			if packet, err := emit(inIP); err != nil || !bytes.Equal(packet, tcp[14:]) {
+				t.Errorf("%s: %x, %v", name, packet, err)
+			}
+		}
+		echo := joined(t, func(out []byte) ([]byte, error) { return h.EmitICMP(payload, out) })
+		if packet, err := h.EmitICMPInIP(payload, inIP); err != nil || !bytes.Equal(packet, echo[14:]) {
+			t.Errorf("%x, %v", packet, err)
+		}
 		if _, err := h.WrapUDP(-1, make([]byte, 99)); err != PayloadTooLong {
 			t.Error(err)
 		}

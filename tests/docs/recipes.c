@@ -52,7 +52,7 @@ static void edit(const uint8_t *bytes, size_t len)
 /* Calls each recipe that only reads a frame. */
 static void inspect(const uint8_t *bytes, size_t len)
 {
-    const struct lk_addr own = addr_of("192.0.2.2");
+    const struct lk_addr own = addr_of("192.0.2.2"), other = addr_of("192.0.2.1");
     uint8_t *frame = copy_of(bytes, len, 0, 0), out[ROOM];
     print("read", frame, (ptrdiff_t)len);
     print_flags(frame, len);
@@ -61,6 +61,9 @@ static void inspect(const uint8_t *bytes, size_t len)
         print_captured(type, frame, len, len + 10);
     for (size_t cap = 0; cap < ROOM; cap += 13)
         pong(&own, frame, len, out, cap);
+    is_pong(&other, &own, 1, frame, len);
+    if (len >= 14)
+        is_pong(&other, &own, 1, frame + 14, len - 14);
     free(frame);
 }
 
@@ -125,6 +128,22 @@ static int is_answered_wrongly(void)
     return faults;
 }
 
+/* Whether a ping over TUN takes its reply, and neither itself nor the reply to another one. */
+static int is_ping_right(const char *from, const char *to, uint8_t reply)
+{
+    const struct lk_addr src = addr_of(from), dst = addr_of(to);
+    uint8_t packet[ROOM];
+    struct lk_frame f;
+    ptrdiff_t len = ping(&src, &dst, 1, packet, sizeof packet);
+    if (len < 0 || is_pong(&src, &dst, 1, packet, (size_t)len) || lk_read_packet(packet, (size_t)len, &f) != LK_READ)
+        return 0;
+    lk_make_reply(&f);
+    f.icmp.type = reply;
+    len = lk_emit_icmp_packet(&f, (const uint8_t *)"ping", 4, packet, sizeof packet);
+    return is_pong(&src, &dst, 1, packet, (size_t)len) && !is_pong(&src, &dst, 2, packet, (size_t)len) &&
+           !is_pong(&dst, &src, 1, packet, (size_t)len);
+}
+
 int main(void)
 {
     struct seed udp, tagged, syn, echo = {{0}, 0};
@@ -143,5 +162,7 @@ int main(void)
     damage_options(&syn);
     if (is_answered_wrongly())
         return fprintf(stderr, "examples/recipes.c: pong replies to what it must not\n"), 1;
+    if (!is_ping_right("192.0.2.1", "192.0.2.2", 0) || !is_ping_right("2001:db8::1", "2001:db8::2", 129))
+        return fprintf(stderr, "examples/recipes.c: a ping over TUN takes a wrong reply\n"), 1;
     return recipes_main();
 }

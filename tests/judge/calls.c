@@ -73,6 +73,20 @@ WRITER(wrap_tcp_frame, (const struct lk_frame *headers, const struct lk_tcp_opti
                         uint8_t *out, size_t cap),
        (headers, options, len, wanted, cap),
        (GIVE(headers), GIVE(options), NUMBER(len), begin_change("out before", out, cap), NUMBER(cap)))
+WRITER(emit_udp_packet, (const struct lk_frame *headers, const uint8_t *ptr, size_t len, uint8_t *out, size_t cap),
+       (headers, ptr, len, wanted, cap), (GIVE(headers), PAYLOAD, OUT))
+WRITER(emit_tcp_packet, (const struct lk_frame *headers, const struct lk_tcp_options *options, const uint8_t *ptr,
+                         size_t len, uint8_t *out, size_t cap),
+       (headers, options, ptr, len, wanted, cap), (GIVE(headers), GIVE(options), PAYLOAD, OUT))
+WRITER(emit_icmp_packet, (const struct lk_frame *headers, const uint8_t *ptr, size_t len, uint8_t *out, size_t cap),
+       (headers, ptr, len, wanted, cap), (GIVE(headers), PAYLOAD, OUT))
+WRITER(wrap_udp_packet, (const struct lk_frame *headers, size_t len, uint8_t *out, size_t cap),
+       (headers, len, wanted, cap),
+       (GIVE(headers), NUMBER(len), begin_change("out before", out, cap), NUMBER(cap)))
+WRITER(wrap_tcp_packet, (const struct lk_frame *headers, const struct lk_tcp_options *options, size_t len,
+                         uint8_t *out, size_t cap),
+       (headers, options, len, wanted, cap),
+       (GIVE(headers), GIVE(options), NUMBER(len), begin_change("out before", out, cap), NUMBER(cap)))
 WRITER(emit_ethernet, (const struct lk_ethernet *header, uint8_t *out, size_t cap), (header, wanted, cap),
        (GIVE(header), OUT))
 WRITER(emit_arp, (const struct lk_arp *header, const struct lk_addr *src, const struct lk_addr *dst, uint8_t *out,

@@ -37,6 +37,8 @@ static void emit_icmp_frame(const struct lk_frame *headers)
     fill(payload, placed_len(len));
     cap = any_cap(model_emit_icmp_frame(headers, payload, len, measured, sizeof measured));
     both_emit_icmp_frame(headers, payload, len, any_out(cap), cap);
+    cap = any_cap(model_emit_icmp_packet(headers, payload, len, measured, sizeof measured));
+    both_emit_icmp_packet(headers, payload, len, any_out(cap), cap);
 }
 
 /* Any number but 0 means that a checksum is computed. */

@@ -125,7 +125,7 @@ static void fill_payload(const struct lk_endpoint *src, const struct lk_endpoint
     put_word(payload, get_word(packet + 6));
 }
 
-/* ---- whole frames ---- */
+/* ---- whole frames and packets ---- */
 
 static void emit_udp_frame(const struct lk_frame *headers)
 {
@@ -133,6 +133,8 @@ static void emit_udp_frame(const struct lk_frame *headers)
     fill_payload(&headers->src, &headers->dst, len);
     cap = any_cap(model_emit_udp_frame(headers, payload, len, measured, sizeof measured));
     both_emit_udp_frame(headers, payload, len, any_out(cap), cap);
+    cap = any_cap(model_emit_udp_packet(headers, payload, len, measured, sizeof measured));
+    both_emit_udp_packet(headers, payload, len, any_out(cap), cap);
 }
 
 static void emit_tcp_frame(const struct lk_frame *headers)
@@ -142,6 +144,8 @@ static void emit_tcp_frame(const struct lk_frame *headers)
     fill(payload, placed_len(len));
     cap = any_cap(model_emit_tcp_frame(headers, &options, payload, len, measured, sizeof measured));
     both_emit_tcp_frame(headers, &options, payload, len, any_out(cap), cap);
+    cap = any_cap(model_emit_tcp_packet(headers, &options, payload, len, measured, sizeof measured));
+    both_emit_tcp_packet(headers, &options, payload, len, any_out(cap), cap);
 }
 
 static void emit_arp_frame(const struct lk_frame *headers)
@@ -163,6 +167,8 @@ static void wrap_udp_frame(const struct lk_frame *headers)
     size_t len = any_payload_len(limit_of(headers, 8));
     size_t cap = any_cap(model_emit_udp_frame(headers, payload, len, measured, sizeof measured));
     both_wrap_udp_frame(headers, len, any_out(cap), cap);
+    cap = any_cap(model_emit_udp_packet(headers, payload, len, measured, sizeof measured));
+    both_wrap_udp_packet(headers, len, any_out(cap), cap);
 }
 
 static void wrap_tcp_frame(const struct lk_frame *headers)
@@ -171,6 +177,8 @@ static void wrap_tcp_frame(const struct lk_frame *headers)
     size_t len = any_payload_len(limit_of(headers, 20 + options_len(&options) % 44));
     size_t cap = any_cap(model_emit_tcp_frame(headers, &options, payload, len, measured, sizeof measured));
     both_wrap_tcp_frame(headers, &options, len, any_out(cap), cap);
+    cap = any_cap(model_emit_tcp_packet(headers, &options, payload, len, measured, sizeof measured));
+    both_wrap_tcp_packet(headers, &options, len, any_out(cap), cap);
 }
 
 void wrap_frame(void)

@@ -65,6 +65,7 @@ void same_options(const struct lk_tcp_options *wanted, const struct lk_tcp_optio
 
 #define BOTH(call) extern __typeof__(lk_##call) both_##call
 BOTH(emit_udp_frame); BOTH(emit_tcp_frame); BOTH(emit_icmp_frame); BOTH(emit_arp_frame); BOTH(emit_ndisc_frame);
+BOTH(emit_udp_packet); BOTH(emit_tcp_packet); BOTH(emit_icmp_packet); BOTH(wrap_udp_packet); BOTH(wrap_tcp_packet);
 BOTH(wrap_udp_frame); BOTH(wrap_tcp_frame); BOTH(emit_ethernet); BOTH(emit_arp); BOTH(emit_ip); BOTH(emit_udp);
 BOTH(emit_tcp); BOTH(emit_icmp); BOTH(emit_icmp_error); BOTH(rebuild); BOTH(answer); BOTH(print_addr);
 BOTH(print_prefix); BOTH(print_endpoint); BOTH(print_mac); BOTH(print_frame); BOTH(read_frame); BOTH(read_packet);

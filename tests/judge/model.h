@@ -128,6 +128,15 @@ ptrdiff_t model_emit_icmp_frame(const struct lk_frame *headers, const uint8_t *p
 ptrdiff_t model_wrap_udp_frame(const struct lk_frame *headers, size_t len, uint8_t *out, size_t cap);
 ptrdiff_t model_wrap_tcp_frame(const struct lk_frame *headers, const struct lk_tcp_options *options, size_t len,
                                uint8_t *out, size_t cap);
+ptrdiff_t model_emit_udp_packet(const struct lk_frame *headers, const uint8_t *ptr, size_t len, uint8_t *out,
+                                size_t cap);
+ptrdiff_t model_emit_tcp_packet(const struct lk_frame *headers, const struct lk_tcp_options *options,
+                                const uint8_t *ptr, size_t len, uint8_t *out, size_t cap);
+ptrdiff_t model_emit_icmp_packet(const struct lk_frame *headers, const uint8_t *ptr, size_t len, uint8_t *out,
+                                 size_t cap);
+ptrdiff_t model_wrap_udp_packet(const struct lk_frame *headers, size_t len, uint8_t *out, size_t cap);
+ptrdiff_t model_wrap_tcp_packet(const struct lk_frame *headers, const struct lk_tcp_options *options, size_t len,
+                                uint8_t *out, size_t cap);
 ptrdiff_t model_tcp_header_len(const struct lk_tcp_options *options);
 ptrdiff_t model_emit_arp_frame(const struct lk_frame *headers, uint8_t *out, size_t cap);
 ptrdiff_t model_emit_ethernet(const struct lk_ethernet *header, uint8_t *out, size_t cap);

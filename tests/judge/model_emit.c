@@ -68,7 +68,7 @@ static void check_tcp(struct failures *failures, const struct lk_tcp *tcp, const
     failures->applies[OPTIONS_TOO_LONG] = options->sack_range_count > 4 || options_len(options) > 40;
 }
 
-/* A whole frame: the packet is no fragment, and has the lengths of a header and its payload to say. */
+/* A whole packet, in a frame or not: it is no fragment, and has the lengths of a header and its payload to say. */
 static void check_frame(struct failures *failures, const struct lk_frame *headers, size_t header_len, size_t len)
 {
     unsigned version = headers->src.addr.version;
@@ -190,93 +190,113 @@ size_t put_icmp(const struct lk_icmp *header, const struct lk_addr *src, const s
     return 8 + len;
 }
 
-/* ---- whole frames ---- */
+/* ---- whole frames and packets ---- */
 
 static size_t ip_header_len(const struct lk_frame *headers)
 {
     return headers->src.addr.version == 4 ? 20 : 40;
 }
 
-static size_t put_headers(const struct lk_frame *headers, unsigned protocol, size_t payload_len, uint8_t *out)
+/* The length of an Ethernet header, or of none. */
+enum link { PACKET = 0, FRAME = 14 };
+
+static size_t put_headers(const struct lk_frame *headers, enum link link, unsigned protocol, size_t payload_len, uint8_t *out)
 {
-    size_t len = put_ethernet(&headers->ethernet, headers->src.addr.version == 4 ? 0x0800 : 0x86dd, out);
+    unsigned type = headers->src.addr.version == 4 ? 0x0800 : 0x86dd;
+    size_t len = link == FRAME ? put_ethernet(&headers->ethernet, type, out) : 0;
     return len + put_ip(&headers->ip, &headers->src.addr, &headers->dst.addr, protocol, payload_len, 1, out + len);
 }
 
-static ptrdiff_t udp_frame_failure(const struct lk_frame *headers, size_t len, size_t cap)
+static ptrdiff_t udp_failure(const struct lk_frame *headers, enum link link, size_t len, size_t cap)
 {
     struct failures failures = {{0}};
     check_frame(&failures, headers, 8, len);
     failures.applies[NO_PORT] = headers->dst.port == 0;
-    return with_room(&failures, 14 + ip_header_len(headers) + 8 + len, cap);
+    return with_room(&failures, link + ip_header_len(headers) + 8 + len, cap);
 }
 
-static ptrdiff_t tcp_frame_failure(const struct lk_frame *headers, const struct lk_tcp_options *options, size_t len,
-                                   size_t cap)
+static ptrdiff_t tcp_failure(const struct lk_frame *headers, enum link link, const struct lk_tcp_options *options,
+                             size_t len, size_t cap)
 {
     struct failures failures = {{0}};
     size_t header_len = 20 + options_len(options);
     check_frame(&failures, headers, header_len, len);
     check_tcp(&failures, &headers->tcp, options, &headers->src, &headers->dst);
-    return with_room(&failures, 14 + ip_header_len(headers) + header_len + len, cap);
+    return with_room(&failures, link + ip_header_len(headers) + header_len + len, cap);
 }
 
-ptrdiff_t model_emit_udp_frame(const struct lk_frame *headers, const uint8_t *ptr, size_t len, uint8_t *out,
+static ptrdiff_t put_whole_udp(const struct lk_frame *headers, enum link link, const uint8_t *ptr, size_t len, uint8_t *out,
                                size_t cap)
 {
-    ptrdiff_t failure = udp_frame_failure(headers, len, cap);
+    ptrdiff_t failure = udp_failure(headers, link, len, cap);
     size_t at;
     if (failure)
         return failure;
-    at = put_headers(headers, 17, 8 + len, out);
+    at = put_headers(headers, link, 17, 8 + len, out);
     return (ptrdiff_t)(at + put_udp(&headers->src, &headers->dst, ptr, len, 1, out + at));
 }
 
-ptrdiff_t model_emit_tcp_frame(const struct lk_frame *headers, const struct lk_tcp_options *options,
+static ptrdiff_t put_whole_tcp(const struct lk_frame *headers, enum link link, const struct lk_tcp_options *options,
                                const uint8_t *ptr, size_t len, uint8_t *out, size_t cap)
 {
-    ptrdiff_t failure = tcp_frame_failure(headers, options, len, cap);
+    ptrdiff_t failure = tcp_failure(headers, link, options, len, cap);
     size_t at;
     if (failure)
         return failure;
-    at = put_headers(headers, 6, 20 + options_len(options) + len, out);
+    at = put_headers(headers, link, 6, 20 + options_len(options) + len, out);
     return (ptrdiff_t)(at + put_tcp(&headers->tcp, options, 1, &headers->src, &headers->dst, ptr, len, 1, out + at));
 }
 
-ptrdiff_t model_emit_icmp_frame(const struct lk_frame *headers, const uint8_t *ptr, size_t len, uint8_t *out,
+static ptrdiff_t put_whole_icmp(const struct lk_frame *headers, enum link link, const uint8_t *ptr, size_t len, uint8_t *out,
                                 size_t cap)
 {
     struct failures failures = {{0}};
     ptrdiff_t failure;
     size_t at;
     check_frame(&failures, headers, 8, len);
-    failure = with_room(&failures, 14 + ip_header_len(headers) + 8 + len, cap);
+    failure = with_room(&failures, link + ip_header_len(headers) + 8 + len, cap);
     if (failure)
         return failure;
-    at = put_headers(headers, headers->src.addr.version == 4 ? 1 : 58, 8 + len, out);
+    at = put_headers(headers, link, headers->src.addr.version == 4 ? 1 : 58, 8 + len, out);
     return (ptrdiff_t)(at + put_icmp(&headers->icmp, &headers->src.addr, &headers->dst.addr, ptr, len, 1, out + at));
 }
 
-ptrdiff_t model_wrap_udp_frame(const struct lk_frame *headers, size_t len, uint8_t *out, size_t cap)
+/* A payload in place is moved away, and written as one that is given. */
+static ptrdiff_t wrap_whole_udp(const struct lk_frame *headers, enum link link, size_t len, uint8_t *out, size_t cap)
 {
     static uint8_t payload[MODEL_ROOM];
-    ptrdiff_t failure = udp_frame_failure(headers, len, cap);
+    ptrdiff_t failure = udp_failure(headers, link, len, cap);
     if (failure)
         return failure;
-    memcpy(payload, out + (headers->src.addr.version == 4 ? 42 : 62), len);
-    return model_emit_udp_frame(headers, payload, len, out, cap);
+    memcpy(payload, out + link + ip_header_len(headers) + 8, len);
+    return put_whole_udp(headers, link, payload, len, out, cap);
 }
 
-ptrdiff_t model_wrap_tcp_frame(const struct lk_frame *headers, const struct lk_tcp_options *options, size_t len,
-                               uint8_t *out, size_t cap)
+static ptrdiff_t wrap_whole_tcp(const struct lk_frame *headers, enum link link, const struct lk_tcp_options *options,
+                                size_t len, uint8_t *out, size_t cap)
 {
     static uint8_t payload[MODEL_ROOM];
-    ptrdiff_t failure = tcp_frame_failure(headers, options, len, cap);
+    ptrdiff_t failure = tcp_failure(headers, link, options, len, cap);
     if (failure)
         return failure;
-    memcpy(payload, out + (headers->src.addr.version == 4 ? 34 : 54) + model_tcp_header_len(options), len);
-    return model_emit_tcp_frame(headers, options, payload, len, out, cap);
+    memcpy(payload, out + link + ip_header_len(headers) + model_tcp_header_len(options), len);
+    return put_whole_tcp(headers, link, options, payload, len, out, cap);
 }
+
+/* Each call with Ethernet, and without. */
+#define BOTH_LINKS(name, parameters, function, ...)                                                     \
+    ptrdiff_t model_##name##_frame parameters { return function(headers, FRAME, __VA_ARGS__, out, cap); }  \
+    ptrdiff_t model_##name##_packet parameters { return function(headers, PACKET, __VA_ARGS__, out, cap); }
+
+BOTH_LINKS(emit_udp, (const struct lk_frame *headers, const uint8_t *ptr, size_t len, uint8_t *out, size_t cap),
+           put_whole_udp, ptr, len)
+BOTH_LINKS(emit_tcp, (const struct lk_frame *headers, const struct lk_tcp_options *options, const uint8_t *ptr, size_t len,
+                      uint8_t *out, size_t cap), put_whole_tcp, options, ptr, len)
+BOTH_LINKS(emit_icmp, (const struct lk_frame *headers, const uint8_t *ptr, size_t len, uint8_t *out, size_t cap),
+           put_whole_icmp, ptr, len)
+BOTH_LINKS(wrap_udp, (const struct lk_frame *headers, size_t len, uint8_t *out, size_t cap), wrap_whole_udp, len)
+BOTH_LINKS(wrap_tcp, (const struct lk_frame *headers, const struct lk_tcp_options *options, size_t len, uint8_t *out,
+                      size_t cap), wrap_whole_tcp, options, len)
 
 ptrdiff_t model_tcp_header_len(const struct lk_tcp_options *options)
 {

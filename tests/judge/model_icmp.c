@@ -98,6 +98,8 @@ ptrdiff_t model_emit_ndisc_frame(const struct lk_frame *headers, const struct lk
     size_t len = ndisc->has_hardware ? 32 : 24;
     if (headers->src.addr.version != 6 || headers->dst.addr.version != 6 || ndisc->target.version != 6)
         return LK_NO_VERSION;
+    if (!is_allowed(ndisc, &headers->src.addr, &headers->dst.addr))
+        return LK_BAD_FIELD;
     ip.hop_limit = 255;
     put_ethernet(&headers->ethernet, 0x86dd, octets);
     put_ip(&ip, &headers->src.addr, &headers->dst.addr, 58, len, 1, octets + 14);

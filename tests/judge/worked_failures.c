@@ -115,6 +115,11 @@ BY(emit_ndisc_frame, &in->frame, &in->ndisc, WRITTEN)
 BY(emit_mld_report, &in->frame, WRITTEN)
 BY(wrap_udp_frame, &in->frame, in->payload_len, WRITTEN)
 BY(wrap_tcp_frame, &in->frame, &in->options, in->payload_len, WRITTEN)
+BY(emit_udp_packet, &in->frame, DATA, WRITTEN)
+BY(emit_tcp_packet, &in->frame, &in->options, DATA, WRITTEN)
+BY(emit_icmp_packet, &in->frame, DATA, WRITTEN)
+BY(wrap_udp_packet, &in->frame, in->payload_len, WRITTEN)
+BY(wrap_tcp_packet, &in->frame, &in->options, in->payload_len, WRITTEN)
 BY(rebuild, in->packet.at, in->packet_len, WRITTEN)
 BY(answer, &in->host, in->packet.at, in->packet_len, WRITTEN)
 BY(emit_icmp_error, &in->own, LK_PROHIBITED, 0, in->packet.at, in->packet_len, WRITTEN)
@@ -156,6 +161,11 @@ static const struct {
     {by_emit_mld_report, TWO, 6},
     {by_wrap_udp_frame, HEADER | BIT(DST_PORT), 0},
     {by_wrap_tcp_frame, HEADER | TCP, 0},
+    {by_emit_udp_packet, HEADER | BIT(DST_PORT), 0},
+    {by_emit_tcp_packet, HEADER | TCP, 0},
+    {by_emit_icmp_packet, HEADER, 0},
+    {by_wrap_udp_packet, HEADER | BIT(DST_PORT), 0},
+    {by_wrap_tcp_packet, HEADER | TCP, 0},
     {by_rebuild, BIT(LENGTH) | BIT(ROOM_LEFT), 0},
     {by_answer, TWO | BIT(LENGTH), 0},
     {by_emit_icmp_error, TWO | BIT(LENGTH), 0},

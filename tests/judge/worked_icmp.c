@@ -143,6 +143,29 @@ static void read_neighbours(void)
     CHECK(both_find_ndisc(solicit.at, 85, &n) == 0);
 }
 
+/* What receivers reject (RFC 4861, sections 7.1.1 and 7.1.2): a group as target; from `::` an option, or a destination that
+ * is no solicited-node group; a solicited advertisement to a group. */
+static void reject_neighbours(struct lk_frame f, struct lk_frame probe_headers, struct lk_ndisc asked, struct lk_ndisc told)
+{
+    struct lk_frame to_all = f;
+    size_t cap = sizeof out;
+    asked.target.octets[0] = 0xff;
+    CHECK(both_emit_ndisc_frame(&f, &asked, out, cap) == LK_BAD_FIELD);
+    asked.target.octets[0] = 0xfe;
+    CHECK(both_emit_ndisc_frame(&f, &asked, out, cap) > 0);
+    asked.has_hardware = 1;
+    CHECK(both_emit_ndisc_frame(&probe_headers, &asked, out, cap) == LK_BAD_FIELD);
+    asked.has_hardware = 0;
+    CHECK(both_emit_ndisc_frame(&probe_headers, &asked, out, cap) > 0);
+    probe_headers.dst.addr.octets[15] = 1, probe_headers.dst.addr.octets[12] = 0;
+    CHECK(both_emit_ndisc_frame(&probe_headers, &asked, out, cap) == LK_BAD_FIELD);
+    to_all.dst.addr = addr("ff02::1");
+    told.is_solicited = 1;
+    CHECK(both_emit_ndisc_frame(&to_all, &told, out, cap) == LK_BAD_FIELD);
+    told.is_solicited = 0;
+    CHECK(both_emit_ndisc_frame(&to_all, &told, out, cap) > 0);
+}
+
 static void write_neighbours(void)
 {
     struct lk_frame f = read(&solicit), g = read(&advert), h = read(&probe);
@@ -159,6 +182,7 @@ static void write_neighbours(void)
     told.overrides = 200;
     WRITES(advert, both_emit_ndisc_frame(&g, &told, out, cap));
     WRITES(probe, both_emit_ndisc_frame(&h, &probed, out, cap));
+    reject_neighbours(f, h, asked, told);
 }
 
 /* ---- errors ---- */

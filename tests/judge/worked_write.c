@@ -257,6 +257,15 @@ static void frames(void)
     WRAPS(octets(tcp6_hex), 54 + 48, both_wrap_tcp_frame(&ipv6, &all, 5, out, cap));
     WRITES(octets("0600aabbccdd02000000000108060001080006040002020000000001c00002010600aabbccddc6336407"),
            both_emit_arp_frame(&ipv4, out, cap));
+    /* The packets are what follows the 14 bytes of Ethernet, 28 digits. */
+    WRITES(octets(udp4_hex + 28), both_emit_udp_packet(&ipv4, payload, 5, out, cap));
+    WRITES(octets(udp6_hex + 28), both_emit_udp_packet(&ipv6, payload, 5, out, cap));
+    WRITES(octets(tcp4_hex + 28), both_emit_tcp_packet(&ipv4, &all, payload, 5, out, cap));
+    WRITES(octets(tcp6_hex + 28), both_emit_tcp_packet(&ipv6, &all, payload, 5, out, cap));
+    WRAPS(octets(udp4_hex + 28), 28, both_wrap_udp_packet(&ipv4, 5, out, cap));
+    WRAPS(octets(udp6_hex + 28), 48, both_wrap_udp_packet(&ipv6, 5, out, cap));
+    WRAPS(octets(tcp4_hex + 28), 20 + 48, both_wrap_tcp_packet(&ipv4, &all, 5, out, cap));
+    WRAPS(octets(tcp6_hex + 28), 40 + 48, both_wrap_tcp_packet(&ipv6, &all, 5, out, cap));
 }
 
 /* A call writes `written` bytes with a payload of `most` bytes, if there is room, and rejects one byte more. */
@@ -294,6 +303,12 @@ static void longest_packets(void)
     AT_MOST(65527, 54 + 65535, both_wrap_udp_frame(&v6, len, room, cap));
     AT_MOST(65455, 14 + 65535, both_wrap_tcp_frame(&v4, &full, len, room, cap));
     AT_MOST(65515, 54 + 65535, both_wrap_tcp_frame(&v6, &none, len, room, cap));
+    AT_MOST(65507, 65535, both_emit_udp_packet(&v4, zeros, len, room, cap));
+    AT_MOST(65527, 40 + 65535, both_emit_udp_packet(&v6, zeros, len, room, cap));
+    AT_MOST(65495, 65535, both_emit_tcp_packet(&v4, &none, zeros, len, room, cap));
+    AT_MOST(65475, 40 + 65535, both_emit_tcp_packet(&v6, &full, zeros, len, room, cap));
+    AT_MOST(65507, 65535, both_wrap_udp_packet(&v4, len, room, cap));
+    AT_MOST(65515, 40 + 65535, both_wrap_tcp_packet(&v6, &none, len, room, cap));
     CHECK(both_tcp_header_len(&full) == 60);
     full.has_window_scale = 1;
     CHECK(both_tcp_header_len(&full) == LK_OPTIONS_TOO_LONG);

@@ -34,7 +34,7 @@ def parse_ndisc(frame: Data) -> Optional[Ndisc]:
 
 
 def emit_ndisc(ethernet: Ethernet, src: IPv6Address, dst: IPv6Address, ndisc: Ndisc) -> bytes:
-    """Writes a whole frame with a message. The hop limit is 255."""
+    """Writes a whole frame with a message that `parse_ndisc` takes. The hop limit is 255."""
     headers = Headers(ethernet, Endpoint(src, 0), Endpoint(dst, 0))
     return written(86, "lk_emit_ndisc_frame", headers, ndisc)
 

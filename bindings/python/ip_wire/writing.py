@@ -14,25 +14,28 @@ Buffer = Union[bytearray, memoryview]
 _ETHERNET, _IP, _TCP, _UDP = 14, 40, 60, 8  # the longest headers, in bytes
 
 
-# ---- whole frames: EtherType, protocol, lengths and checksums are filled in
+# ---- whole frames, or IP packets if not `framed`: EtherType, protocol, lengths and checksums are filled in
 
 
-def emit_udp(headers: Headers, payload: Data) -> bytes:
-    """Writes a whole frame with a UDP packet."""
+def emit_udp(headers: Headers, payload: Data, *, framed: bool = True) -> bytes:
+    """Writes a whole frame with a UDP packet. If not `framed`, the IP packet without Ethernet, as for a TUN device."""
     data, frame = data_of(payload), to_c(c.Frame, headers, "headers")
-    return written(_ETHERNET + _IP + _UDP + len(data), "lk_emit_udp_frame", frame, data)
+    return written(_ETHERNET + _IP + _UDP + len(data), "lk_emit_udp_frame" if framed else "lk_emit_udp_packet", frame, data)
 
 
-def emit_tcp(headers: Headers, tcp: Tcp, options: TcpOptions = TcpOptions(), payload: Data = b"") -> bytes:
-    """Writes a whole frame with a TCP segment."""
+def emit_tcp(
+    headers: Headers, tcp: Tcp, options: TcpOptions = TcpOptions(), payload: Data = b"", *, framed: bool = True
+) -> bytes:
+    """Writes a whole frame with a TCP segment. If not `framed`, the IP packet without Ethernet."""
     data, frame = data_of(payload), to_c(c.Frame, headers, "headers", tcp=tcp)
-    return written(_ETHERNET + _IP + _TCP + len(data), "lk_emit_tcp_frame", frame, options_to_c(options), data)
+    name = "lk_emit_tcp_frame" if framed else "lk_emit_tcp_packet"
+    return written(_ETHERNET + _IP + _TCP + len(data), name, frame, options_to_c(options), data)
 
 
-def emit_icmp(headers: Headers, icmp: Icmp, payload: Data = b"") -> bytes:
-    """Writes a whole frame with an ICMP message. The ports are not used."""
+def emit_icmp(headers: Headers, icmp: Icmp, payload: Data = b"", *, framed: bool = True) -> bytes:
+    """Writes a whole frame with an ICMP message. The ports are not used. If not `framed`, the IP packet without Ethernet."""
     data, frame = data_of(payload), to_c(c.Frame, headers, "headers", icmp=icmp)
-    return written(_ETHERNET + _IP + _UDP + len(data), "lk_emit_icmp_frame", frame, data)
+    return written(_ETHERNET + _IP + _UDP + len(data), "lk_emit_icmp_frame" if framed else "lk_emit_icmp_packet", frame, data)
 
 
 def emit_arp(ethernet: Ethernet, arp: Arp) -> bytes:
@@ -67,18 +70,22 @@ def fragments(frame: Data, mtu: int, ident: Union[int, None] = None) -> Iterator
 # ---- headers before a payload that is in a buffer already
 
 
-def wrap_udp(headers: Headers, payload_len: int, out: Buffer) -> int:
+def wrap_udp(headers: Headers, payload_len: int, out: Buffer, *, framed: bool = True) -> int:
     """Writes the headers of a frame with UDP, and returns its length. The payload begins at byte 42 of `out` over IPv4,
-    and at byte 62 over IPv6."""
+    and at byte 62 over IPv6. If not `framed`, the headers of an IP packet, and the payload begins 14 bytes before."""
     frame = to_c(c.Frame, headers, "headers")
-    return succeeded(call("lk_wrap_udp_frame", frame, payload_len, _buffer(out)))
+    return succeeded(call("lk_wrap_udp_frame" if framed else "lk_wrap_udp_packet", frame, payload_len, _buffer(out)))
 
 
-def wrap_tcp(headers: Headers, tcp: Tcp, options: TcpOptions, payload_len: int, out: Buffer) -> int:
+def wrap_tcp(
+    headers: Headers, tcp: Tcp, options: TcpOptions, payload_len: int, out: Buffer, *, framed: bool = True
+) -> int:
     """Writes the headers of a frame with TCP, and returns its length. The payload begins at byte 34 of `out` over IPv4,
-    and at byte 54 over IPv6, plus `tcp_header_len(options)`."""
+    and at byte 54 over IPv6, plus `tcp_header_len(options)`. If not `framed`, the headers of an IP packet, and the payload
+    begins 14 bytes before."""
     frame = to_c(c.Frame, headers, "headers", tcp=tcp)
-    return succeeded(call("lk_wrap_tcp_frame", frame, options_to_c(options), payload_len, _buffer(out)))
+    name = "lk_wrap_tcp_frame" if framed else "lk_wrap_tcp_packet"
+    return succeeded(call(name, frame, options_to_c(options), payload_len, _buffer(out)))
 
 
 def _buffer(out: Buffer) -> Any:

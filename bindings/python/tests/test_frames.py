@@ -340,6 +340,8 @@ class Writing(unittest.TestCase):
         answer = ip_wire.parse_ndisc(host.answer(ip_wire.emit_ndisc(own, client, server, Ndisc(server, CLIENT))))
         self.assertEqual((answer.target, answer.hardware, answer.is_solicited), (server, SERVER, True))
         self.assertRaisesRegex(WireError, "LK_NO_VERSION", ip_wire.emit_ndisc, own, client, server, Ndisc(IPV4.src.addr))
+        group = Ndisc(ip_address("ff02::1"))
+        self.assertRaisesRegex(WireError, "LK_BAD_FIELD", ip_wire.emit_ndisc, own, client, server, group)
         self.assertRaises(ValueError, ip_wire.emit_ndisc, own, client, server, Ndisc(server, b"12345"))
 
     def test_errors(self):
@@ -370,11 +372,22 @@ class Writing(unittest.TestCase):
             out = bytearray(start) + b"ping!"
             self.assertEqual(ip_wire.wrap_udp(headers, 4, out), start + 4)
             self.assertEqual(out, ip_wire.emit_udp(headers, b"ping") + b"!")
+            packet = bytearray(start - 14) + b"ping"
+            self.assertEqual(ip_wire.wrap_udp(headers, 4, packet, framed=False), len(packet))
+            self.assertEqual(packet, out[14:-1])
+            self.assertEqual(ip_wire.emit_udp(headers, b"ping", framed=False), packet)
+            self.assertEqual(ip_wire.parse_packet(packet).payload, b"ping")
+            echo = Icmp(8 if start == 42 else 128)
+            self.assertEqual(ip_wire.emit_icmp(headers, echo, b"ping", framed=False), ip_wire.emit_icmp(headers, echo, b"ping")[14:])
         for headers, start in [(IPV4, 34), (IPV6, 54)]:
             out = bytearray(start + ip_wire.tcp_header_len(OPTIONS)) + b"data"
             length = ip_wire.wrap_tcp(headers, Tcp(1, 2, 3, TcpFlag.ACK), OPTIONS, 4, memoryview(out))
             self.assertEqual(out, ip_wire.emit_tcp(headers, Tcp(1, 2, 3, TcpFlag.ACK), OPTIONS, b"data"))
             self.assertEqual(length, len(out))
+            packet = bytearray(start - 14 + ip_wire.tcp_header_len(OPTIONS)) + b"data"
+            ip_wire.wrap_tcp(headers, Tcp(1, 2, 3, TcpFlag.ACK), OPTIONS, 4, packet, framed=False)
+            self.assertEqual(packet, out[14:])
+            self.assertEqual(ip_wire.emit_tcp(headers, Tcp(1, 2, 3, TcpFlag.ACK), OPTIONS, b"data", framed=False), packet)
         self.assertRaisesRegex(WireError, "LK_NO_ROOM", ip_wire.wrap_udp, IPV4, 4, bytearray(45))
         self.assertRaises(TypeError, ip_wire.wrap_udp, IPV4, 4, bytes(46))
 

@@ -281,6 +281,13 @@ calls! {
     fn lk_wrap_udp_frame(headers: &Frame, len: usize, out: *mut u8, cap: usize) -> isize;
     fn lk_wrap_tcp_frame(headers: &Frame, options: &TcpOptions, len: usize, out: *mut u8, cap: usize) -> isize;
     fn lk_emit_icmp_frame(headers: &Frame, ptr: *const u8, len: usize, out: *mut u8, cap: usize) -> isize;
+    fn lk_emit_udp_packet(headers: &Frame, ptr: *const u8, len: usize, out: *mut u8, cap: usize) -> isize;
+    fn lk_emit_tcp_packet(
+        headers: &Frame, options: &TcpOptions, ptr: *const u8, len: usize, out: *mut u8, cap: usize
+    ) -> isize;
+    fn lk_emit_icmp_packet(headers: &Frame, ptr: *const u8, len: usize, out: *mut u8, cap: usize) -> isize;
+    fn lk_wrap_udp_packet(headers: &Frame, len: usize, out: *mut u8, cap: usize) -> isize;
+    fn lk_wrap_tcp_packet(headers: &Frame, options: &TcpOptions, len: usize, out: *mut u8, cap: usize) -> isize;
     fn lk_tcp_header_len(options: &TcpOptions) -> isize;
     fn lk_emit_arp_frame(headers: &Frame, out: *mut u8, cap: usize) -> isize;
     fn lk_emit_ethernet(header: &Ethernet, out: *mut u8, cap: usize) -> isize;

@@ -1,4 +1,4 @@
-//! Writing frames.
+//! Writing frames and packets.
 
 use crate::sys::{self, library, Library};
 use crate::{Arp, Error, Ethernet, Headers, Icmp, Tcp, TcpOptions};
@@ -12,10 +12,11 @@ pub(crate) fn write(
     Ok(&mut out[..len])
 }
 
-/// Each call returns the frame at the beginning of `out`. EtherType, protocol, lengths and checksums are
+/// Each call returns the frame or packet at the beginning of `out`. EtherType, protocol, lengths and checksums are
 /// filled in. After a failure `out` is unchanged.
 ///
-/// The frame without its first 14 bytes is the packet, for example for a TUN device.
+/// Calls with `packet` write an IP packet, for example for a TUN device: the frame without its first 14 bytes. They do
+/// not use `ethernet`.
 impl Headers {
     /// Writes a whole frame with a UDP packet.
     ///
@@ -139,6 +140,96 @@ impl Headers {
         let (fields, options) = (self.tcp_fields(tcp), (*options).into());
         // SAFETY: the call reads only the headers and options, and there are `cap` bytes at `out`.
         write(out, |c, out, cap| unsafe { c.lk_wrap_tcp_frame(&fields, &options, payload_len, out, cap) })
+    }
+
+    /// Writes an IP packet with UDP.
+    ///
+    /// # Errors
+    ///
+    /// Those of [`Headers::emit_udp`].
+    ///
+    /// ```
+    /// # use ip_wire_c::{Ethernet, Headers, Ip};
+    /// # let headers = Headers {
+    /// #     ethernet: Ethernet::default(),
+    /// #     src: "192.0.2.1:4000".parse().unwrap(),
+    /// #     dst: "192.0.2.2:53".parse().unwrap(),
+    /// #     ip: Ip::default(),
+    /// # };
+    /// let (mut packet, mut frame) = ([0; 64], [0; 64]);
+    /// assert_eq!(headers.emit_udp_packet(b"ping", &mut packet).unwrap(), &headers.emit_udp(b"ping", &mut frame).unwrap()[14..]);
+    /// ```
+    pub fn emit_udp_packet<'o>(&self, payload: &[u8], out: &'o mut [u8]) -> Result<&'o mut [u8], Error> {
+        // SAFETY: the call reads only the headers and the `len` bytes at `ptr`, and there are `cap` bytes at `out`.
+        write(out, |c, out, cap| unsafe {
+            c.lk_emit_udp_packet(&self.fields(), payload.as_ptr(), payload.len(), out, cap)
+        })
+    }
+
+    /// Writes an IP packet with TCP.
+    ///
+    /// # Errors
+    ///
+    /// Those of [`Headers::emit_tcp`].
+    pub fn emit_tcp_packet<'o>(
+        &self,
+        tcp: &Tcp,
+        options: &TcpOptions,
+        payload: &[u8],
+        out: &'o mut [u8],
+    ) -> Result<&'o mut [u8], Error> {
+        let (fields, options) = (self.tcp_fields(tcp), (*options).into());
+        // SAFETY: the call reads only headers, options and `len` bytes at `ptr`, and there are `cap` bytes at `out`.
+        write(out, |c, out, cap| unsafe {
+            c.lk_emit_tcp_packet(&fields, &options, payload.as_ptr(), payload.len(), out, cap)
+        })
+    }
+
+    /// Writes an IP packet with an ICMP message. The ports are not used.
+    ///
+    /// # Errors
+    ///
+    /// Those of [`Headers::emit_icmp`].
+    pub fn emit_icmp_packet<'o>(
+        &self,
+        icmp: &Icmp,
+        payload: &[u8],
+        out: &'o mut [u8],
+    ) -> Result<&'o mut [u8], Error> {
+        let fields = sys::Frame { icmp: (*icmp).into(), ..self.fields() };
+        // SAFETY: the call reads only the headers and the `len` bytes at `ptr`, and there are `cap` bytes at `out`.
+        write(out, |c, out, cap| unsafe {
+            c.lk_emit_icmp_packet(&fields, payload.as_ptr(), payload.len(), out, cap)
+        })
+    }
+
+    /// Writes the headers of an IP packet before a payload that is in `out` already, 14 bytes before
+    /// [`Headers::udp_payload_offset`].
+    ///
+    /// # Errors
+    ///
+    /// Those of [`Headers::emit_udp`].
+    pub fn wrap_udp_packet<'o>(&self, payload_len: usize, out: &'o mut [u8]) -> Result<&'o mut [u8], Error> {
+        // SAFETY: the call reads only the headers, and there are `cap` bytes at `out`.
+        write(out, |c, out, cap| unsafe { c.lk_wrap_udp_packet(&self.fields(), payload_len, out, cap) })
+    }
+
+    /// Writes the headers of an IP packet before a payload that is in `out` already, 14 bytes before
+    /// [`Headers::tcp_payload_offset`].
+    ///
+    /// # Errors
+    ///
+    /// Those of [`Headers::emit_tcp`].
+    pub fn wrap_tcp_packet<'o>(
+        &self,
+        tcp: &Tcp,
+        options: &TcpOptions,
+        payload_len: usize,
+        out: &'o mut [u8],
+    ) -> Result<&'o mut [u8], Error> {
+        let (fields, options) = (self.tcp_fields(tcp), (*options).into());
+        // SAFETY: the call reads only the headers and options, and there are `cap` bytes at `out`.
+        write(out, |c, out, cap| unsafe { c.lk_wrap_tcp_packet(&fields, &options, payload_len, out, cap) })
     }
 
     fn transport_offset(&self) -> usize {

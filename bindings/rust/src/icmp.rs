@@ -60,7 +60,7 @@ impl Ndisc {
     ///
     /// # Errors
     ///
-    /// [`Error::NoRoom`]
+    /// [`Error::BadField`] if [`Ndisc::parse`] would reject the message for its addresses or flags, and [`Error::NoRoom`].
     ///
     /// ```
     /// use ip_wire_c::{Ethernet, EthernetAddr, Ndisc};

@@ -53,6 +53,24 @@ fn wrapping_equals_emitting() {
     }
 }
 
+// A packet is the frame without its first 14 bytes.
+#[test]
+fn packets_are_in_frames() {
+    let tcp = Tcp { flags: TcpFlags::ACK, ..Tcp::default() };
+    let (icmp, options) = (Icmp::default(), all_options());
+    for headers in [ipv4(), ipv6()] {
+        let (mut frame, mut packet) = (OUT, OUT);
+        let framed = headers.emit_udp(b"ping", &mut frame).unwrap();
+        assert_eq!(*headers.emit_udp_packet(b"ping", &mut packet).unwrap(), framed[14..]);
+        assert_eq!(*headers.wrap_udp_packet(4, &mut packet).unwrap(), framed[14..]);
+        let framed = headers.emit_tcp(&tcp, &options, b"data", &mut frame).unwrap();
+        assert_eq!(*headers.emit_tcp_packet(&tcp, &options, b"data", &mut packet).unwrap(), framed[14..]);
+        assert_eq!(*headers.wrap_tcp_packet(&tcp, &options, 4, &mut packet).unwrap(), framed[14..]);
+        let framed = headers.emit_icmp(&icmp, b"echo", &mut frame).unwrap();
+        assert_eq!(*headers.emit_icmp_packet(&icmp, b"echo", &mut packet).unwrap(), framed[14..]);
+    }
+}
+
 #[test]
 fn failures_leave_the_buffer() {
     let ip = |ip| Headers { ip, ..ipv4() };

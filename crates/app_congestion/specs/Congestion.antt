@@ -1,7 +1,7 @@
 -- The congestion window (RFC 5681) with NewReno (RFC 6582) and limited transmit (RFC 3042): what each event makes of it, in
 -- bytes.
 -- Pinned by: `congestion/windows`
-use Rattle.std.specs.Prelude.{ℕ, ◌+◌, ◌-◌, ◌*◌, ◌/◌, ◌==◌, ◌&&◌, Bool, true, false, nat_lt, if◌then◌else◌, min, max, nat_le}
+use Rattle.std.specs.Prelude.{ℕ, ◌+◌, ◌-◌, ◌*◌, ◌/◌, ◌==◌, ◌&&◌, Bool, true, false, not, nat_le, nat_lt, if◌then◌else◌, min, max}
 use Rattle.tcp_model.specs.Endpoint.{is_earlier}
 use Rattle.app_congestion.specs.declared.congestion.Congestion.{Congestion}
 use Rattle.app_congestion.specs.declared.phase.Phase.{Phase}

@@ -3,15 +3,15 @@
 
 ghost use Rattle.std.specs.Prelude.{◌≡◌, length};
 ghost use Rattle.c_icmp.specs.Errors.{WritesError, own_interface, problem_by};
-ghost use Rattle.c_icmp.specs.Frames.{icmp_failure, icmp_frame, icmp_frame_failure};
+ghost use Rattle.c_icmp.specs.Frames.{icmp_failure, icmp_frame, icmp_frame_failure, icmp_packet};
 ghost use Rattle.c_icmp.specs.Messages.{icmp_bytes};
 ghost use Rattle.c_icmp.specs.Mld.{AsksFor, mld_failure, mld_report};
 ghost use Rattle.c_icmp.specs.Neighbours.{ReadsNdisc, ndisc_failure, ndisc_frame, ndisc_struct};
 ghost use Rattle.c_structs.specs.Written.{IsRead, Writes, is_set, within};
 
 use c_icmp::{
-    InterfaceFields, Ndisc, Problem, emit_icmp, emit_icmp_frame, emit_mld_report, emit_ndisc_frame,
-    icmp_failure, icmp_frame_failure, mld_failure, ndisc_failure, read_mld_query,
+    InterfaceFields, Ndisc, Problem, emit_icmp, emit_icmp_frame, emit_icmp_packet, emit_mld_report,
+    emit_ndisc_frame, icmp_failure, icmp_frame_failure, mld_failure, ndisc_failure, read_mld_query,
 };
 use c_structs::{Addr, FrameFields, Icmp, MAX_LEN, failed, is_set, within};
 
@@ -44,6 +44,25 @@ pub extern "C" fn lk_emit_icmp_frame(headers: &FrameFields, payload: &[u8], out:
 {
     if out.len() <= MAX_LEN
         && let Some(len) = emit_icmp_frame(headers, payload, out)
+    {
+        len as isize
+    } else {
+        failed(icmp_frame_failure(headers, payload.len()))
+    }
+}
+
+/// Writes an IP packet with an ICMP message and this payload. Returns its length, or a failure; then `out` is
+/// unchanged.
+#[unsafe(no_mangle)]
+pub extern "C" fn lk_emit_icmp_packet(
+    headers: &FrameFields,
+    payload: &[u8],
+    out: &mut [u8],
+) -> isize
+    ensures { Writes (icmp_packet headers.now payload.now) (icmp_frame_failure headers.now (length payload.now)) out.old out.new result }
+{
+    if out.len() <= MAX_LEN
+        && let Some(len) = emit_icmp_packet(headers, payload, out)
     {
         len as isize
     } else {

@@ -1,5 +1,5 @@
--- There is a failure exactly if there is no message, or no frame with one.
-use Rattle.std.proofs.Common.{ℕ, ◌≡◌, ◌∙◌, ◌+◌, ◌≤◌, ◌&&◌, ◌==◌, true, false, Bool, if◌then◌else◌, List, length, length-append, Some, None, is_none, is_some, nat_le, nat_lt, refl, sym, ap, arith}
+-- There is a failure exactly if there is no message, packet or frame.
+use Rattle.std.proofs.Common.{ℕ, ◌≡◌, ◌∙◌, ◌+◌, ◌≤◌, ◌&&◌, ◌==◌, true, false, Bool, if◌then◌else◌, List, length, length-append, Option, Some, None, is_none, is_some, nat_le, nat_lt, not, refl, sym, ap, arith}
 use Rattle.std.proofs.lemmas.Bool.Decides.{nat_tests}
 use Rattle.std.specs.Option.{option_and_then}
 use Rattle.app_mld.specs.Mld.{report_bytes}
@@ -13,15 +13,15 @@ use Rattle.c_structs.specs.declared.types.Addr.{Addr}
 use Rattle.c_structs.specs.declared.types.FrameFields.{FrameFields}
 use Rattle.c_structs.specs.declared.types.Icmp.{Icmp}
 use Rattle.c_write.proofs.Exact.{and_then-some, only-some, or-none, pair-exact}
-use Rattle.c_write.proofs.ExactFrames.{and_then-of, framed-exact, most-fits, udp-tests}
+use Rattle.c_write.proofs.ExactFrames.{and_then-of, framed-exact, most-fits, packet-exact, udp-tests}
 use Rattle.c_write.specs.Failures.{has_fields, ip_failure, most_payload, pair_failure}
-use Rattle.c_write.specs.Frames.{framed, is_whole}
+use Rattle.c_write.specs.Frames.{framed, ip_packet, is_whole}
 use Rattle.c_write.specs.Headers.{is_yes, only_if}
 use Rattle.c_icmp.proofs.Packets.{length-icmp}
-use Rattle.c_icmp.specs.Frames.{icmp_failure, icmp_frame, icmp_frame_failure, protocol_number}
+use Rattle.c_icmp.specs.Frames.{icmp_failure, icmp_frame, icmp_frame_failure, icmp_packet, protocol_number}
 use Rattle.c_icmp.specs.Messages.{header_value, icmp_bytes}
 use Rattle.c_icmp.specs.Mld.{are_ipv6, mld_failure, mld_report}
-use Rattle.c_icmp.specs.Neighbours.{has_ipv6, is_ipv6, ndisc_failure, ndisc_frame, ndisc_ip, ndisc_value}
+use Rattle.c_icmp.specs.Neighbours.{has_ipv6, is_accepted, is_ipv6, ndisc_failure, ndisc_frame, ndisc_ip, ndisc_packet, ndisc_value}
 use Rattle.c_icmp.specs.declared.types.Ndisc.{Ndisc}
 
 -- ---- any message
@@ -41,18 +41,21 @@ icmp-exact h src dst payload computed =
     ∙ sym (or-none (pair_failure src dst) (if nat_lt 65527 n then Some failure.PayloadTooLong else None))
 
 -- a message has a header of 8 bytes, as UDP
-pub icmp-frame-exact : (f : FrameFields) (payload : List ℕ) → is_some (icmp_frame f payload) ≡ is_none (icmp_frame_failure f (length payload))
-icmp-frame-exact f payload =
+pub icmp-packet-exact : (f : FrameFields) (payload : List ℕ) → is_some (icmp_packet f payload) ≡ is_none (icmp_frame_failure f (length payload))
+icmp-packet-exact f payload =
     let n = length payload in
     let number = protocol_number f.src.addr.version in
     let message = icmp_bytes f.icmp f.src.addr f.dst.addr payload true in
     let each = λ (packet : List ℕ) (e : message ≡ Some packet).
-    framed-exact f number packet ∙ ap (λ (k : ℕ). is_none (ip_failure f.ip f.src.addr f.dst.addr k) && is_whole f.ip)
+    packet-exact f number packet ∙ ap (λ (k : ℕ). is_none (ip_failure f.ip f.src.addr f.dst.addr k) && is_whole f.ip)
     (length-icmp f.icmp f.src.addr f.dst.addr payload packet true e) in
-    and_then-of (framed f number) _ message each
+    and_then-of (ip_packet f number) _ message each
     ∙ ap (λ (b : Bool). b && (is_none (ip_failure f.ip f.src.addr f.dst.addr (8 + n)) && is_whole f.ip)) (icmp-exact f.icmp f.src.addr f.dst.addr payload true)
     ∙ udp-tests (pair_failure f.src.addr f.dst.addr) true (f.ip.hop_limit == 0) (has_fields f.ip f.src.addr.version) (is_whole f.ip)
     (most_payload f.src.addr.version) n (most-fits f.src.addr.version)
+
+pub icmp-frame-exact : (f : FrameFields) (payload : List ℕ) → is_some (icmp_frame f payload) ≡ is_none (icmp_frame_failure f (length payload))
+icmp-frame-exact f payload = framed-exact f (icmp_packet f payload) ∙ icmp-packet-exact f payload
 
 -- ---- neighbour discovery
 
@@ -78,8 +81,16 @@ both-are true true d e = (refl, refl)
 both-are true false d e = absurd (cc)
 both-are false c d e = absurd (cc)
 
+-- a message that may be written is written
+tested : (bytes : List ℕ) (f : List ℕ → Option (List ℕ)) (ipv6 accepted : Bool) → (ipv6 ≡ true → is_some (f bytes) ≡ true)
+    → is_some (option_and_then f (only_if (ipv6 && accepted) bytes))
+    ≡ is_none (if not ipv6 then Some failure.NoVersion else if not accepted then Some failure.BadField else None)
+tested bytes f false accepted whole = refl
+tested bytes f true false whole = refl
+tested bytes f true true whole = whole refl
+
 pub ndisc-frame-exact : (f : FrameFields) (n : Ndisc) → length n.target.octets ≡ 16 → length n.hardware ≡ 6 → is_some (ndisc_frame f n) ≡ is_none (ndisc_failure f n)
-ndisc-frame-exact f n target hardware = by (has_ipv6 f n) refl
+ndisc-frame-exact f n target hardware = framed-exact f (ndisc_packet f n) ∙ tested bytes (ip_packet g 58) (has_ipv6 f n) (is_accepted f n) whole
   where
     g : FrameFields
     g = record f { ip = ndisc_ip }
@@ -90,17 +101,10 @@ ndisc-frame-exact f n target hardware = by (has_ipv6 f n) refl
     few : length bytes ≤ 65535
     few = few-bytes (ndisc_value n) f.src.addr.octets f.dst.addr.octets (few-after n (is_yes n.has_hardware) (is_yes n.is_advert) refl refl target hardware)
 
-    whole : has_ipv6 f n ≡ true → is_some (framed g 58 bytes) ≡ true
+    whole : has_ipv6 f n ≡ true → is_some (ip_packet g 58 bytes) ≡ true
     whole is =
         let ends = both-are (is_ipv6 f.src.addr) (is_ipv6 f.dst.addr) (is_ipv6 n.target) is in
-        framed-exact g 58 bytes ∙ header-fits f.src.addr f.dst.addr (length bytes) ends.0 ends.1 few
-
-    chosen : (b : Bool) → has_ipv6 f n ≡ b → is_some (ndisc_frame f n) ≡ is_some (option_and_then (framed g 58) (only_if b bytes))
-    chosen b is = ap (λ (b : Bool). is_some (option_and_then (framed g 58) (only_if b bytes))) is
-
-    by : (b : Bool) → has_ipv6 f n ≡ b → is_some (ndisc_frame f n) ≡ is_none (ndisc_failure f n)
-    by true is = chosen true is ∙ whole is ∙ sym (ap (λ (b : Bool). is_none (if b then None else Some failure.NoVersion)) is)
-    by false is = chosen false is ∙ sym (ap (λ (b : Bool). is_none (if b then None else Some failure.NoVersion)) is)
+        packet-exact g 58 bytes ∙ header-fits f.src.addr f.dst.addr (length bytes) ends.0 ends.1 few
 
 -- ---- multicast listener discovery
 

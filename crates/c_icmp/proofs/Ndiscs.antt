@@ -1,10 +1,12 @@
 -- Neighbour discovery in a frame.
-use Rattle.std.proofs.Common.{◌≡◌, ◌∙◌, List, MatchResult, ℕ, Result, Ok, Err, ap, drop, subst₂, sym}
+use Rattle.std.proofs.Common.{◌≡◌, ◌∙◌, ◌↔◌, Bool, true, false, IsTrue, List, MatchResult, ℕ, Result, Ok, Err, ap, drop, refl, subst₂, sym}
 use Rattle.ip_wire.specs.Ethernet as ethernet
 use Rattle.ip_wire.specs.Frame.{IsReadWhole, other, packet}
 use Rattle.ip_wire.specs.Ipv6 as ipv6
 use Rattle.ip_wire.specs.Types.{Error, EthernetRepr, IpRepr, Ipv4, Ipv6, Ipv6Repr}
 use Rattle.ip_wire.specs.declared.EthernetProtocol.TheVariants as ethertype
+use Rattle.wire_icmp.proofs.Addresses.{is_allowed-IsAllowed}
+use Rattle.wire_icmp.specs.Ndisc.{IsAllowed, is_allowed}
 use Rattle.wire_icmp.specs.declared.ndisc.repr.NdiscRepr.{NdiscRepr}
 use Rattle.c_icmp.specs.Neighbours.{CarriesNdisc, ReadsNdisc}
 
@@ -51,3 +53,10 @@ no-packet frame none v it = of-version it.ip it.message it.reads it.carries
     of-version : (w : IpRepr) (m : List ℕ) → IsReadWhole frame it.header (packet w (other m)) → ¬ CarriesNdisc w m v
     of-version (Ipv4 w) m whole carries = carries
     of-version (Ipv6 w) m whole carries = none w whole.reads_carried.1
+
+-- the test of the library is the computed one
+pub accepted : (v : NdiscRepr) (src dst : List ℕ) (tested computed : Bool) → computed ≡ is_allowed v src dst → (IsTrue tested ↔ IsAllowed v src dst) → tested ≡ computed
+accepted v src dst true true same is = refl
+accepted v src dst false false same is = refl
+accepted v src dst true false same is = sym (same ∙ (is_allowed-IsAllowed v src dst).1 (is.0 refl))
+accepted v src dst false true same is = is.1 ((is_allowed-IsAllowed v src dst).0 (sym same))

@@ -1,4 +1,4 @@
--- Frames with a message: the headers before it, and the message.
+-- Packets with a message: the IP header before it, and the message.
 use Rattle.std.proofs.Common.{ℕ, ◌≡◌, ◌∙◌, ◌+◌, ◌≤◌, ◌++◌, Bool, true, false, List, Option, Some, None, ap, arith, drop, length, length-append, nat_le, refl, subst, sym}
 use Rattle.std.proofs.lemmas.Bool.Decides.{nat_tests}
 use Rattle.std.proofs.lemmas.Grind.{common_steps}
@@ -10,8 +10,8 @@ use Rattle.wire_icmp.specs.Icmp.{emitted}
 use Rattle.wire_icmp.specs.declared.icmp.header.IcmpHeader.{IcmpHeader}
 use Rattle.c_structs.specs.Addresses.{pair_of}
 use Rattle.c_write.proofs.Framed.{same-Some}
-use Rattle.c_write.specs.Frames.{framed, headers_bytes, ip_header}
-use Rattle.c_write.specs.Headers.{only_if}
+use Rattle.c_write.specs.Frames.{ip_header, ip_packet}
+use Rattle.c_write.specs.Headers.{header_bytes, only_if}
 use Rattle.c_structs.specs.Written.{Fills}
 use Rattle.c_structs.specs.declared.types.Addr.{Addr}
 use Rattle.c_structs.specs.declared.types.FrameFields.{FrameFields}
@@ -38,19 +38,19 @@ pub length-icmp : (h : Icmp) (src dst : Addr) (payload packet : List ℕ) (compu
     → length packet ≡ 8 + length payload
 length-icmp h src dst payload packet computed e = paired-length h payload packet computed (pair_of src dst) e
 
--- the headers, and after them a packet that fills the front of the rest of the slice
-pub framed-filled : (f : FrameFields) (number size : ℕ) (packet : Option (List ℕ)) (v : IpRepr) (old front rest new : List ℕ) (start n : ℕ) (answer : Option ℕ)
+-- the IP header, and after it a message that fills the front of the rest of the slice
+pub packet-filled : (f : FrameFields) (number size : ℕ) (packet : Option (List ℕ)) (v : IpRepr) (old front rest new : List ℕ) (start n : ℕ) (answer : Option ℕ)
     → ip_header f number size ≡ Some v → ((bytes : List ℕ) → packet ≡ Some bytes → length bytes ≡ size)
-    → front ≡ headers_bytes f v → length front ≡ start → rest ≡ drop start old → start ≤ length old → Fills packet rest new answer → answer ≡ Some n
-    → Fills (option_and_then (framed f number) packet) old (front ++ new) (Some (start + size))
-framed-filled f number size None v old front rest new start n answer found sized is len tail room (none, same) some = absurd (none-some n (sym none ∙ some))
-framed-filled f number size (Some bytes) v old front rest new start n None found sized is len tail room fills some = absurd (none-some n some)
-framed-filled f number size (Some bytes) v old front rest new start n (Some k) found sized is len tail room (count, fits, holds) some =
+    → front ≡ header_bytes f.ip true v → length front ≡ start → rest ≡ drop start old → start ≤ length old → Fills packet rest new answer → answer ≡ Some n
+    → Fills (option_and_then (ip_packet f number) packet) old (front ++ new) (Some (start + size))
+packet-filled f number size None v old front rest new start n answer found sized is len tail room (none, same) some = absurd (none-some n (sym none ∙ some))
+packet-filled f number size (Some bytes) v old front rest new start n None found sized is len tail room fills some = absurd (none-some n some)
+packet-filled f number size (Some bytes) v old front rest new start n (Some k) found sized is len tail room (count, fits, holds) some =
     let many : length bytes ≡ size = sized bytes refl in
-    let frame : framed f number bytes ≡ Some (headers_bytes f v ++ bytes) = ap (λ o. option_map (λ v. headers_bytes f v ++ bytes) o) (ap (ip_header f number) many ∙ found) in
-    let total : start + size ≡ length (headers_bytes f v ++ bytes) = grind (arith, common_steps, many, len, is) in
+    let frame : ip_packet f number bytes ≡ Some (header_bytes f.ip true v ++ bytes) = ap (λ o. option_map (λ v. header_bytes f.ip true v ++ bytes) o) (ap (ip_header f number) many ∙ found) in
+    let total : start + size ≡ length (header_bytes f.ip true v ++ bytes) = grind (arith, common_steps, many, len, is) in
     let within : start + size ≤ length old = grind (arith, common_steps, many, count, fits, tail, room) in
-    let all : front ++ new ≡ (headers_bytes f v ++ bytes) ++ drop (start + size) old = grind (arith, common_steps, many, count, holds, tail, is) in
+    let all : front ++ new ≡ (header_bytes f.ip true v ++ bytes) ++ drop (start + size) old = grind (arith, common_steps, many, count, holds, tail, is) in
     subst (λ o. Fills o old (front ++ new) (Some (start + size))) (sym frame) (total, within, all)
 
 -- a message that fills the front of a slice, with a header of these values

@@ -1,16 +1,16 @@
 -- Neighbour solicitations and advertisements in the structs of C: parsed from a frame, and written as one.
 -- Pinned by: `worked/icmp`, `judge`
-use Rattle.std.specs.Prelude.{ℕ, ◌≡◌, ◌&&◌, ◌==◌, if◌then◌else◌, Bool, true, List, replicate, Option, None, Some}
+use Rattle.std.specs.Prelude.{ℕ, ◌≡◌, ◌&&◌, ◌==◌, not, if◌then◌else◌, Bool, true, List, replicate, Option, None, Some}
 use Rattle.std.specs.Option.{option_and_then, option_map_or}
 use Rattle.ip_wire.specs.Frame.{IsReadWhole, other, packet}
 use Rattle.ip_wire.specs.Types.{EthernetAddress, EthernetRepr, IpRepr, Ipv4, Ipv6}
 use Rattle.ip_wire.specs.declared.IpProtocol.TheVariants as protocol
 use Rattle.wire_addr.specs.declared.ip_address.IpAddress.TheVariants as address
-use Rattle.wire_icmp.specs.Ndisc.{Reads, bytes_of}
+use Rattle.wire_icmp.specs.Ndisc.{Reads, bytes_of, is_allowed}
 use Rattle.wire_icmp.specs.declared.ndisc.repr.NdiscRepr.{NdiscRepr}
 use Rattle.wire_icmp.specs.declared.ndisc.repr.NdiscRepr.TheVariants.{NeighborSolicit, NeighborAdvert}
 use Rattle.c_structs.specs.Addresses.{addr_of}
-use Rattle.c_write.specs.Frames.{framed}
+use Rattle.c_write.specs.Frames.{framed, ip_packet}
 use Rattle.c_structs.specs.Nothing.{no_ip}
 use Rattle.c_write.specs.Headers.{is_yes, only_if, where_set}
 use Rattle.c_structs.specs.Written.{flag}
@@ -86,12 +86,23 @@ is_ipv6 a = a.version == 6
 abbrev pub has_ipv6 : FrameFields → Ndisc → Bool
 has_ipv6 f n = is_ipv6 f.src.addr && is_ipv6 f.dst.addr && is_ipv6 n.target
 
+-- whether receivers accept the message between these addresses (RFC 4861, sections 7.1.1 and 7.1.2)
+abbrev pub is_accepted : FrameFields → Ndisc → Bool
+is_accepted f n = is_allowed (ndisc_value n) f.src.addr.octets f.dst.addr.octets
+
+-- the bytes of a packet with a neighbour discovery message, if it can be written
+abbrev pub ndisc_packet : FrameFields → Ndisc → Option (List ℕ)
+ndisc_packet f n =
+    option_and_then (ip_packet (record f { ip = ndisc_ip }) 58)
+    (only_if (has_ipv6 f n && is_accepted f n) (bytes_of (ndisc_value n) f.src.addr.octets f.dst.addr.octets true))
+
 -- the bytes of a frame with a neighbour discovery message, if it can be written
 abbrev pub ndisc_frame : FrameFields → Ndisc → Option (List ℕ)
-ndisc_frame f n =
-    option_and_then (framed (record f { ip = ndisc_ip }) 58)
-    (only_if (has_ipv6 f n) (bytes_of (ndisc_value n) f.src.addr.octets f.dst.addr.octets true))
+ndisc_frame f n = framed f (ndisc_packet f n)
 
 -- the failure of a frame with a neighbour discovery message
 abbrev pub ndisc_failure : FrameFields → Ndisc → Option Failure
-ndisc_failure f n = if has_ipv6 f n then None else Some failure.NoVersion
+ndisc_failure f n =
+    if not (has_ipv6 f n) then Some failure.NoVersion
+    else if not (is_accepted f n) then Some failure.BadField
+    else None

@@ -1,16 +1,16 @@
-//! Writes ICMP messages, by themselves and in whole frames.
+//! Writes ICMP messages, by themselves, in IP packets and in whole frames.
 
 ghost use Rattle.std.specs.Prelude.{◌≡◌};
 ghost use Rattle.ip_wire.specs.Checksum.{computes};
 ghost use Rattle.wire_addr.specs.declared.ip_version.IpVersion.{IpVersion};
 ghost use Rattle.wire_icmp.specs.Icmp.{choice_of};
 ghost use Rattle.c_structs.specs.Written.{Fills};
-ghost use Rattle.c_icmp.specs.Frames.{icmp_failure, icmp_frame, icmp_frame_failure, protocol_number};
+ghost use Rattle.c_icmp.specs.Frames.{icmp_failure, icmp_frame, icmp_frame_failure, icmp_packet, protocol_number};
 ghost use Rattle.c_icmp.specs.Messages.{header_value, icmp_bytes};
 
 use c_structs::{Addr, Failure, FrameFields, Icmp};
-use c_write::{emit_headers, frame_failure, headers_len, ip_header, most_payload, pair_failure};
-use ip_wire::ChecksumCapabilities;
+use c_write::{emit_ip_header, emit_link, frame_failure, ip_header, most_payload, pair_failure};
+use ip_wire::{ChecksumCapabilities, ETHERNET_HEADER_LEN};
 use wire_icmp::{ICMP_HEADER_LEN, IcmpHeader};
 
 // The protocols of IPv4 and of IPv6.
@@ -80,9 +80,10 @@ pub fn icmp_failure(src: &Addr, dst: &Addr, payload_len: usize) -> Option<Failur
     }
 }
 
-/// Writes a frame with an ICMP message and this payload, and returns its length.
-pub fn emit_icmp_frame(headers: &FrameFields, payload: &[u8], out: &mut [u8]) -> Option<usize>
-    ensures { Fills (icmp_frame headers.now payload.now) out.old out.new result }
+/// Writes an IP packet with an ICMP message and this payload, and returns its length.
+#[inline(always)]
+pub fn emit_icmp_packet(headers: &FrameFields, payload: &[u8], out: &mut [u8]) -> Option<usize>
+    ensures { Fills (icmp_packet headers.now payload.now) out.old out.new result }
 {
     if payload.len() > MAX_PAYLOAD_LEN {
         return None;
@@ -90,18 +91,29 @@ pub fn emit_icmp_frame(headers: &FrameFields, payload: &[u8], out: &mut [u8]) ->
     let version = headers.src.addr.version;
     let len = ICMP_HEADER_LEN + payload.len();
     let ip_header = ip_header(headers, version, protocol_number(version), len)?;
-    let start = headers_len(&ip_header);
+    let start = ip_header.header_len();
     let end = start + len;
     if out.len() < end {
         return None;
     }
     let (front, message) = out.split_at_mut(start);
-    emit_headers(headers, &ip_header, front);
+    emit_ip_header(headers, &ip_header, front);
     let (src, dst) = (&headers.src.addr, &headers.dst.addr);
     match emit_icmp(&headers.icmp, src, dst, payload, true, message) {
         Some(_) => Some(end),
         None => None,
     }
+}
+
+/// Writes a frame with an ICMP message and this payload, and returns its length.
+pub fn emit_icmp_frame(headers: &FrameFields, payload: &[u8], out: &mut [u8]) -> Option<usize>
+    ensures { Fills (icmp_frame headers.now payload.now) out.old out.new result }
+{
+    // Once they are read, the checker knows how long they are.
+    let _hardware = (headers.ethernet.src[0], headers.ethernet.dst[0]);
+    let (link, packet) = out.split_at_mut_checked(ETHERNET_HEADER_LEN)?;
+    let len = emit_icmp_packet(headers, payload, packet)?;
+    Some(emit_link(headers, link) + len)
 }
 
 /// The failure of a frame with an ICMP message with a payload of this length; `None` if it can be emitted.

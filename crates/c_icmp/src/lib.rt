@@ -11,7 +11,7 @@ mod mld;
 mod neighbours;
 mod types;
 
-pub use emit::{emit_icmp, emit_icmp_frame, icmp_failure, icmp_frame_failure};
+pub use emit::{emit_icmp, emit_icmp_frame, emit_icmp_packet, icmp_failure, icmp_frame_failure};
 pub use errors::Problem;
 pub use mld::{emit_mld_report, mld_failure, read_mld_query};
 pub use neighbours::{emit_ndisc_frame, ndisc_failure};

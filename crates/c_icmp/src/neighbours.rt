@@ -6,15 +6,16 @@ ghost use Rattle.ip_wire.specs.Types.{Ipv6};
 ghost use Rattle.wire_icmp.specs.declared.ndisc.repr.NdiscRepr.{NdiscRepr};
 ghost use Rattle.c_structs.specs.Addresses.{addr_of};
 ghost use Rattle.c_structs.specs.Written.{Fills, IsRead};
-ghost use Rattle.c_icmp.specs.Neighbours.{CarriesNdisc, ReadsNdisc, has_ipv6, hardware_bytes, hardware_of, ndisc_failure, ndisc_frame, ndisc_ip, ndisc_struct, ndisc_value};
+ghost use Rattle.c_icmp.specs.Neighbours.{CarriesNdisc, ReadsNdisc, has_ipv6, hardware_bytes, hardware_of, is_accepted, ndisc_failure, ndisc_frame, ndisc_ip, ndisc_packet, ndisc_struct, ndisc_value};
 
 use crate::emit::ICMPV6;
 use crate::types::Ndisc;
 use c_structs::{Addr, Failure, FrameFields, Ip};
-use c_write::{emit_headers, headers_len, ip_header};
+use c_write::{emit_ip_header, emit_link, ip_header};
 use ip_wire::{
-    ChecksumCapabilities, Error, EthernetAddress, EthernetFrame, EthernetProtocol, EthernetRepr,
-    IpAddress, IpProtocol, Ipv6Address, Ipv6Packet, Ipv6Repr, Result,
+    ChecksumCapabilities, ETHERNET_HEADER_LEN, Error, EthernetAddress, EthernetFrame,
+    EthernetProtocol, EthernetRepr, IpAddress, IpProtocol, Ipv6Address, Ipv6Packet, Ipv6Repr,
+    Result,
 };
 use wire_icmp::{IcmpPacket, NDISC_HOP_LIMIT, NdiscNeighborFlags, NdiscRepr};
 
@@ -160,7 +161,19 @@ fn parse_message(ip: &Ipv6Repr, message: &[u8]) -> Result<NdiscRepr>
 pub fn emit_ndisc_frame(frame: &FrameFields, ndisc: &Ndisc, out: &mut [u8]) -> Option<usize>
     ensures { Fills (ndisc_frame frame.now ndisc.now) out.old out.new result }
 {
-    if !has_ipv6(frame, ndisc) {
+    // Once they are read, the checker knows how long they are.
+    let _hardware = (frame.ethernet.src[0], frame.ethernet.dst[0]);
+    let (link, packet) = out.split_at_mut_checked(ETHERNET_HEADER_LEN)?;
+    let len = emit_ndisc_packet(frame, ndisc, packet)?;
+    Some(emit_link(frame, link) + len)
+}
+
+// Writes an IP packet with a message, and returns its length.
+#[inline(always)]
+fn emit_ndisc_packet(frame: &FrameFields, ndisc: &Ndisc, out: &mut [u8]) -> Option<usize>
+    ensures { Fills (ndisc_packet frame.now ndisc.now) out.old out.new result }
+{
+    if !has_ipv6(frame, ndisc) || !is_accepted(frame, ndisc) {
         return None;
     }
     let mut headers = *frame;
@@ -168,13 +181,13 @@ pub fn emit_ndisc_frame(frame: &FrameFields, ndisc: &Ndisc, out: &mut [u8]) -> O
     let value = ndisc.value();
     let len = value.buffer_len();
     let ip_header = ip_header(&headers, 6, ICMPV6, len)?;
-    let start = headers_len(&ip_header);
+    let start = ip_header.header_len();
     let end = start + len;
     if out.len() < end {
         return None;
     }
     let (front, message) = out.split_at_mut(start);
-    emit_headers(&headers, &ip_header, front);
+    emit_ip_header(&headers, &ip_header, front);
     let (src, dst) = (headers.src.addr.ipv6(), headers.dst.addr.ipv6());
     match value.try_emit(message, &src, &dst, &ChecksumCapabilities::default()) {
         Some(_) => Some(end),
@@ -186,10 +199,12 @@ pub fn emit_ndisc_frame(frame: &FrameFields, ndisc: &Ndisc, out: &mut [u8]) -> O
 pub fn ndisc_failure(frame: &FrameFields, ndisc: &Ndisc) -> Option<Failure>
     ensures { result ≡ ndisc_failure frame.now ndisc.now }
 {
-    if has_ipv6(frame, ndisc) {
-        None
-    } else {
+    if !has_ipv6(frame, ndisc) {
         Some(Failure::NoVersion)
+    } else if !is_accepted(frame, ndisc) {
+        Some(Failure::BadField)
+    } else {
+        None
     }
 }
 
@@ -198,6 +213,14 @@ fn has_ipv6(frame: &FrameFields, ndisc: &Ndisc) -> bool
     ensures { result ≡ has_ipv6 frame.now ndisc.now }
 {
     frame.src.addr.version == 6 && frame.dst.addr.version == 6 && ndisc.target.version == 6
+}
+
+// Whether receivers accept the message between these addresses.
+fn is_accepted(frame: &FrameFields, ndisc: &Ndisc) -> bool
+    ensures { result ≡ is_accepted frame.now ndisc.now }
+{
+    let (src, dst) = (frame.src.addr.ipv6(), frame.dst.addr.ipv6());
+    ndisc.value().is_allowed(&src, &dst)
 }
 
 // The IP header of a message.

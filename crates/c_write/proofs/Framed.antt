@@ -1,5 +1,5 @@
--- Whole frames: the headers before a packet, and the packet.
-use Rattle.std.proofs.Common.{◌≡◌, ◌≢◌, ◌∙◌, ℕ, ◌+◌, ◌-◌, ◌≤◌, ◌&&◌, Bool, true, false, List, ◌++◌, Option, Some, None, drop, length, take, slice_range, nat_le, ap, append_assoc, sym, refl, subst, length-append, arith}
+-- Whole packets and frames: the headers before a payload, and the payload.
+use Rattle.std.proofs.Common.{◌≡◌, ◌≢◌, ◌∙◌, ℕ, ◌+◌, ◌-◌, ◌≤◌, ◌<◌, ◌&&◌, Bool, true, false, List, ◌++◌, Option, Some, None, drop, length, take, slice_range, nat_le, ap, append_assoc, sym, refl, subst, length-append, length-drop, arith}
 use Rattle.std.proofs.lemmas.Bool.Decides.{nat_tests}
 use Rattle.std.proofs.lemmas.Grind.{common_steps}
 use Rattle.std.proofs.lemmas.List.{drop-drop}
@@ -10,14 +10,15 @@ use Rattle.ip_wire.proofs.TcpLayer.{length-written}
 use Rattle.ip_wire.specs.Field.{with_field, with_part, word_at}
 use Rattle.ip_wire.specs.Ip.{dst_addr_of, src_addr_of}
 use Rattle.ip_wire.specs.Tcp.{with_checksum}
-use Rattle.ip_wire.specs.TcpRepr.{TcpHeader, header_bytes, header_len_of}
+use Rattle.ip_wire.specs.TcpRepr as tcp
+use Rattle.ip_wire.specs.TcpRepr.{TcpHeader, header_len_of}
 use Rattle.ip_wire.specs.Udp as udp
 use Rattle.ip_wire.specs.Types.{IpAddress, IpRepr, Ipv4, Ipv4Repr, Ipv6, Ipv6Repr, UdpRepr}
 use Rattle.ip_wire.specs.declared.IpAddress.TheVariants as address
 use Rattle.ip_wire.specs.declared.IpProtocol.TheVariants as protocol
 use Rattle.c_structs.specs.Addresses.{pair_of}
-use Rattle.c_write.specs.Frames.{ip_header, framed, headers_bytes, is_whole, part, tcp_frame, udp_frame}
-use Rattle.c_write.specs.Headers.{ends_of, has_port, ip_between, ip_value, is_expressible, only_if, ports_of, segment_bytes, segment_header_len, segment_with_flags, tcp_bytes, tcp_value, udp_bytes}
+use Rattle.c_write.specs.Frames.{ip_header, framed, ip_packet, is_whole, packet_link, part, tcp_packet, udp_packet}
+use Rattle.c_write.specs.Headers.{ends_of, has_port, header_bytes, ip_between, ip_value, is_expressible, only_if, ports_of, segment_bytes, segment_header_len, segment_with_flags, tcp_bytes, tcp_value, udp_bytes}
 use Rattle.c_structs.specs.Written.{Fills}
 use Rattle.c_structs.specs.declared.types.FrameFields.{FrameFields}
 use Rattle.c_structs.specs.declared.types.Endpoint.{Endpoint}
@@ -67,10 +68,10 @@ ends-there : (ports : Bool) (src dst : Endpoint) (a b : IpAddress) → ports ≡
 ends-there ports src dst a b has pair =
     ap (λ p. option_and_then (λ pair. only_if p pair) (pair_of src.addr dst.addr)) has ∙ ap (λ o. option_and_then (λ pair. only_if true pair) o) pair
 
--- the frame of a packet, where it is written
-pub framed-packet : (f : FrameFields) (number : ℕ) (packet : List ℕ) (v : IpRepr) → ip_header f number (length packet) ≡ Some v
-    → framed f number packet ≡ Some (headers_bytes f v ++ packet)
-framed-packet f number packet v e = ap (λ o. option_map (λ v. headers_bytes f v ++ packet) o) e
+-- a packet whose header can be written
+pub packet-written : (f : FrameFields) (number : ℕ) (packet : List ℕ) (v : IpRepr) → ip_header f number (length packet) ≡ Some v
+    → ip_packet f number packet ≡ Some (header_bytes f.ip true v ++ packet)
+packet-written f number packet v e = ap (λ o. option_map (λ v. header_bytes f.ip true v ++ packet) o) e
 
 -- what is written to the front of a slice, of its length
 pub filled-front : (frame : Option (List ℕ)) (bytes old new : List ℕ) (n : ℕ) → frame ≡ Some bytes → n ≤ length old → length new ≡ length old
@@ -84,10 +85,10 @@ filled-front frame bytes old new n e room same is =
 pub length-udp : (v : UdpRepr) (payload : List ℕ) (src dst : IpAddress) → length (udp.bytes_of v payload src dst true) ≡ 8 + length payload
 length-udp v payload src dst = simp length-append (omega arith)
 
--- the frame of a UDP packet is its headers and the packet
-pub udp-framed : (f : FrameFields) (payload : List ℕ) (v : IpRepr) → f.dst.port ≢ 0 → length payload ≤ 65527 → ip_header f 17 (8 + length payload) ≡ Some v
-    → udp_frame f payload ≡ Some (headers_bytes f v ++ udp.bytes_of (ports_of f.src f.dst) payload (src_addr_of v) (dst_addr_of v) true)
-udp-framed f payload v port fits e =
+-- an IP packet with UDP is its header and a UDP packet
+pub udp-whole : (f : FrameFields) (payload : List ℕ) (v : IpRepr) → f.dst.port ≢ 0 → length payload ≤ 65527 → ip_header f 17 (8 + length payload) ≡ Some v
+    → udp_packet f payload ≡ Some (header_bytes f.ip true v ++ udp.bytes_of (ports_of f.src f.dst) payload (src_addr_of v) (dst_addr_of v) true)
+udp-whole f payload v port fits e =
     let bytes = udp.bytes_of (ports_of f.src f.dst) payload (src_addr_of v) (dst_addr_of v) true in
     let has : has_port f.dst ≡ true = grind (arith, nat_tests, port) in
     let pair = ends-there (has_port f.dst) f.src f.dst _ _ has (ip_header-value f 17 (8 + length payload) v e).1 in
@@ -96,7 +97,7 @@ udp-framed f payload v port fits e =
     ap (λ o. option_and_then (λ pair. only_if (nat_le (length payload) 65527) (udp.bytes_of (ports_of f.src f.dst) payload pair.0 pair.1 true)) o) pair
     ∙ ap (λ b. only_if b bytes) small in
     let size = length-udp (ports_of f.src f.dst) payload (src_addr_of v) (dst_addr_of v) in
-    ap (λ o. option_and_then (framed f 17) o) packet ∙ framed-packet f 17 bytes v (ap (ip_header f 17) size ∙ e)
+    ap (λ o. option_and_then (ip_packet f 17) o) packet ∙ packet-written f 17 bytes v (ap (ip_header f 17) size ∙ e)
 
 -- ---- TCP
 
@@ -114,7 +115,7 @@ length-checksum bytes x long = length-replaced bytes (big_bytes 2 (with_part (wo
 
 length-marked : (h : Tcp) (u : TcpHeader) (payload : List ℕ) (src dst : IpAddress) → length (segment_with_flags h u payload) ≡ header_len_of u + length payload
 length-marked h u payload src dst =
-    let bytes = header_bytes u 0 ++ payload in
+    let bytes = tcp.header_bytes u 0 ++ payload in
     let size : length bytes ≡ header_len_of u + length payload = length-written src dst u payload false in
     let long : 20 ≤ length bytes = omega (arith, size) in
     let flagged = length-flags bytes h.flags long in
@@ -148,32 +149,32 @@ tcp-segment h o src dst payload computed u a b from to pair len is =
     ∙ ap (λ q. option_map (λ len. bytes (a, b)) q) len
     ∙ ap (λ w. Some (segment_bytes h w payload a b computed)) (sym is)
 
--- the frame of a TCP segment is its headers and the segment
-pub tcp-framed : (f : FrameFields) (o : TcpOptions) (payload : List ℕ) (u : TcpHeader) (v : IpRepr) → f.src.port ≢ 0 → f.dst.port ≢ 0
+-- an IP packet with TCP is its header and a segment
+pub tcp-whole : (f : FrameFields) (o : TcpOptions) (payload : List ℕ) (u : TcpHeader) (v : IpRepr) → f.src.port ≢ 0 → f.dst.port ≢ 0
     → segment_header_len f.tcp o (length payload) ≡ Some (header_len_of u) → u ≡ tcp_value f.tcp o f.src.port f.dst.port
     → ip_header f 6 (header_len_of u + length payload) ≡ Some v
-    → tcp_frame f o payload ≡ Some (headers_bytes f v ++ segment_bytes f.tcp u payload (src_addr_of v) (dst_addr_of v) true)
-tcp-framed f o payload u v from to len is e =
+    → tcp_packet f o payload ≡ Some (header_bytes f.ip true v ++ segment_bytes f.tcp u payload (src_addr_of v) (dst_addr_of v) true)
+tcp-whole f o payload u v from to len is e =
     let pair = (ip_header-value f 6 (header_len_of u + length payload) v e).1 in
     let packet = tcp-segment f.tcp o f.src f.dst payload true u (src_addr_of v) (dst_addr_of v) from to pair len is in
     let size = length-segment f.tcp u payload (src_addr_of v) (dst_addr_of v) true in
-    ap (λ q. option_and_then (framed f 6) q) packet
-    ∙ framed-packet f 6 (segment_bytes f.tcp u payload (src_addr_of v) (dst_addr_of v) true) v (ap (ip_header f 6) size ∙ e)
+    ap (λ q. option_and_then (ip_packet f 6) q) packet
+    ∙ packet-written f 6 (segment_bytes f.tcp u payload (src_addr_of v) (dst_addr_of v) true) v (ap (ip_header f 6) size ∙ e)
 
 -- no IP header can carry it
-pub tcp-unframed : (f : FrameFields) (o : TcpOptions) (payload : List ℕ) (u : TcpHeader) (pair : Option (IpAddress × IpAddress))
+pub tcp-unwritten : (f : FrameFields) (o : TcpOptions) (payload : List ℕ) (u : TcpHeader) (pair : Option (IpAddress × IpAddress))
     → segment_header_len f.tcp o (length payload) ≡ Some (header_len_of u) → u ≡ tcp_value f.tcp o f.src.port f.dst.port
     → ip_header f 6 (header_len_of u + length payload) ≡ None
-    → option_and_then (framed f 6) (option_and_then (λ p. option_map (λ len. segment_bytes f.tcp (tcp_value f.tcp o f.src.port f.dst.port) payload p.0 p.1 true)
+    → option_and_then (ip_packet f 6) (option_and_then (λ p. option_map (λ len. segment_bytes f.tcp (tcp_value f.tcp o f.src.port f.dst.port) payload p.0 p.1 true)
     (segment_header_len f.tcp o (length payload))) pair) ≡ None
-tcp-unframed f o payload u None len is e = refl
-tcp-unframed f o payload u (Some (a, b)) len is e =
+tcp-unwritten f o payload u None len is e = refl
+tcp-unwritten f o payload u (Some (a, b)) len is e =
     let w = tcp_value f.tcp o f.src.port f.dst.port in
     let bytes = segment_bytes f.tcp w payload a b true in
     let size : length bytes ≡ header_len_of u + length payload =
     length-segment f.tcp w payload a b true ∙ ap (λ (w : TcpHeader). header_len_of w + length payload) (sym is) in
-    ap (λ (q : Option ℕ). option_and_then (framed f 6) (option_map (λ len. bytes) q)) len
-    ∙ ap (λ (q : Option IpRepr). option_map (λ v. headers_bytes f v ++ bytes) q) (ap (ip_header f 6) size ∙ e)
+    ap (λ (q : Option ℕ). option_and_then (ip_packet f 6) (option_map (λ len. bytes) q)) len
+    ∙ ap (λ (q : Option IpRepr). option_map (λ v. header_bytes f.ip true v ++ bytes) q) (ap (ip_header f 6) size ∙ e)
 
 -- ---- around a payload in place
 
@@ -202,3 +203,46 @@ after-headers F headers old front rest new a k n is following holds =
     let whole = holds ∙ ap (λ s. F (slice_range s k (k + n)) ++ drop (k + n) s) following
     ∙ ap (λ s. F s ++ drop (k + n) (drop a old)) inner ∙ ap (λ s. F (slice_range old (a + k) (a + k + n)) ++ s) last in
     ap (λ s. s ++ new) is ∙ ap (λ s. headers ++ s) whole ∙ sym (append_assoc headers (F (slice_range old (a + k) (a + k + n))) (drop (a + k + n) old))
+
+-- ---- frames
+
+pub length-link : (f : FrameFields) → length f.ethernet.src ≡ 6 → length f.ethernet.dst ≡ 6 → length (packet_link f) ≡ 14
+length-link f src dst = simp length-append (omega (arith, src, dst))
+
+-- no frame fits into less than its Ethernet header
+pub framed-short : (f : FrameFields) (packet : Option (List ℕ)) (old : List ℕ) → length f.ethernet.src ≡ 6 → length f.ethernet.dst ≡ 6 → length old < 14
+    → Fills (framed f packet) old old None
+framed-short f None old src dst short = (refl, refl)
+framed-short f (Some bytes) old src dst short =
+    let link = length-link f src dst in
+    let whole = length-append (packet_link f) bytes in
+    (omega (arith, link, whole, short), refl)
+
+-- no packet was written, and no frame
+pub framed-none : (f : FrameFields) (packet : Option (List ℕ)) (old front rest new : List ℕ) → length f.ethernet.src ≡ 6 → length f.ethernet.dst ≡ 6
+    → length front ≡ 14 → front ++ rest ≡ old → Fills packet rest new None → Fills (framed f packet) old (front ++ new) None
+framed-none f None old front rest new src dst size is (none, same) = (refl, ap (λ s. front ++ s) same ∙ is)
+framed-none f (Some bytes) old front rest new src dst size is (short, same) =
+    let link = length-link f src dst in
+    let whole = length-append (packet_link f) bytes in
+    let parts : length old ≡ 14 + length rest = ap length (sym is) ∙ length-append front rest ∙ ap (λ n. n + length rest) size in
+    (omega (arith, link, whole, short, parts), ap (λ s. front ++ s) same ∙ is)
+
+linked-some : (header : List ℕ) (packet : Option (List ℕ)) (old rest new link : List ℕ) (n : ℕ) → link ≡ header → length link ≡ 14 → 14 ≤ length old
+    → rest ≡ drop 14 old → Fills packet rest new (Some n) → Fills (option_map (λ bytes. header ++ bytes) packet) old (link ++ new) (Some (14 + n))
+linked-some header None old rest new link n is size room following (none, same) = absurd (none-some n (sym none))
+linked-some header (Some bytes) old rest new link n is size room following (count, fits, holds) =
+    let len : length header ≡ 14 = ap length (sym is) ∙ size in
+    let whole = length-append header bytes in
+    let left : length rest ≡ length old - 14 = ap length following ∙ length-drop 14 old in
+    let total : 14 + n ≡ length (header ++ bytes) = omega (arith, whole, len, count) in
+    let within : 14 + n ≤ length old = omega (arith, left, count, fits, room) in
+    let after : drop n (drop 14 old) ≡ drop (14 + n) old = drop-drop n 14 old in
+    let end : new ≡ bytes ++ drop (14 + n) old = holds ∙ ap (λ s. bytes ++ drop n s) following ∙ ap (λ s. bytes ++ s) after in
+    let all : link ++ new ≡ (header ++ bytes) ++ drop (14 + n) old = ap (λ s. s ++ new) is ∙ ap (λ s. header ++ s) end ∙ sym (append_assoc header bytes (drop (14 + n) old)) in
+    (total, within, all)
+
+-- the Ethernet header is before a packet that was written
+pub framed-some : (f : FrameFields) (packet : Option (List ℕ)) (old rest new link : List ℕ) (n : ℕ) → link ≡ packet_link f → length link ≡ 14 → 14 ≤ length old
+    → rest ≡ drop 14 old → Fills packet rest new (Some n) → Fills (framed f packet) old (link ++ new) (Some (14 + n))
+framed-some f packet old rest new link n is size room following fills = linked-some (packet_link f) packet old rest new link n is size room following fills

@@ -3,7 +3,7 @@
 ghost use Rattle.std.specs.Prelude.{◌≡◌, ◌≤◌};
 ghost use Rattle.c_write.specs.Failures.{arp_failure, frame_failure, has_fields, ip_failure, most_payload, options_failure, pair_failure, rebuild_failure, segment_failure, tcp_failure, tcp_frame_failure, udp_failure, udp_frame_failure};
 
-use crate::frames::is_whole;
+use crate::packets::is_whole;
 use crate::tcp_len::{has_one_control, tcp_header_len};
 use c_structs::{Addr, Endpoint, FLOW_LABELS, Failure, FrameFields, Ip, Tcp, TcpOptions};
 use ip_wire::{

@@ -2,6 +2,7 @@ mod LinkTypes
 mod NatsOnce
 mod Once
 mod OptionsOnce
+mod PacketsInFrames
 mod RepliesOnce
 mod RouteTablesOnce
 mod RoutesOnce

@@ -1,5 +1,5 @@
 use Rattle.c_write.proofs.Exact.{addr-exact, arp-exact, block-exact, ip-exact, options-exact, tcp-exact, udp-exact}
-use Rattle.c_write.proofs.ExactFrames.{arp-frame-exact, rebuilt-exact, tcp-frame-exact, udp-frame-exact}
+use Rattle.c_write.proofs.ExactFrames.{arp-frame-exact, rebuilt-exact, tcp-frame-exact, tcp-packet-exact, udp-frame-exact, udp-packet-exact}
 use Rattle.c_write.proofs.laws.failures_are_exact.Goals as goal
 
 pub returns : goal.returns
@@ -11,6 +11,8 @@ returns c = record {
   udp = udp-exact;
   tcp = tcp-exact;
   options = options-exact;
+  udp_packet = udp-packet-exact;
+  tcp_packet = tcp-packet-exact;
   udp_frame = udp-frame-exact;
   tcp_frame = tcp-frame-exact;
   arp_frame = arp-frame-exact;

@@ -1,0 +1,15 @@
+use Rattle.std.proofs.Common.{◌≡◌, length, rules}
+use Rattle.c_icmp.specs.Frames.{icmp_frame_failure, icmp_packet}
+use Rattle.promises_c.proofs.PacketsInFrames.{InFrame, in-frame}
+use Rattle.promises_c.proofs.writes.icmp_packet_in_frame.Goals as goal
+
+pub returns : goal.returns
+returns c =
+    let f = c.args.headers.now in
+    let old = c.args.packet.now in
+    let src : length f.ethernet.src ≡ 6 = search rules in
+    let dst : length f.ethernet.dst ≡ 6 = search rules in
+    let both : InFrame c.lk_emit_icmp_packet.new.out c.lk_emit_icmp_frame.new.out c.lk_emit_icmp_packet.result c.lk_emit_icmp_frame.result =
+    in-frame f (icmp_packet f c.args.payload.now) (icmp_frame_failure f (length c.args.payload.now)) old c.lk_emit_icmp_packet.new.out c.args.frame.now c.lk_emit_icmp_frame.new.out _ _ src dst c.requires.room c.requires.most c.requires.rest
+    c.lk_emit_icmp_packet.ensures c.lk_emit_icmp_frame.ensures in
+    record { written = both.written; returned = both.returned; failed = both.failed }

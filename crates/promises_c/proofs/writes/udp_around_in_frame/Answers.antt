@@ -1,0 +1,17 @@
+use Rattle.std.proofs.Common.{◌≡◌, length, rules, subst}
+use Rattle.c_write.specs.Failures.{udp_frame_failure}
+use Rattle.c_write.specs.Frames.{framed, udp_packet_around}
+use Rattle.c_structs.specs.Written.{Writes}
+use Rattle.promises_c.proofs.PacketsInFrames.{InFrame, in-frame}
+use Rattle.promises_c.proofs.writes.udp_around_in_frame.Goals as goal
+
+pub returns : goal.returns
+returns c =
+    let f = c.args.headers.now in
+    let old = c.args.packet.now in
+    let src : length f.ethernet.src ≡ 6 = search rules in
+    let dst : length f.ethernet.dst ≡ 6 = search rules in
+    let both : InFrame c.lk_wrap_udp_packet.new.out c.lk_wrap_udp_frame.new.out c.lk_wrap_udp_packet.result c.lk_wrap_udp_frame.result =
+    in-frame f (udp_packet_around f c.args.payload_len old) (udp_frame_failure f c.args.payload_len) old c.lk_wrap_udp_packet.new.out c.args.frame.now c.lk_wrap_udp_frame.new.out _ _ src dst c.requires.room c.requires.most c.requires.rest
+    c.lk_wrap_udp_packet.ensures (subst (λ bytes. Writes (framed f (udp_packet_around f c.args.payload_len bytes)) (udp_frame_failure f c.args.payload_len) c.args.frame.now c.lk_wrap_udp_frame.new.out c.lk_wrap_udp_frame.result) c.requires.rest c.lk_wrap_udp_frame.ensures) in
+    record { written = both.written; returned = both.returned; failed = both.failed }
