@@ -134,6 +134,7 @@ fn wrap_tcp(
 
 /// Writes an IP packet with UDP and this payload, and returns its length. `None` if there is a failure or no
 /// room; then `out` is unchanged.
+#[inline(always)]
 pub fn emit_udp_packet(fields: &FrameFields, payload: &[u8], out: &mut [u8]) -> Option<usize>
     ensures { Fills (udp_packet fields.now payload.now) out.old out.new result }
 {
@@ -173,6 +174,7 @@ fn emit_udp_from(
 
 /// Writes an IP packet with UDP around the payload in `out`, and returns its length. `None` if there is a failure
 /// or no room; then `out` is unchanged.
+#[inline(always)]
 pub fn wrap_udp_packet(fields: &FrameFields, payload_len: usize, out: &mut [u8]) -> Option<usize>
     ensures { Fills (udp_packet_around fields.now payload_len out.old) out.old out.new result }
 {
@@ -211,6 +213,7 @@ fn wrap_udp_from(
 
 /// Writes an IP packet with TCP and this payload, and returns its length. `None` if there is a failure or no
 /// room; then `out` is unchanged.
+#[inline(always)]
 pub fn emit_tcp_packet(
     fields: &FrameFields,
     options: &TcpOptions,
@@ -256,6 +259,7 @@ fn emit_tcp_from(
 
 /// Writes an IP packet with TCP around the payload in `out`, and returns its length. `None` if there is a
 /// failure or no room; then `out` is unchanged.
+#[inline(always)]
 pub fn wrap_tcp_packet(
     fields: &FrameFields,
     options: &TcpOptions,
