@@ -133,7 +133,7 @@ class Congestion:
         return True
 
     def on_probe(self, flight, after):
-        """RFC 8985, section 7.4, as if a loss were certain. In fast recovery a segment is lost again (RFC 5681, section 4.3)."""
+        """A loss probe repaired a loss (RFC 8985, section 7.4.2). In fast recovery a segment was lost again (RFC 5681, section 4.3)."""
         self.lose(min(flight, self.ssthresh if self.is_recovering else self.unlimited))
         self.cwnd, self.acked, self.duplicates = self.ssthresh, 0, 0
         self.recover, self.is_recovering = after, True

@@ -287,31 +287,55 @@ class ProbesSteady(Socket):
         return min(self.rto.timeout, self.rto.srtt8 // 4 + 10) if early else super().timer
 
 
-class ProbeIsFree(Socket):
-    """A loss probe leaves cwnd."""
+class ProbeHalves(Socket):
+    """A loss probe counts as a loss at once."""
 
     def loss_probe(self):
-        cwnd = self.congestion.cwnd
         super().loss_probe()
-        self.congestion.cwnd = cwnd
+        if "loss probe" in self.met:
+            self.has_probe = False
+            self.congestion.on_probe(self.flight, self.snd_nxt)
+
+
+class ProbeIsFree(Socket):
+    """What a loss probe repaired is no loss."""
+
+    def repair(self, newly):
+        self.has_probe = False
 
 
 class HalvesOnce(Socket):
-    """A loss probe in fast recovery leaves ssthresh."""
+    """What a loss probe repaired in fast recovery leaves ssthresh."""
 
-    def loss_probe(self):
+    def repair(self, newly):
         ssthresh, was = self.congestion.ssthresh, self.congestion.is_recovering
-        super().loss_probe()
-        if was and "loss probe" in self.met:
+        super().repair(newly)
+        if was and "repair" in self.met:
             self.congestion.cwnd = self.congestion.ssthresh = ssthresh
 
 
 class ProbeCountsLimited(Socket):
-    """What limited transmit sent counts at a loss probe."""
+    """What limited transmit sent counts when a loss probe repaired a loss."""
 
-    def loss_probe(self):
+    def repair(self, newly):
         self.congestion.duplicates = 0
-        super().loss_probe()
+        super().repair(newly)
+
+
+class ProbeCountsLess(Socket):
+    """What a loss probe repaired was not in flight."""
+
+    def repair(self, newly):
+        super().repair(0)
+
+
+class ProbeStays(Socket):
+    """A loss probe counts after a third duplicate acknowledgement too."""
+
+    def count_duplicates(self, count, flight):
+        has_probe = self.has_probe
+        super().count_duplicates(count, flight)
+        self.has_probe = has_probe
 
 
 class ProbeLeavesHoles(Socket):

@@ -91,6 +91,7 @@ SOCKET_RULES = {
     "partial ACK": SENDING,
     "TIME-WAIT begins": (FIN_WAIT_1, FIN_WAIT_2, CLOSING, TIME_WAIT),
     "loss probe": SENDING,
+    "repair": SENDING,
     "time-out": SENDING,
     "window probe": SENDING,
     "override": SENDING,
@@ -116,7 +117,8 @@ SOCKET_RULES = {
 
 # They can meet in these states, but hardly ever do.
 RARE = {("third duplicate ACK", CLOSE_WAIT), ("third duplicate ACK", CLOSING), ("third duplicate ACK", LAST_ACK),
-        ("partial ACK", CLOSE_WAIT), ("partial ACK", CLOSING), ("partial ACK", LAST_ACK), ("override", CLOSING),
+        ("partial ACK", CLOSE_WAIT), ("partial ACK", CLOSING), ("partial ACK", LAST_ACK), ("repair", CLOSE_WAIT),
+        ("repair", CLOSING), ("repair", LAST_ACK), ("override", CLOSING),
         ("override", LAST_ACK), ("idle", CLOSING), ("idle", LAST_ACK), ("acknowledgement", LAST_ACK), ("hole", CLOSE_WAIT),
         ("hole", CLOSING), ("hole", LAST_ACK), ("spurious", CLOSING), ("spurious", LAST_ACK), ("too big", CLOSING),
         ("too big", LAST_ACK), ("no timestamp", TIME_WAIT), ("too big: nothing", TIME_WAIT)}

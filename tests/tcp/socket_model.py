@@ -52,6 +52,8 @@ class Socket:
         self.scoreboard, self.rescued = self.board(), 0
         # Whether the timer expired since the last sample.
         self.is_probed = False
+        # Whether a loss probe is out: nothing was acknowledged since, and nothing else showed a loss.
+        self.has_probe = False
         # When the first segment went again since the last acknowledgement (0: none did), and cwnd and ssthresh before that.
         self.undo = 0, 0, 0
         # When the timer expired last.
@@ -272,7 +274,7 @@ class Socket:
         if rtt is not None and max(0, self.now - rtt) < sent_at:
             self.met.append("spurious")
             self.congestion.undo(*sizes)
-            self.cursor, self.resend = self.flight + newly, False
+            self.cursor, self.resend, self.has_probe = self.flight + newly, False, False
         self.undo = 0, *sizes
 
     def save(self, cwnd, ssthresh):
@@ -290,7 +292,7 @@ class Socket:
             is_third = self.congestion.on_duplicate(flight, self.snd_una, self.snd_nxt)
             if is_third:
                 self.save(*sizes)
-                self.resend, self.rescued = True, 0
+                self.resend, self.rescued, self.has_probe = True, 0, False
             self.met.append("third duplicate ACK" if is_third else "duplicate ACK")
 
     def move_on(self, newly):
@@ -298,9 +300,17 @@ class Socket:
         self.cursor -= min(newly, self.cursor)
         self.rescued -= min(newly, self.rescued)
         self.scoreboard.advance(newly)
+        self.repair(newly)
         is_partial = self.congestion.on_ack(newly, self.flight, self.snd_una)
         self.resend = is_partial and not (self.rescued and self.scoreboard.ranges)
         self.met += ["partial ACK"] * is_partial
+
+    def repair(self, newly):
+        """A loss probe is acknowledged, and nothing shows that it was not needed: a loss (RFC 8985, section 7.4.2)."""
+        if self.has_probe:
+            self.met.append("repair")
+            self.has_probe = False
+            self.congestion.on_probe(newly + self.flight, self.snd_nxt)
 
     def is_duplicate(self, seg, una, flight, window):
         """RFC 5681, section 2. With SACK, blocks show that something arrived, also beside text (RFC 6675, section 2)."""
@@ -392,13 +402,12 @@ class Socket:
             self.ends_at = min(self.ends_at, self.now + USER_TIMEOUT)
 
     def loss_probe(self):
-        """The first segment goes again, in fast recovery, before the time-out."""
+        """The first segment goes again, before the time-out, and cwnd stays (RFC 8985, section 7.3)."""
         self.is_probed, self.resend_at, self.expired_at = True, self.now + self.rto.timeout, self.now
         if self.is_worth_probe():
             self.met.append("loss probe")
             self.save(*self.sizes)
-            self.congestion.on_probe(self.flight, self.snd_nxt)
-            self.resend, self.rescued = True, 0
+            self.resend, self.rescued, self.has_probe = True, 0, True
 
     def is_worth_probe(self):
         """The peer may delay the acknowledgement of one segment. All that is in flight was sent since the last time-out."""
@@ -413,7 +422,7 @@ class Socket:
         if self.flight and self.snd_wnd:
             self.save(*self.sizes)
             self.congestion.on_timeout(self.flight, self.snd_nxt)
-        self.timing, self.is_probed = None, True
+        self.timing, self.is_probed, self.has_probe = None, True, False
         self.go_back()
         self.resend_at = self.now + self.rto.timeout
         if self.snd_wnd:

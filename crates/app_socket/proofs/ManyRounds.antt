@@ -32,7 +32,8 @@ use Rattle.app_connection.proofs.Arrived.{all_acked}
 use Rattle.app_connection.proofs.Going.{ack_of, same_phase}
 use Rattle.app_connection.proofs.Telling.{done}
 use Rattle.app_socket.specs.declared.socket.Socket.{Socket}
-use Rattle.app_socket.specs.Resends.{IsArmed, Learns, Resends, SendsFirst, is_due, newly_in, scaled_by, timer_of}
+use Rattle.app_socket.specs.Probes.{timer_of}
+use Rattle.app_socket.specs.Resends.{IsArmed, Learns, Resends, SendsFirst, is_due, newly_in, scaled_by}
 use Rattle.app_socket.specs.Rounds.{AcknowledgesItems, AreBefore, AreRounds, GoesFurther, IsAllAcknowledged, IsRound, IsWaiting, StandsFor, StillWaits, expires_by}
 use Rattle.app_socket.specs.declared.laws.Round.{Round}
 use Rattle.app_socket.specs.Times.{is_open, later, resend_or_probe}

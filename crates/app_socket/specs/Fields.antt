@@ -29,6 +29,7 @@ flow_of f = record {
   rescued = f.rescued;
   max_window = f.max_window;
   is_probed = f.is_probed;
+  has_probe = f.has_probe;
   undo = f.undo;
   expired_at = f.expired_at;
   sent_at = f.sent_at;

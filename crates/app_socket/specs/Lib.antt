@@ -4,6 +4,7 @@ pub mod Times
 pub mod Window
 pub mod Pieces
 pub mod Undo
+pub mod Probes
 pub mod Resends
 pub mod Segments
 pub mod Runs

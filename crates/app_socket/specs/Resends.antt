@@ -8,7 +8,7 @@ use Rattle.app_tcp.specs.declared.sending.Sending.{Sending}
 use Rattle.app_tcp.specs.Waits.{Waits, count_of, unsent_of}
 use Rattle.app_congestion.specs.declared.rto.Rto.{Rto}
 use Rattle.app_congestion.specs.declared.scoreboard.Scoreboard.{Scoreboard}
-use Rattle.app_congestion.specs.Rto.{probe_after, sampled, timeout_of}
+use Rattle.app_congestion.specs.Rto.{sampled, timeout_of}
 use Rattle.app_congestion.specs.Congestion.{is_in_recovery, is_partial, is_past, restarted, sender_of, timed_out}
 use Rattle.app_congestion.specs.Scoreboard.{HasNoHole, IsHole, has}
 use Rattle.app_connection.specs.declared.segment.Segment.{Segment}
@@ -24,6 +24,7 @@ use Rattle.app_options.specs.Options.{own_scale, window_in}
 use Rattle.app_socket.specs.declared.flow.Flow.{Flow}
 use Rattle.app_socket.specs.declared.flow.Queue.{Queue}
 use Rattle.app_socket.specs.Pieces.{is_worth}
+use Rattle.app_socket.specs.Probes.{is_probing, phase_heard, timer_of}
 use Rattle.app_socket.specs.declared.socket.Socket.{Socket}
 use Rattle.app_socket.specs.declared.step.Event.{Event}
 use Rattle.app_socket.specs.declared.step.Event.TheVariants as event
@@ -59,6 +60,10 @@ WhenDue old now fact = 0 < count_of old.connection.sending → is_due old.timers
 abbrev pub WhenTimeout : Socket → ℕ → Type 0 → Type 0
 WhenTimeout old now fact = WhenDue old now (old.flow.is_probed ≡ true → fact)
 
+-- a fact about a timer that expires for a loss probe
+abbrev pub WhenProbe : Socket → ℕ → Type 0 → Type 0
+WhenProbe old now fact = WhenDue old now (is_probing old.flow ≡ true → fact)
+
 -- a fact about a timer that does not expire
 abbrev pub WhenNotDue : Socket → ℕ → Type 0 → Type 0
 WhenNotDue old now fact = now < 9223372036854775808 → is_due old.timers.resend_at now ≡ false → fact
@@ -68,15 +73,11 @@ abbrev pub SamplesTimed : Flow → Flow → ℕ → ℕ → ℕ → Type 0
 SamplesTimed old new una newly now =
     IfSome old.timing (λ t. distance t.end una ≤ newly → Samples old.rto new.rto (min 4294967295 (now - t.sent_at)))
 
--- for how long the timer runs: until a loss probe, or after one until the time-out (RFC 8985, sections 7.2 and 7.3)
-abbrev pub timer_of : Flow → ℕ
-timer_of f = if f.is_probed then f.rto.timeout else probe_after f.rto.estimate f.rto.timeout
-
 -- SND.NXT
 abbrev pub next_in : Queue → ℕ
 next_in q = (q.una + q.flight) % 4294967296
 
--- Whether a loss probe begins fast recovery: the window is open, more than a segment is in flight, and not all goes again.
+-- Whether a loss probe goes: the window is open, more than a segment is in flight, and not all goes again.
 abbrev pub is_probe_useful : Flow → Queue → Bool
 is_probe_useful f q = not (q.window == 0) && (nat_lt q.mss q.flight && not (nat_lt f.cursor q.flight))
 
@@ -92,7 +93,8 @@ pub record RestartsIdle (old new : Flow) (now : ℕ) : Type 0 where
 -- only what is known of losses changes
 abbrev pub ChangesRecovery : Flow → Flow → Type 0
 ChangesRecovery old new =
-    new ≡ record old { congestion = new.congestion; resend = new.resend; rescued = new.rescued; undo = new.undo }
+    new
+    ≡ record old { congestion = new.congestion; resend = new.resend; rescued = new.rescued; has_probe = new.has_probe; undo = new.undo }
 
 -- The retransmission timer expires (RFC 6298, sections 5.4 to 5.6): all that is in flight goes again from the first item on, what
 -- the peer had after a gap is forgotten (RFC 2018, section 8), and the timeout doubles.
@@ -107,6 +109,7 @@ pub record TimesOut (old new : Flow) (q : Queue) (now : ℕ) : Type 0 where
         scoreboard = new.scoreboard;
         rescued = 0;
         is_probed = true;
+        has_probe = false;
         undo = new.undo;
         expired_at = now;
       }
@@ -217,6 +220,8 @@ pub record Resends (old new : Socket) (outgoing : List ℕ) (now : ℕ) (given :
   pub saves :
       0 < old.connection.wnd → 0 < old.connection.sending.flight
       → WhenTimeout old now (new.flow.undo ≡ saved old.flow now)
+  -- A loss probe leaves cwnd and ssthresh as they are (RFC 8985, section 7.3).
+  pub free : WhenProbe old now (new.flow.congestion ≡ old.flow.congestion)
   -- after the first time that it expires, it is the retransmission timer
   pub probed : WhenDue old now (new.flow.is_probed ≡ true)
   -- The timeout changes only then.
@@ -372,10 +377,11 @@ ResendsOnThird old new una =
     → new.resend ≡ true
 
 -- The first segment goes again after a partial acknowledgement in fast recovery, of so many numbers, if it did not go again
--- before (RFC 6582, section 3.2).
-abbrev pub ResendsOnPartial : Flow → Flow → ℕ → ℕ → Type 0
-ResendsOnPartial old new una newly =
-    0 < newly → is_partial old.congestion.phase una ≡ true → old.rescued ≤ newly → new.resend ≡ true
+-- before (RFC 6582, section 3.2). A loss probe that is acknowledged begins fast recovery (RFC 8985, section 7.4).
+abbrev pub ResendsOnPartial : Flow → Flow → ℕ → ℕ → ℕ → Type 0
+ResendsOnPartial old new una flight newly =
+    0 < newly → is_partial (phase_heard old ((una + flight) % 4294967296)) una ≡ true → old.rescued ≤ newly
+    → new.resend ≡ true
 
 -- how many numbers from this one on are acknowledged
 abbrev pub newly_after : Socket → ℕ → ℕ
@@ -448,7 +454,7 @@ pub record Learns (old new : Socket) (outgoing : List ℕ) (incoming now : ℕ) 
   -- before, and was lost
   pub partial :
       is_needless old t now ≡ false
-      → ResendsOnPartial old.flow new.flow new.connection.sending.una (newly_in old new)
+      → ResendsOnPartial old.flow new.flow new.connection.sending.una new.connection.sending.flight (newly_in old new)
   -- If the acknowledgement shows that nothing was lost, congestion control is as before (RFC 3522, RFC 4015).
   pub undoes :
       0 < newly_in old new → is_needless old t now ≡ true

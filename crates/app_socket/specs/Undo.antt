@@ -38,6 +38,7 @@ pub record IsUndone (old new : Flow) (flight : ℕ) : Type 0 where
   pub sender : sender_of new.congestion ≡ undone (sender_of old.congestion) old.undo.cwnd old.undo.ssthresh
   pub cursor : new.cursor ≡ flight
   pub resend : new.resend ≡ false
+  pub probe : new.has_probe ≡ false
 
 -- An acknowledgement of `newly` items shows that nothing was lost: cwnd and ssthresh are those of a sender before the
 -- retransmission (RFC 4015), and cwnd grows by it. All of what is in flight from `una` on counts as sent once, and the first

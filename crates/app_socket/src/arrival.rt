@@ -185,7 +185,7 @@ impl Socket {
         ensures keeps { is_open before.now.state ≡ true → newly_after self.old before.now.una ≡ 0 → (earlier : Option ℕ)
             → IsArmed earlier self.old.timers.resend_at now → IsArmed earlier self.new.timers.resend_at now }
         ensures partial { is_open before.now.state ≡ true → is_needless self.old options.now.timestamp now ≡ false
-            → ResendsOnPartial self.old.flow self.new.flow self.old.connection.sending.una
+            → ResendsOnPartial self.old.flow self.new.flow self.old.connection.sending.una self.old.connection.sending.flight
             (newly_after self.old before.now.una) }
         ensures undoes { is_open before.now.state ≡ true
             → UndoesNeedless self.old self.new before.now.una options.now.timestamp now }
@@ -281,7 +281,7 @@ impl Socket {
         ensures armed { 0 < newly_after self.old before.now.una
             → IfSome self.new.timers.resend_at (λ at. at ≤ later now 60000) }
         ensures partial { is_needless self.old options.now.timestamp now ≡ false
-            → ResendsOnPartial self.old.flow self.new.flow self.old.connection.sending.una
+            → ResendsOnPartial self.old.flow self.new.flow self.old.connection.sending.una self.old.connection.sending.flight
             (newly_after self.old before.now.una) }
         ensures undoes { UndoesNeedless self.old self.new before.now.una options.now.timestamp now }
         ensures counted { newly_after self.old before.now.una ≡ 0 → IsDuplicate before.now.una before.now.flight
@@ -311,7 +311,7 @@ impl Socket {
             → self.new.timers.resend_at ≡ restarted_at self.new now }
         ensures armed { IfSome self.new.timers.resend_at (λ at. at ≤ later now 60000) }
         ensures partial { is_needless self.old options.now.timestamp now ≡ false
-            → ResendsOnPartial self.old.flow self.new.flow ((una + newly) % 4294967296) newly }
+            → ResendsOnPartial self.old.flow self.new.flow ((una + newly) % 4294967296) self.old.connection.sending.flight newly }
         ensures undoes { is_needless self.old options.now.timestamp now ≡ true
             → Undoes self.old.flow self.new.flow newly self.old.connection.sending.flight ((una + newly) % 4294967296) }
         ensures calm { is_needless self.old options.now.timestamp now ≡ true
@@ -339,6 +339,7 @@ impl Socket {
             resend = self.new.flow.resend;
             scoreboard = self.new.flow.scoreboard;
             rescued = self.new.flow.rescued;
+            has_probe = self.new.flow.has_probe;
             undo = self.new.flow.undo;
           };
         } }

@@ -37,6 +37,7 @@ pub struct SocketFields {
     limit: u16,
     resend: bool,
     is_probed: bool,
+    has_probe: bool,
     // Whether `timing`, `resend_at` and `ack_at` are used.
     is_timed: bool,
     has_resend: bool,
@@ -73,6 +74,7 @@ impl Socket {
             limit: self.limit,
             resend: flow.resend,
             is_probed: flow.is_probed,
+            has_probe: flow.has_probe,
             is_timed: flow.timing.is_some(),
             has_resend: timers.resend_at.is_some(),
             has_ack: timers.ack_at.is_some(),
@@ -151,6 +153,7 @@ impl SocketFields {
             rescued: self.rescued,
             max_window: self.max_window,
             is_probed: self.is_probed,
+            has_probe: self.has_probe,
             undo: self.undo,
             expired_at: self.expired_at,
             sent_at: self.sent_at,

@@ -1,10 +1,11 @@
 //! What is remembered of what is sent, and when it goes again (RFC 6298, RFC 5681, RFC 6582).
 
 ghost use Rattle.std.specs.Prelude.{◌≡◌, ◌<◌, ◌≤◌, ◌⊎◌, ◌+◌, ◌-◌, ◌%◌, ◌==◌, ◌&&◌, ℕ, true, false, not, nat_lt, min, max, Some, None, IfSome};
-ghost use Rattle.app_congestion.specs.Congestion.{acknowledged, begins, duplicated, is_in_recovery, is_partial, is_past, is_third, probed, restarted, sender_of};
+ghost use Rattle.app_congestion.specs.Congestion.{acknowledged, begins, duplicated, is_in_recovery, is_partial, is_past, is_third, restarted, sender_of};
 ghost use Rattle.app_congestion.specs.Scoreboard.{has, total};
 ghost use Rattle.app_socket.specs.Pieces.{IsSacked, IsWithin};
-ghost use Rattle.app_socket.specs.Resends.{BacksOff, Samples, TimesOut, is_idle, is_probe_useful, next_in, timer_of, ChangesRecovery, SamplesTimed};
+ghost use Rattle.app_socket.specs.Resends.{BacksOff, Samples, TimesOut, is_idle, is_probe_useful, next_in, ChangesRecovery, SamplesTimed};
+ghost use Rattle.app_socket.specs.Probes.{is_probing, phase_heard, repaired, timer_of};
 ghost use Rattle.app_socket.specs.Undo.{IsUndone, Undoes, is_echo_before, is_spurious, saved, since_expired};
 
 use crate::undo::{Undo, is_echo_before, since_expired};
@@ -38,6 +39,8 @@ pub(crate) struct Flow {
     pub(crate) max_window: u32,
     // Whether the timer expired since the last sample of the round trip.
     pub(crate) is_probed: bool,
+    // Whether a loss probe is out: nothing was acknowledged since, and nothing else showed a loss.
+    pub(crate) has_probe: bool,
     // What a spurious retransmission restores, and when the timer expired last.
     pub(crate) undo: Undo,
     pub(crate) expired_at: u64,
@@ -100,6 +103,7 @@ impl Flow {
             rescued: 0,
             max_window: 0,
             is_probed: false,
+            has_probe: false,
             undo: Undo::NONE,
             expired_at: 0,
             sent_at: 0,
@@ -131,7 +135,7 @@ impl Flow {
 
     // Whether the timer is that of a loss probe.
     pub(crate) fn is_probing(&self) -> bool
-        ensures { result ≡ nat_lt (timer_of self.now) self.now.rto.timeout }
+        ensures { result ≡ is_probing self.now }
     {
         self.timer() < self.rto.timeout()
     }
@@ -150,6 +154,7 @@ impl Flow {
           rescued = 0;
           max_window = 0;
           is_probed = false;
+          has_probe = false;
           undo = record { sent_at = 0; cwnd = 0; ssthresh = 0 };
           expired_at = 0;
         } }
@@ -165,6 +170,7 @@ impl Flow {
         self.rescued = 0;
         self.max_window = 0;
         self.is_probed = false;
+        self.has_probe = false;
         self.undo = Undo::NONE;
         self.expired_at = 0;
     }
@@ -218,23 +224,25 @@ impl Flow {
           scoreboard = self.new.scoreboard;
           rescued = self.old.rescued - newly;
           is_probed = self.new.is_probed;
+          has_probe = false;
           undo = record self.old.undo { sent_at = 0 };
         } }
         ensures cursor { is_spurious self.old round_trip now ≡ false → self.new.cursor ≡ self.old.cursor - newly }
         ensures known { (n : ℕ) → has self.new.scoreboard n ≡ has self.old.scoreboard (n + newly) }
         ensures sender { is_spurious self.old round_trip now ≡ false → sender_of self.new.congestion
-            ≡ acknowledged (sender_of self.old.congestion) newly flight ((una + newly) % 4294967296) }
+            ≡ acknowledged (repaired self.old (min 4294967295 (newly + flight)) (((una + newly) % 4294967296 + flight) % 4294967296))
+            newly flight ((una + newly) % 4294967296) }
         ensures undoes { is_spurious self.old round_trip now ≡ true
             → Undoes self.old self.new newly flight ((una + newly) % 4294967296) }
         ensures calm { is_spurious self.old round_trip now ≡ true → is_in_recovery self.new.congestion.phase ≡ false }
         ensures partial { is_spurious self.old round_trip now ≡ false
-            → is_partial self.old.congestion.phase ((una + newly) % 4294967296) ≡ true → 0 < newly
-            → self.old.rescued ≤ newly → self.new.resend ≡ true }
+            → is_partial (phase_heard self.old (((una + newly) % 4294967296 + flight) % 4294967296)) ((una + newly) % 4294967296)
+            ≡ true → 0 < newly → self.old.rescued ≤ newly → self.new.resend ≡ true }
         ensures alone { is_spurious self.old round_trip now ≡ false
-            → is_partial self.old.congestion.phase ((una + newly) % 4294967296) ≡ true → 0 < newly
-            → ((n : ℕ) → has self.new.scoreboard n ≡ false) → self.new.resend ≡ true }
-        ensures other { is_partial self.old.congestion.phase ((una + newly) % 4294967296) ≡ false
-            → self.new.resend ≡ false }
+            → is_partial (phase_heard self.old (((una + newly) % 4294967296 + flight) % 4294967296)) ((una + newly) % 4294967296)
+            ≡ true → 0 < newly → ((n : ℕ) → has self.new.scoreboard n ≡ false) → self.new.resend ≡ true }
+        ensures other { is_partial (phase_heard self.old (((una + newly) % 4294967296 + flight) % 4294967296))
+            ((una + newly) % 4294967296) ≡ false → self.new.resend ≡ false }
         ensures timed { SamplesTimed self.old self.new una newly now }
         ensures told { self.old.timing ≡ None → IfSome (since_expired self.old.expired_at round_trip now)
             (λ rtt. Samples self.old.rto self.new.rto rtt) }
@@ -247,9 +255,9 @@ impl Flow {
         self.rescued = self.rescued.saturating_sub(newly);
         self.scoreboard.advance(newly);
         self.restore(flight, round_trip, now);
-        let is_partial = self
-            .congestion
-            .on_ack(newly, flight, una.wrapping_add(newly));
+        let una = una.wrapping_add(newly);
+        self.repair(newly.saturating_add(flight), una.wrapping_add(flight));
+        let is_partial = self.congestion.on_ack(newly, flight, una);
         // With SACK the first segment goes only once in a fast recovery.
         self.resend = is_partial && (self.rescued == 0 || self.scoreboard.is_empty());
     }
@@ -262,6 +270,7 @@ impl Flow {
           congestion = self.new.congestion;
           cursor = self.new.cursor;
           resend = self.new.resend;
+          has_probe = self.new.has_probe;
         } }
         ensures undone { is_spurious self.old round_trip now ≡ true → IsUndone self.old self.new flight }
         ensures kept { is_spurious self.old round_trip now ≡ false
@@ -271,8 +280,23 @@ impl Flow {
             self.congestion.undo(self.undo.cwnd, self.undo.ssthresh);
             self.cursor = flight;
             self.resend = false;
+            self.has_probe = false;
         }
         self.undo.sent_at = 0;
+    }
+
+    // Something new is acknowledged, and nothing shows that it was not lost: if a loss probe is out, it repaired a loss, and
+    // congestion control responds (RFC 8985, section 7.4). So many were in flight, up to `next`.
+    fn repair(&mut self, flight: u32, next: u32)
+        ensures same { self.new ≡ record self.old { congestion = self.new.congestion; has_probe = false } }
+        ensures sender { sender_of self.new.congestion ≡ repaired self.old flight next }
+        ensures phase { self.new.congestion.phase ≡ phase_heard self.old next }
+        ensures other { self.old.has_probe ≡ false → self.new ≡ self.old }
+    {
+        if self.has_probe {
+            self.has_probe = false;
+            self.congestion.on_probe(flight, next);
+        }
     }
 
     // A segment goes again, at first of these: what congestion control was is kept until the next acknowledgement.
@@ -361,7 +385,8 @@ impl Flow {
             ≡ duplicated (sender_of self.old.congestion) flight una ((una + flight) % 4294967296) }
         ensures still { self.old.resend ≡ true → self.new.resend ≡ true }
         ensures third { (not (is_in_recovery self.old.congestion.phase) && is_third (sender_of self.old.congestion) una)
-            ≡ true → (self.new.resend ≡ true) × ((self.new.rescued ≡ 0) × (self.new.undo ≡ saved self.old now)) }
+            ≡ true → (self.new.resend ≡ true) × ((self.new.rescued ≡ 0) × ((self.new.has_probe ≡ false)
+            × (self.new.undo ≡ saved self.old now))) }
         ensures other { (not (is_in_recovery self.old.congestion.phase) && is_third (sender_of self.old.congestion) una)
             ≡ false → self.new ≡ record self.old { congestion = self.new.congestion } }
     {
@@ -369,6 +394,7 @@ impl Flow {
         let before = self.congestion;
         if self.congestion.on_duplicate(flight, una, next) {
             self.save(&before, now);
+            self.has_probe = false;
             self.resend = true;
             self.rescued = 0;
         }
@@ -403,20 +429,20 @@ impl Flow {
         self.timing = None;
     }
 
-    // The timer of a loss probe expired: fast recovery begins, and the first segment goes again. Nothing happens if the window is
-    // closed, while everything goes again, and for one segment, whose acknowledgement the peer may delay.
+    // The timer of a loss probe expired: the first segment goes again, and congestion control stays (RFC 8985, section 7.3).
+    // Nothing happens if the window is closed, while everything goes again, and for one segment, whose acknowledgement the peer
+    // may delay.
     pub(crate) fn on_probe(&mut self, queue: &Queue, now: u64)
         ensures same { self.new ≡ record self.old {
-          congestion = self.new.congestion;
           resend = self.new.resend;
           rescued = self.new.rescued;
           is_probed = true;
+          has_probe = self.new.has_probe;
           undo = self.new.undo;
           expired_at = now;
         } }
-        ensures first { is_probe_useful self.old queue.now ≡ true → (self.new.resend ≡ true) × (self.new.rescued ≡ 0) }
-        ensures sender { is_probe_useful self.old queue.now ≡ true → sender_of self.new.congestion
-            ≡ probed (sender_of self.old.congestion) queue.now.flight (next_in queue.now) }
+        ensures first { is_probe_useful self.old queue.now ≡ true
+            → (self.new.resend ≡ true) × ((self.new.rescued ≡ 0) × (self.new.has_probe ≡ true)) }
         ensures saves { is_probe_useful self.old queue.now ≡ true → self.new.undo ≡ saved self.old now }
         ensures other { is_probe_useful self.old queue.now ≡ false
             → self.new ≡ record self.old { is_probed = true; expired_at = now } }
@@ -429,7 +455,7 @@ impl Flow {
         }
         let before = self.congestion;
         self.save(&before, now);
-        self.congestion.on_probe(queue.flight, queue.next());
+        self.has_probe = true;
         self.resend = true;
         self.rescued = 0;
     }
@@ -445,6 +471,7 @@ impl Flow {
     {
         self.timing = None;
         self.is_probed = true;
+        self.has_probe = false;
         self.expired_at = now;
         self.go_back();
         if queue.window == 0 {

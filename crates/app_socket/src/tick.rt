@@ -11,7 +11,8 @@ ghost use Rattle.app_connection.specs.States.{has_peer, state_from};
 ghost use Rattle.app_congestion.specs.Congestion.{is_in_recovery};
 ghost use Rattle.app_congestion.specs.Scoreboard.{IsHole};
 ghost use Rattle.app_socket.specs.Pieces.{IsWithin};
-ghost use Rattle.app_socket.specs.Resends.{Acknowledges, IsArmed, IsHeld, IsSound, Resends, SendsFirst, SendsSyn, TimesOut, is_due, is_room_news, queue_of, window_of, KeepsCount, WhenDue, WhenNotDue, WhenTimeout, RestartsIdle};
+ghost use Rattle.app_socket.specs.Resends.{Acknowledges, IsArmed, IsHeld, IsSound, Resends, SendsFirst, SendsSyn, TimesOut, is_due, is_room_news, queue_of, window_of, KeepsCount, WhenDue, WhenNotDue, WhenTimeout, RestartsIdle, WhenProbe};
+ghost use Rattle.app_socket.specs.Probes.{is_probing};
 ghost use Rattle.app_socket.specs.Segments.{IsSent, text_of};
 ghost use Rattle.app_socket.specs.Times.{is_open, later};
 ghost use Rattle.app_socket.specs.Window.{HasRoom, Tells, end_after, limit_of};
@@ -209,6 +210,8 @@ impl Socket {
             → WhenTimeout self.old now (TimesOut self.old.flow self.new.flow (queue_of self.old) now) }
         ensures probed { (size : ℕ) → OutFits self.old.connection.sending size
             → WhenDue self.old now (self.new.flow.is_probed ≡ true) }
+        ensures free { (size : ℕ) → OutFits self.old.connection.sending size
+            → WhenProbe self.old now (self.new.flow.congestion ≡ self.old.flow.congestion) }
         ensures again { self.old.flow.resend ≡ true → MatchOption result ⊥ (λ p. p.offset ≡ 0) }
         ensures ack_at { self.new.timers.ack_at ≡ self.old.timers.ack_at }
         ensures stays { self.old.flow.is_probed ≡ true → self.new.flow.is_probed ≡ true }
@@ -292,6 +295,8 @@ impl Socket {
         ensures times_out { is_due self.old.timers.resend_at now ≡ true → self.old.flow.is_probed ≡ true
             → TimesOut self.old.flow self.new.flow queue.now now }
         ensures probed { is_due self.old.timers.resend_at now ≡ true → self.new.flow.is_probed ≡ true }
+        ensures free { is_due self.old.timers.resend_at now ≡ true → is_probing self.old.flow ≡ true
+            → self.new.flow.congestion ≡ self.old.flow.congestion }
         ensures stays { self.old.flow.is_probed ≡ true → self.new.flow.is_probed ≡ true }
         ensures again { result ≡ None → self.old.flow.resend ≡ true → self.new.flow.resend ≡ true }
         ensures sound { (flight : ℕ) → IsSound self.old.flow flight → IsSound self.new.flow flight }

@@ -3,12 +3,13 @@
 ghost use Rattle.std.specs.Prelude.{[], false, ◌≡◌, ◌<◌, ◌≤◌, ◌⊎◌, ◌+◌, ◌*◌, ◌/◌, ◌%◌, ℕ, length, true, max, min, MatchOption, None, Some};
 ghost use Rattle.app_congestion.specs.Congestion.{is_in_recovery, is_partial, is_past};
 ghost use Rattle.app_congestion.specs.declared.phase.Phase.TheVariants.{Recovered};
-ghost use Rattle.app_connection.specs.Endpoints.{OutFits, InFits, spoken};
+ghost use Rattle.app_connection.specs.Endpoints.{OutFits, InFits, next_of, spoken};
 ghost use Rattle.app_connection.specs.States.{has_peer, state_from};
 ghost use Rattle.app_connection.specs.declared.state.State.TheVariants as State;
 ghost use Rattle.app_options.specs.Options.{own_scale};
 ghost use Rattle.app_options.specs.Timestamps.{takes};
 ghost use Rattle.app_socket.specs.Losses.{GoesAt, IsEarly};
+ghost use Rattle.app_socket.specs.Probes.{is_probing, phase_heard};
 ghost use Rattle.app_socket.specs.Resends.{IsDuplicateFor, is_due, newly_in, scaled_by};
 ghost use Rattle.app_socket.specs.Times.{is_open, later, mss_of};
 ghost use Rattle.app_socket.specs.Undo.{is_needless};
@@ -79,11 +80,26 @@ pub fn a_time_out_slows(
     between
 }
 
+/// A loss probe leaves cwnd and ssthresh as they are (RFC 8985, section 7.3): congestion control responds only to an acknowledgement
+/// that shows a loss.
+pub fn a_loss_probe_leaves_cwnd(socket: &mut Socket, outgoing: &[u8], incoming: &mut [u8], now: u64)
+    requires out { OutFits socket.old.connection.sending (length outgoing.now) }
+    requires rings { InFits socket.old.connection.receiving (length incoming.old) }
+    requires opened { is_open (state_from socket.old.connection) ≡ true }
+    requires waits { 0 < count_of socket.old.connection.sending }
+    requires due { is_due socket.old.timers.resend_at now ≡ true }
+    requires probing { is_probing socket.old.flow ≡ true }
+    requires patient { now < socket.old.timers.ends_at }
+    ensures { socket.new.flow.congestion ≡ socket.old.flow.congestion }
+{
+    let _ = socket.step(outgoing, incoming, now, Event::Tick);
+}
+
 /// An acknowledgement comes, and the program calls before the timer expires. A duplicate one is counted, or the segment at SND.UNA
 /// is sent again: after the third one at the latest (RFC 5681, section 3.2). So it is after a partial one (RFC 6582, section 3.2),
-/// unless a timestamp shows that nothing was lost (RFC 3522). If all is acknowledged the timer is off (RFC 6298, section 5.2). An
-/// acknowledgement of nothing new leaves a timer that runs for at most a minute. Returns the socket between both calls, and what is
-/// sent.
+/// also one that answers a loss probe (RFC 8985, section 7.4), unless a timestamp shows that nothing was lost (RFC 3522). If all is
+/// acknowledged the timer is off (RFC 6298, section 5.2). An acknowledgement of nothing new leaves a timer that runs for at most a
+/// minute. Returns the socket between both calls, and what is sent.
 pub fn an_acknowledgement_resends<'a>(
     socket: &mut Socket,
     outgoing: &'a [u8],
@@ -107,7 +123,7 @@ pub fn an_acknowledgement_resends<'a>(
         × (socket.new.flow.congestion.duplicates < 3)) }
     ensures partial { IsEarly result.0 times.1 → 0 < newly_in socket.old result.0
         → is_needless socket.old options.now.timestamp times.0 ≡ false
-        → is_partial socket.old.flow.congestion.phase result.0.connection.sending.una ≡ true
+        → is_partial (phase_heard socket.old.flow (next_of result.0.connection)) result.0.connection.sending.una ≡ true
         → socket.old.flow.rescued ≤ newly_in socket.old result.0 → GoesAt result.1 result.0.connection.sending.una }
     ensures off { is_open (state_from result.0.connection) ≡ true → 0 < newly_in socket.old result.0
         → result.0.connection.sending.flight ≡ 0 → unsent_of result.0.connection.sending ≡ 0

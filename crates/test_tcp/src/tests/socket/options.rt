@@ -166,55 +166,70 @@ fn take_text() -> [RowWithOptions; 6] {
 // goes but the last part, by Nagle's algorithm. If it echoes that of the probe, slow start goes on with two segments.
 #[test]
 fn a_spurious_time_out(rt: HostRuntime) {
-    check_undo(&rt, "spurious", 159, &after_undo());
-    check_undo(&rt, "lost", 359, &after_loss());
+    let late = [first(260), nothing(260), first(510), nothing(510)];
+    check_undo(&rt, "spurious", 159, &late, 520, &after_undo(520));
+    check_undo(&rt, "lost", 359, &late, 520, &after_loss(520));
 }
 
-fn check_undo(rt: &impl Abort, name: &str, tsecr: u32, rows: &[RowWithOptions]) {
-    let none = TcpOptionSummary::default();
+// The same of the loss probe by itself. It leaves cwnd (RFC 8985, section 7.3), which has ten segments if nothing was lost. If it
+// repaired a loss, cwnd is half of the four segments (section 7.4).
+#[test]
+fn a_loss_probe_repairs(rt: HostRuntime) {
+    let late = [first(260), nothing(260)];
+    check_undo(&rt, "spurious", 159, &late, 500, &after_undo(500));
+    check_undo(&rt, "lost", 359, &late, 500, &after_loss(500));
+}
+
+fn nothing(now: u64) -> RowWithOptions {
+    (now, Tick, TcpOptionSummary::default(), None)
+}
+
+// The first of the four segments goes.
+fn first(now: u64) -> RowWithOptions {
+    goes_at(now, wide(100, 300, 988), 7000)
+}
+
+fn goes_at(now: u64, line: Line, tsecr: u32) -> RowWithOptions {
+    let stamp = stamped(now as u32 + 99, tsecr);
+    (now, Tick, TcpOptionSummary::default(), goes(line, stamp))
+}
+
+// After the late rows an acknowledgement of all four comes, with this timestamp, and as much text is written.
+fn check_undo(
+    rt: &impl Abort,
+    name: &str,
+    tsecr: u32,
+    late: &[RowWithOptions],
+    now: u64,
+    rows: &[RowWithOptions],
+) {
     let mut end = End::new();
     let mut incoming = [0; WIDE];
     check_options(rt, name, &mut end, &mut incoming, &agree());
-    let late = [
-        (
-            260,
-            Tick,
-            none,
-            goes(wide(100, 300, 988), stamped(359, 7000)),
-        ),
-        (260, Tick, none, None),
-        (
-            510,
-            Tick,
-            none,
-            goes(wide(100, 300, 988), stamped(609, 7000)),
-        ),
-        (520, Gets(tells(300, 4052, 200)), stamped(7050, tsecr), None),
-        (520, Write(3952), none, None),
+    check_options(rt, name, &mut end, &mut incoming, late);
+    let told = [
+        (now, Gets(tells(300, 4052, 200)), stamped(7050, tsecr), None),
+        (now, Write(3952), TcpOptionSummary::default(), None),
     ];
-    check_options(rt, name, &mut end, &mut incoming, &late);
+    check_options(rt, name, &mut end, &mut incoming, &told);
     check_options(rt, name, &mut end, &mut incoming, rows);
 }
 
 // The first segment ends where the ring ends.
-fn after_undo() -> [RowWithOptions; 5] {
-    let none = TcpOptionSummary::default();
-    let stamp = stamped(619, 7050);
+fn after_undo(now: u64) -> [RowWithOptions; 5] {
     [
-        (520, Tick, none, goes(wide(4052, 300, 48), stamp)),
-        (520, Tick, none, goes(wide(4100, 300, 988), stamp)),
-        (520, Tick, none, goes(wide(5088, 300, 988), stamp)),
-        (520, Tick, none, goes(wide(6076, 300, 988), stamp)),
-        (520, Tick, none, None),
+        goes_at(now, wide(4052, 300, 48), 7050),
+        goes_at(now, wide(4100, 300, 988), 7050),
+        goes_at(now, wide(5088, 300, 988), 7050),
+        goes_at(now, wide(6076, 300, 988), 7050),
+        nothing(now),
     ]
 }
 
-fn after_loss() -> [RowWithOptions; 3] {
-    let none = TcpOptionSummary::default();
-    let stamp = stamped(619, 7050);
+fn after_loss(now: u64) -> [RowWithOptions; 3] {
     [
-        (520, Tick, none, goes(wide(4052, 300, 48), stamp)),
-        (520, Tick, none, goes(wide(4100, 300, 988), stamp)),
-        (520, Tick, none, None),
+        goes_at(now, wide(4052, 300, 48), 7050),
+        goes_at(now, wide(4100, 300, 988), 7050),
+        nothing(now),
     ]
 }

@@ -5,7 +5,7 @@ use Rattle.app_socket.proofs.flow.Flow.on_duplicates.Given as goal
 abbrev pub invariant-loop : goal.invariant-loop
 invariant-loop l =
     record {
-      same : l.self ≡ record l.fn.self { congestion = l.self.congestion; resend = l.self.resend; rescued = l.self.rescued; undo = l.self.undo };
+      same : l.self ≡ record l.fn.self { congestion = l.self.congestion; resend = l.self.resend; rescued = l.self.rescued; has_probe = l.self.has_probe; undo = l.self.undo };
       still : l.fn.self.resend ≡ true → l.self.resend ≡ true;
       none : l.counter ≡ 0 → l.self ≡ l.fn.self;
       counts : is_in_recovery l.fn.self.congestion.phase ≡ false → l.fn.self.congestion.duplicates + l.counter < 3

@@ -44,6 +44,7 @@ returns-in_default-clause-resends c = λ opened has.
       backs_off = λ flight some due probed. absurd (c.in_default.ensures.expires _ fits some due probed);
       slows = λ window flight some due probed. absurd (c.in_default.ensures.expires _ fits some due probed);
       saves = λ window flight some due probed. absurd (c.in_default.ensures.expires _ fits some due probed);
+      free = λ some due probing. c.piece.ensures.free _ fits some due probing;
       probed = λ some due. c.piece.ensures.probed _ fits some due;
       still = λ small due. c.piece.ensures.rto small due;
       calm = c.piece.ensures.calm;
@@ -100,6 +101,7 @@ returns-clause-resends c = λ opened has.
           subst (λ (r : Rto). BacksOff old.flow.rto r) (sym (ap (λ (f : Flow). f.rto) c.cut.ensures.flow)) ((c.piece.ensures.times_out _ fits some due probed).backs_off flight);
       slows = λ window flight some due probed. ap (λ (f : Flow). sender_of f.congestion) c.cut.ensures.flow ∙ (c.piece.ensures.times_out _ fits some due probed).slows flight window;
       saves = λ window flight some due probed. ap (λ (f : Flow). f.undo) c.cut.ensures.flow ∙ (c.piece.ensures.times_out _ fits some due probed).saves flight window;
+      free = λ some due probing. ap (λ (f : Flow). f.congestion) c.cut.ensures.flow ∙ c.piece.ensures.free _ fits some due probing;
       probed = λ some due. ap (λ (f : Flow). f.is_probed) c.cut.ensures.flow ∙ c.piece.ensures.probed _ fits some due;
       still = λ small due. ap (λ (f : Flow). f.rto) c.cut.ensures.flow ∙ c.piece.ensures.rto small due;
       calm = λ small due.

@@ -15,6 +15,7 @@ use Rattle.app_connection.specs.Sequence.{is_of_sent}
 use Rattle.app_socket.specs.declared.flow.Flow.{Flow}
 use Rattle.app_socket.specs.declared.socket.Socket.{Socket}
 use Rattle.app_socket.specs.Undo.{Undoes}
+use Rattle.app_socket.specs.Probes.{phase_heard}
 use Rattle.app_socket.specs.Resends.{IsArmed, IsDuplicate, IsSound, newly_in, restarted_at}
 use Rattle.app_socket.specs.Replies.{IsAcknowledgement}
 use Rattle.app_socket.specs.Times.{is_open, later}
@@ -122,7 +123,7 @@ returns-in_default-clause-learns c = λ opened after.
       partial = λ needed some part rescued.
           ap (λ (x : Socket). x.flow.resend) c.answer.ensures.same
           ∙ c.learn.ensures.partial is needed (subst (λ (n : ℕ). 0 < n) (sym newly) some)
-          (subst (λ (x : Connection). is_partial old.flow.congestion.phase x.sending.una ≡ true) same part)
+          (subst (λ (x : Connection). is_partial (phase_heard old.flow ((x.sending.una + x.sending.flight) % 4294967296)) x.sending.una ≡ true) same part)
           (subst (λ (n : ℕ). old.flow.rescued ≤ n) (sym newly) rescued);
       undoes = λ some needless.
           let undone = c.learn.ensures.undoes is (subst (λ (n : ℕ). 0 < n) (sym newly) some) needless in

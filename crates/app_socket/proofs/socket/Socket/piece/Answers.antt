@@ -7,6 +7,7 @@ use Rattle.app_socket.specs.declared.flow.Piece.{Piece}
 use Rattle.app_socket.specs.declared.flow.Queue.{Queue}
 use Rattle.app_socket.specs.declared.socket.Socket.{Socket}
 use Rattle.app_socket.specs.declared.timers.Timers.{Timers}
+use Rattle.app_socket.specs.Probes.{is_probing}
 use Rattle.app_socket.specs.Resends.{IsHeld, IsSound, TimesOut, is_due, queue_of}
 use Rattle.app_socket.proofs.socket.Socket.piece.Goals as goal
 
@@ -31,6 +32,19 @@ returns-clause-times_out c = λ size fits some due probed.
     let same = c.run_timer.ensures.due size fits some due in
     let P : Socket → Type 0 = λ (x : Socket). is_due x.timers.resend_at c.args.now ≡ true → x.flow.is_probed ≡ true → ⊥ in
     absurd (subst P same c.in_default.ensures.some due probed)
+
+-- a loss probe leaves congestion control
+pub returns-in-Some-clause-free : goal.returns-in-Some-clause-free
+returns-in-Some-clause-free c = λ size fits some due probing.
+    let same = c.run_timer.ensures.due size fits some due in
+    let P : Socket → Type 0 = λ (x : Socket). is_due x.timers.resend_at c.args.now ≡ true → is_probing x.flow ≡ true → c.expire.new.self.flow.congestion ≡ x.flow.congestion in
+    subst P same c.expire.ensures.free due probing
+
+pub returns-clause-free : goal.returns-clause-free
+returns-clause-free c = λ size fits some due probing.
+    let same = c.run_timer.ensures.due size fits some due in
+    let P : Socket → Type 0 = λ (x : Socket). is_due x.timers.resend_at c.args.now ≡ true → is_probing x.flow ≡ true → c.expire.new.self.flow.congestion ≡ x.flow.congestion in
+    ap (λ (f : Flow). f.congestion) c.next.ensures.same ∙ subst P same c.expire.ensures.free due probing
 
 pub returns-clause-probed : goal.returns-clause-probed
 returns-clause-probed c = λ size fits some due.
