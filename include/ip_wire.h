@@ -738,9 +738,9 @@ void lk_make_reply(struct lk_frame *frame);
 ptrdiff_t lk_emit_udp_frame(const struct lk_frame *headers, const uint8_t *ptr, size_t len, uint8_t *out,
                             size_t cap);
 
-/* The same with a TCP segment. Uses `tcp` of `headers` too. `options` of zeros are none. Fails also with LK_EMIT_PORT_ZERO if the source port is 0,
- * and with LK_TWO_CONTROLS and LK_OPTIONS_TOO_LONG. Header and payload have at most 65515 bytes over IPv4, 65535
- * over IPv6. */
+/* The same with a TCP segment. Uses `tcp` of `headers` too. `options` of zeros are none. Fails also with
+ * LK_EMIT_PORT_ZERO if the source port is 0, and with LK_TWO_CONTROLS and LK_OPTIONS_TOO_LONG. Header and payload have
+ * at most 65515 bytes over IPv4, 65535 over IPv6. */
 ptrdiff_t lk_emit_tcp_frame(const struct lk_frame *headers, const struct lk_tcp_options *options,
                             const uint8_t *ptr, size_t len, uint8_t *out, size_t cap);
 
@@ -1446,8 +1446,9 @@ int lk_set_bytes(uint8_t *frame, size_t len, size_t offset, const uint8_t *ptr, 
 int lk_set_bytes_as(uint8_t *frame, size_t len, size_t offset, const uint8_t *ptr, size_t count, int offload);
 
 /* Computes the TCP, UDP, ICMP or ICMPv6 checksum anew, as a device does for LK_CHECKSUM_PARTIAL, also where UDP has none.
- * A wrong checksum becomes valid too: of a packet that was received, call it only for LK_CHECKSUM_PARTIAL. If an IPv4 source route has hops left, the result covers the next hop, and the last receiver rejects it. Returns 0 for
- * fragments other than atomic ones, and for UDP whose length does not fit. */
+ * A wrong checksum becomes valid too: of a packet that was received, call it only for LK_CHECKSUM_PARTIAL. If an IPv4
+ * source route has hops left, the result covers the next hop, and the last receiver rejects it. Returns 0 for fragments
+ * other than atomic ones, and for UDP whose length does not fit. */
 int lk_fill_checksum(uint8_t *frame, size_t len);
 
 /* ---- routes ---- */
