@@ -20,7 +20,7 @@ pub struct Endpoint {
     pub port: u16,
 }
 
-/// `struct lk_block`: a CIDR block.
+/// `struct lk_prefix`: a CIDR block.
 #[repr(C)]
 #[derive(Clone, Copy)]
 pub struct Block {
