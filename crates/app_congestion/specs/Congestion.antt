@@ -158,8 +158,8 @@ duplicated s flight una next =
 abbrev pub allowed : Sender → ℕ
 allowed s = if is_in_recovery s.phase then s.ssthresh else unchanged s
 
--- A loss probe (RFC 8985, section 7.4): fast recovery begins, and no segment has left the network. In fast recovery the segment
--- that was sent again is lost, so ssthresh is halved again (RFC 5681, section 4.3).
+-- A loss probe repaired a loss (RFC 8985, section 7.4): fast recovery begins. In fast recovery the segment that was sent again
+-- was lost, so ssthresh is halved again (RFC 5681, section 4.3).
 abbrev pub probed : Sender → ℕ → ℕ → Sender
 probed s flight next =
     record s { ssthresh = halved s (min (allowed s) flight); cwnd = halved s (min (allowed s) flight); acked = 0; duplicates = 0; phase = Recovery next }

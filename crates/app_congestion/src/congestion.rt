@@ -187,9 +187,9 @@ impl Congestion {
         true
     }
 
-    /// A loss probe goes (RFC 8985, section 7) with `flight` bytes in flight: the segment at SND.UNA is sent again, and counts as
-    /// lost. `next` is the number after the highest one that was sent. Fast recovery begins. In it the segment was sent again
-    /// before, and ssthresh is halved again (RFC 5681, section 4.3).
+    /// A loss probe repaired a loss (RFC 8985, section 7.4): the segment at SND.UNA was lost, with `flight` bytes in flight.
+    /// `next` is the number after the highest one that was sent. Fast recovery begins. In it the segment was sent again before,
+    /// and ssthresh is halved again (RFC 5681, section 4.3).
     pub fn on_probe(&mut self, flight: u32, next: u32)
         ensures sender { sender_of self.new ≡ probed (sender_of self.old) flight next }
         ensures half { self.new.ssthresh ≤ max (flight / 2) (2 * self.old.mss) }
