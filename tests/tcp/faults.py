@@ -466,9 +466,39 @@ class NoNagle(Socket):
 class LateAcks(Socket):
     """Every acknowledgement of text waits, also the second one and after a gap."""
 
-    def answer(self, reply, has_moved, is_special):
+    def answer(self, seg, reply, has_moved, is_special):
         self.ack_at = None
-        return super().answer(reply, has_moved, False)
+        return super().answer(seg, reply, has_moved, False)
+
+
+class AnswersAll(Socket):
+    """Acknowledgements of acknowledgements go as often as they are asked for."""
+
+    def may_answer(self, seg):
+        return True
+
+
+class LimitsText(Socket):
+    """The answer to text is limited too."""
+
+    def may_answer(self, seg):
+        return super().may_answer(seg._replace(text=b"", bits=seg.bits.replace("F", "")))
+
+
+class LimitsAcksOnly(Socket):
+    """The answers to SYN and RST are not limited."""
+
+    def may_answer(self, seg):
+        return bool(seg.bits) or super().may_answer(seg)
+
+
+class LongLimit(Socket):
+    """A segment whose answer is held back puts the next answer off."""
+
+    def may_answer(self, seg):
+        may = super().may_answer(seg)
+        self.quiet_until = self.quiet_until if may else self.now + socket_model.QUIET
+        return may
 
 
 class ForeverWaiting(Socket):

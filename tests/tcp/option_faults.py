@@ -126,16 +126,16 @@ class TakesOld(Socket):
 class SilentPaws(Socket):
     """A segment with an old timestamp is not answered."""
 
-    def answer_to_old(self):
+    def answer_to_old(self, seg):
         return None
 
 
 class OwesAfterOld(Socket):
     """The acknowledgement that answers an old timestamp leaves the delayed one."""
 
-    def answer_to_old(self):
+    def answer_to_old(self, seg):
         ack_at = self.ack_at
-        answer = super().answer_to_old()
+        answer = super().answer_to_old(seg)
         self.ack_at = ack_at
         return answer
 

@@ -99,6 +99,7 @@ SOCKET_RULES = {
     "goes on": SENDING,
     "goes back": SENDING,
     "acknowledgement": SYNCHRONIZED,
+    "held back": SYNCHRONIZED,
     "window update": TAKING,
     "keep-alive": (ESTABLISHED, FIN_WAIT_2, CLOSE_WAIT),
     # Options and errors

@@ -13,6 +13,8 @@ from tcp_options import DEFAULT_MSS, MAX_FIELD, MIN_MSS, MIN_TEXT, NONE, Agreed,
 SYN_PATIENCE, USER_TIMEOUT, TIME_WAIT_LENGTH = 180 * SECOND, 300 * SECOND, 60 * SECOND
 KEEP_ALIVE_INTERVAL, KEEP_ALIVE_PROBES = 75 * SECOND, 9
 ACK_DELAY = 40
+# How long no answer goes after one to a segment without text.
+QUIET = 500
 # The most segments that the blocks of a segment count for.
 MOST_COUNTED = 64
 NO_PEER = (model.CLOSED, model.LISTEN)
@@ -33,6 +35,7 @@ class Socket:
         self.edge = 0
         # When text or a FIN was sent last.
         self.sent_at = 0
+        self.quiet_until = 0
         self.agree_on_nothing(0)
         self.begin(0)
 
@@ -149,7 +152,7 @@ class Socket:
             if seg.options.stamps is None:
                 return self.connection.done("no timestamp")
             if self.agreed.is_old(seg.options.stamps, self.now):
-                return self.packet(self.connection.done("old timestamp", self.answer_to_old()))
+                return self.packet(self.connection.done("old timestamp", self.answer_to_old(seg)))
         counts = self.is_open and self.counts(seg)
         self.agree(seg, iss)
         reply = self.take(seg._replace(window=self.window_of(seg)), iss)
@@ -162,9 +165,9 @@ class Socket:
         """Whether a segment needs a timestamp (RFC 7323, section 3.2)."""
         return self.is_open and "R" not in seg.bits and self.agreed.recent is not None
 
-    def answer_to_old(self):
+    def answer_to_old(self, seg):
         """RFC 7323, section 5.3."""
-        return self.advertised(self.acknowledgement())
+        return self.advertised(self.acknowledgement()) if self.may_answer(seg) else None
 
     def counts(self, seg):
         """Whether TS.Recent becomes SEG.TSval: SEG.SEQ =< Last.ACK.sent =< SEG.SEQ + SEG.LEN (RFC 7323, section 4.3)."""
@@ -207,7 +210,7 @@ class Socket:
         else:
             self.hear(seg, was, is_near or self.rcv_nxt != rcv_nxt or self.snd_una != una)
             self.take_ack(seg, una, flight, window, is_near)
-        return self.answer(reply, self.rcv_nxt != rcv_nxt, is_special)
+        return self.answer(seg, reply, self.rcv_nxt != rcv_nxt, is_special)
 
     def is_near(self, seg):
         """A segment at most one number after the window."""
@@ -334,10 +337,20 @@ class Socket:
             if is_right:
                 self.scoreboard.add(first, end)
 
-    def answer(self, reply, has_moved, is_special):
+    def may_answer(self, seg):
+        """Challenge ACKs, and acknowledgements of acknowledgements, go once in half a second (RFC 5961, section 7)."""
+        if (seg.text or "F" in seg.bits) and not {"S", "R"} & set(seg.bits):
+            return True
+        if self.now < self.quiet_until:
+            self.met.append("held back")
+            return False
+        self.quiet_until = self.now + QUIET
+        return True
+
+    def answer(self, seg, reply, has_moved, is_special):
         """The acknowledgement goes at once, by the next `tick`, or later (RFC 5681, section 4.2)."""
         if not has_moved:
-            return self.advertised(reply) if reply else None
+            return self.advertised(reply) if reply and self.may_answer(seg) else None
         is_now = is_special or self.pieces or self.ack_at is not None
         self.ack_at = self.now if is_now else self.now + ACK_DELAY
         return None

@@ -29,12 +29,13 @@ use Rattle.app_socket.specs.Replies.{RepliesToItems}
 use Rattle.app_socket.specs.Resends.{Learns, is_due, scaled_by}
 use Rattle.app_socket.specs.Rounds.{AcknowledgesItems}
 use Rattle.app_socket.specs.Runs.{Calls, End, Ends, Runs, end_of, ends_of, there}
+use Rattle.app_socket.specs.Limits.{is_held}
 use Rattle.app_socket.specs.Segments.{StaysOrUpdates, rejects}
 use Rattle.app_socket.specs.Times.{is_open, later}
 use Rattle.app_socket.proofs.Delivery.{runs_of}
 use Rattle.app_socket.proofs.ManyRounds.{timer_due}
 use Rattle.app_socket.proofs.Rounds.{no_flag, none_rejected}
-use Rattle.app_socket.proofs.Opened.{open_has_peer, open_phase}
+use Rattle.app_socket.proofs.Opened.{not_held, open_has_peer, open_phase}
 use Rattle.app_socket.proofs.Stepping.{choice_false, steps_by}
 use Rattle.app_socket.specs.declared.laws.pair.Exchange.{Exchange}
 use Rattle.app_socket.specs.Answered.{Answered, AtUna, IsSet}
@@ -178,7 +179,8 @@ owed : (a : End) (old mid : Socket) (answers before text : List ℕ) (t : Past) 
 owed a old mid answers before text t r sent x options came at may is same owes =
     let rejected : rejects old r.arrives x.now options.now ≡ false = none_rejected _ _ _ (ap (λ (y : TcpOptionSummary). takes old.agreed.recent y.timestamp r.arrives) same ∙ may.taken) in
     let at_x : AtUna (end_of a) x.now = subst (AtUna (end_of a)) (sym is) (record { number = at.number; some = at.some; rst = at.rst; syn = at.syn; ack = at.ack }) in
-    let soon = owes may.opened came.opened may.synced rejected (brings x.now _ at_x.rst at_x.some at_x.ack) refl in
+    let held : is_held old r.arrives x.now ≡ false = not_held x.now old r.arrives at_x.syn at_x.rst at_x.some in
+    let soon = owes may.opened came.opened may.synced rejected held (brings x.now _ at_x.rst at_x.some at_x.ack) refl in
     record { due = timer_due mid.timers.ack_at (later r.arrives 40) r.calls soon (omega (arith, may.soon)); in_time = omega (arith, came.lasts, may.patient) }
 
 -- it is answered by the next call

@@ -1,6 +1,7 @@
 -- What holds of a connection that is set up.
-use Rattle.std.proofs.Common.{◌≡◌, ◌⊎◌, inr, refl, ◌∙◌, ap, subst, ℕ, ◌<◌, List, Bool, true, false, length, arith}
-use Rattle.std.specs.Prelude.{Option, Some, None, IfSome, is_some, ◌&&◌, if◌then◌else◌}
+use Rattle.std.proofs.Common.{◌≡◌, ◌⊎◌, inr, refl, ◌∙◌, ap, subst, ℕ, ◌+◌, ◌<◌, List, Bool, true, false, length, arith}
+use Rattle.std.specs.Prelude.{Option, Some, None, IfSome, is_some, not, nat_lt, ◌==◌, ◌||◌, ◌&&◌, if◌then◌else◌}
+use Rattle.std.proofs.lemmas.Bool.Decides.{nat_tests}
 use Rattle.tcp_model.specs.Network.{World}
 use Rattle.app_tcp.specs.Stands.{Stands, IsAnswer}
 use Rattle.app_tcp.specs.declared.receiving.Receiving.{Receiving}
@@ -10,12 +11,14 @@ use Rattle.app_connection.specs.declared.state.Phase.{Phase}
 use Rattle.app_connection.specs.declared.state.Phase.TheVariants as phase
 use Rattle.app_connection.specs.declared.state.State.{State}
 use Rattle.app_connection.specs.declared.state.State.TheVariants as state
-use Rattle.app_connection.specs.Endpoints.{len_of, spoken}
+use Rattle.app_connection.specs.Endpoints.{len_of, one, spoken}
 use Rattle.app_connection.specs.Promises.{HasNoText}
 use Rattle.app_connection.specs.States.{state_from, state_in, has_peer}
 use Rattle.app_connection.specs.declared.segment.Reply.{Reply}
+use Rattle.app_socket.specs.Limits.{is_held}
 use Rattle.app_socket.specs.Promises.{HasShortText}
 use Rattle.app_socket.specs.Times.{is_open}
+use Rattle.app_socket.specs.declared.socket.Socket.{Socket}
 
 open_in : (p : Phase) (s : State) → is_open (state_in p s) ≡ true → p ≡ phase.Open
 open_in phase.Closed s is = absurd (cc)
@@ -80,7 +83,22 @@ pub is_said : (b : Bool) (r : Reply) → is_some (if b then Some r else None) �
 is_said true r = refl
 is_said false r = refl
 
--- A receiving half without the peer's SYN answers no acknowledgement. The reply of another one goes out.
-pub answers_exactly : (synced rest : Bool) (o q : Option Segment) → is_some o ≡ (synced && rest) → (is_some o ≡ false → q ≡ None) → (synced ≡ true → is_some q ≡ is_some o) → is_some q ≡ (synced && rest)
-answers_exactly true rest o q said none some = some refl ∙ said
-answers_exactly false rest o q said none some = ap is_some (none said)
+-- A receiving half without the peer's SYN answers no acknowledgement. The reply of another one goes out unless it is held back.
+pub answers_exactly : (synced rest held : Bool) (o q : Option Segment) → is_some o ≡ (synced && rest) → (is_some o ≡ false → q ≡ None) → (synced ≡ true → is_some q ≡ (is_some o && not held))
+    → is_some q ≡ ((synced && rest) && not held)
+answers_exactly true rest held o q said none some = some refl ∙ ap (λ (b : Bool). b && not held) said
+answers_exactly false rest held o q said none some = ap is_some (none said)
+
+and_none : (b : Bool) → (b && false) ≡ false
+and_none true = refl
+and_none false = refl
+
+not_limited_by : (syn rst fin : Bool) (n : ℕ) → syn ≡ false → rst ≡ false → 0 < n + one syn + one fin → (syn || (rst || (n == 0 && not fin))) ≡ false
+not_limited_by true rst fin n no_syn no_rst some = absurd (cc)
+not_limited_by false true fin n no_syn no_rst some = absurd (cc)
+not_limited_by false false true n no_syn no_rst some = and_none (n == 0)
+not_limited_by false false false n no_syn no_rst some = let is : (n == 0) ≡ false = grind (arith, nat_tests) in ap (λ (b : Bool). b && true) is
+
+-- the answer to text and FIN is not held back
+pub not_held : (s : Segment) (socket : Socket) (now : ℕ) → s.syn ≡ false → s.rst ≡ false → 0 < len_of s → is_held socket now s ≡ false
+not_held s socket now no_syn no_rst some = ap (λ (b : Bool). b && nat_lt now socket.quiet_until) (not_limited_by s.syn s.rst s.fin (length s.payload.now) no_syn no_rst some)

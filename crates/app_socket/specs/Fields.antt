@@ -45,4 +45,5 @@ socket_of f = record {
   edge = f.edge;
   agreed = agreed_of f.agreed;
   limit = f.limit;
+  quiet_until = f.quiet_until;
 }

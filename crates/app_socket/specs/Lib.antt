@@ -8,6 +8,7 @@ pub mod Probes
 pub mod Resends
 pub mod Segments
 pub mod Runs
+pub mod Limits
 pub mod Promises
 pub mod Replies
 pub mod Pair

@@ -1,7 +1,7 @@
 -- What one event makes of a socket: a name for each clause of `step`, and for what the functions below it promise too. `old` and
 -- `new` are the socket before and after the event, and `given` is the segment that is returned.
 -- Pinned by: `socket/scenarios`
-use Rattle.std.specs.Prelude.{ℕ, ◌≡◌, ◌<◌, ◌≤◌, List, length, Option, IfSome, MatchOption, None, is_some, max, option_map, true, false}
+use Rattle.std.specs.Prelude.{ℕ, ◌≡◌, ◌<◌, ◌≤◌, ◌&&◌, not, List, length, Option, IfSome, MatchOption, None, is_some, max, option_map, true, false}
 use Rattle.tcp_model.specs.Network.{World}
 use Rattle.app_tcp.specs.Stands.{room_of}
 use Rattle.app_tcp.specs.Waits.{Waits}
@@ -15,6 +15,7 @@ use Rattle.app_connection.specs.States.{has_peer, state_from}
 use Rattle.app_connection.specs.Steps.{Steps}
 use Rattle.app_connection.specs.Worlds.{said}
 use Rattle.app_socket.specs.Events.{move_of}
+use Rattle.app_socket.specs.Limits.{holds, quiet_by}
 use Rattle.app_socket.specs.Resends.{Acknowledges, BeginsBy, IsSound, LearnsBy, Resends, SendsSyn, is_due}
 use Rattle.app_socket.specs.Segments.{GoesForward, IsSent, StaysOrUpdates, has_timestamp, is_stale, taken_of}
 use Rattle.app_socket.specs.Times.{due_in, is_open, later, patience_of}
@@ -100,33 +101,49 @@ OwesNoAck old new given = WhileOpen old new (IfSome given (λ s. new.timers.ack_
 abbrev pub AcksSoon : Socket → ℕ → Option Segment → Type 0
 AcksSoon new now given = given ≡ None → MatchOption new.timers.ack_at ⊥ (λ t. t ≤ later now 40)
 
--- text, SYN and FIN are acknowledged at once, or within 40 ms (RFC 9293, section 3.8.6.3)
+-- Text, SYN and FIN are acknowledged at once, or within 40 ms (RFC 9293, section 3.8.6.3). Only the answer to a SYN may be held
+-- back.
 abbrev pub OwesAck : Socket → Socket → ℕ → Event → Option Segment → Type 0
 OwesAck old new now e given =
     WhileOpen old new
-    (old.connection.receiving.is_open ≡ true → is_stale old now e ≡ false → brings_items (move_of e) ≡ true
-    → AcksSoon new now given)
+    (old.connection.receiving.is_open ≡ true → is_stale old now e ≡ false → holds old now e ≡ false
+    → brings_items (move_of e) ≡ true → AcksSoon new now given)
 
--- which acknowledgements without items are answered
+-- which acknowledgements without items are answered: those that need it, unless the answer is held back
 abbrev pub AnswersBare : Socket → Socket → ℕ → ℕ → Event → Option Segment → Type 0
 AnswersBare old new size now e given =
     WhileOpen old new
     (is_stale old now e ≡ false → brings_bare (move_of e) ≡ true
-    → is_some given ≡ is_answered (move_of e) old.connection (room_of old.connection.receiving size))
+    → is_some given ≡ (is_answered (move_of e) old.connection (room_of old.connection.receiving size)
+    && not (holds old now e)))
+
+-- no answer goes that is held back
+abbrev pub HoldsAnswers : Socket → Socket → ℕ → Event → Option Segment → Type 0
+HoldsAnswers old new now e given = WhileOpen old new (holds old now e ≡ true → given ≡ None)
+
+-- after one that is limited, the next one is held back for half a second (RFC 5961, section 7)
+abbrev pub LimitsAnswers : Socket → Socket → ℕ → Event → Option Segment → Type 0
+LimitsAnswers old new now e given = WhileOpen old new (new.quiet_until ≡ quiet_by e old now (is_some given))
 
 -- ---- PAWS
 
--- what is owed and advertised changes, and nothing else
+-- what is owed and advertised changes, and when the next answer goes, and nothing else
 abbrev pub ChangesOnlyAck : Socket → Socket → Type 0
-ChangesOnlyAck old new = new ≡ record old { timers = record old.timers { ack_at = new.timers.ack_at }; edge = new.edge }
+ChangesOnlyAck old new =
+    new
+    ≡ record old {
+      timers = record old.timers { ack_at = new.timers.ack_at };
+      edge = new.edge;
+      quiet_until = new.quiet_until;
+    }
 
 -- a segment with an old timestamp is dropped (RFC 7323, section 5.3)
 abbrev pub DropsStale : Socket → Socket → ℕ → Event → Type 0
 DropsStale old new now e = is_stale old now e ≡ true → ChangesOnlyAck old new
 
--- it is answered, if it has a timestamp
+-- it is answered, if it has a timestamp and the answer is not held back
 abbrev pub AnswersStale : Socket → ℕ → Event → Option Segment → Type 0
-AnswersStale old now e given = is_stale old now e ≡ true → is_some given ≡ has_timestamp e
+AnswersStale old now e given = is_stale old now e ≡ true → is_some given ≡ (has_timestamp e && not (holds old now e))
 
 -- TS.Recent does not go back
 abbrev pub KeepsRecent : Socket → Socket → ℕ → Type 0

@@ -12,6 +12,7 @@ ghost use Rattle.tcp_model.specs.Endpoint.{distance};
 ghost use Rattle.app_congestion.specs.Congestion.{is_in_recovery};
 ghost use Rattle.app_socket.specs.Resends.{IsArmed, IsDuplicate, IsSound, Learns, restarted_at, scaled_by, CountsDuplicate, ResendsOnPartial, ResendsOnThird, RestartsTimer, StaysSound, UndoesNeedless, newly_after};
 ghost use Rattle.app_socket.specs.Undo.{Undoes, is_needless};
+ghost use Rattle.app_socket.specs.Limits.{is_held, quiet_after};
 ghost use Rattle.app_socket.specs.Segments.{StaysOrUpdates, rejects};
 ghost use Rattle.app_socket.specs.Times.{is_open, later, patience_of};
 ghost use Rattle.app_socket.specs.Window.{HasRoom, Tells};
@@ -52,14 +53,18 @@ impl Socket {
         ensures bare { IsOpen self.old → IfSome result (λ s. len_of s ≡ 0) }
         ensures answers { AcknowledgesReceived self.old self.new incoming.new result }
         ensures owes { WhileOpen self.old self.new (self.old.connection.receiving.is_open ≡ true
-            → rejects self.old now segment.now options.now ≡ false → has_items segment.now ≡ true
-            → AcksSoon self.new now result) }
+            → rejects self.old now segment.now options.now ≡ false → is_held self.old now segment.now ≡ false
+            → has_items segment.now ≡ true → AcksSoon self.new now result) }
         ensures replies { WhileOpen self.old self.new (self.old.connection.receiving.is_open ≡ true
             → rejects self.old now segment.now options.now ≡ false → has_items segment.now ≡ true
             → IsAcknowledgement self.new result) }
         ensures to_bare { WhileOpen self.old self.new (rejects self.old now segment.now options.now ≡ false
-            → is_bare segment.now ≡ true → is_some result ≡ answers_bare self.old.connection
-            (room_of self.old.connection.receiving (length incoming.old)) segment.now.number segment.now.ack) }
+            → is_bare segment.now ≡ true → is_some result ≡ (answers_bare self.old.connection
+            (room_of self.old.connection.receiving (length incoming.old)) segment.now.number segment.now.ack
+            && not (is_held self.old now segment.now))) }
+        ensures held { WhileOpen self.old self.new (is_held self.old now segment.now ≡ true → result ≡ None) }
+        ensures quiet { WhileOpen self.old self.new
+            (self.new.quiet_until ≡ quiet_after self.old now segment.now (is_some result)) }
         ensures recent { KeepsRecent self.old self.new now }
         ensures timestamp { IsOpen self.old
             → StaysOrUpdates self.old.agreed.recent self.new.agreed.recent options.now.timestamp now }
@@ -75,13 +80,13 @@ impl Socket {
             options.now.timestamp) }
         ensures stale { rejects self.old now segment.now options.now ≡ true → ChangesOnlyAck self.old self.new }
         ensures answered { rejects self.old now segment.now options.now ≡ true
-            → is_some result ≡ is_some options.now.timestamp }
+            → is_some result ≡ (is_some options.now.timestamp && not (is_held self.old now segment.now)) }
         ensures steps { StepsBy self.old self.new outgoing.now incoming.old incoming.new
             (if rejects self.old now segment.now options.now then Move.Send 0 0 else Move.Arrives segment.entry fresh)
             result }
     {
         if self.is_stale(segment, options, now) {
-            return self.on_stale(outgoing, incoming.len(), options);
+            return self.on_stale(outgoing, incoming.len(), now, segment, options);
         }
         self.agree(segment, options, now, fresh);
         let counts = self.is_timestamp_due(segment);
@@ -116,12 +121,17 @@ impl Socket {
         ensures bare { IsOpen self.old → IfSome result (λ s. len_of s ≡ 0) }
         ensures answers { AcknowledgesReceived self.old self.new incoming.new result }
         ensures owes { WhileOpen self.old self.new (self.old.connection.receiving.is_open ≡ true
-            → has_items segment.now ≡ true → AcksSoon self.new now result) }
+            → is_held self.old now segment.now ≡ false → has_items segment.now ≡ true
+            → AcksSoon self.new now result) }
         ensures replies { WhileOpen self.old self.new (self.old.connection.receiving.is_open ≡ true
             → has_items segment.now ≡ true → IsAcknowledgement self.new result) }
         ensures to_bare { WhileOpen self.old self.new (is_bare segment.now ≡ true → is_some result
-            ≡ answers_bare self.old.connection
-            (room_of self.old.connection.receiving (length incoming.old)) segment.now.number segment.now.ack) }
+            ≡ (answers_bare self.old.connection
+            (room_of self.old.connection.receiving (length incoming.old)) segment.now.number segment.now.ack
+            && not (is_held self.old now segment.now))) }
+        ensures held { WhileOpen self.old self.new (is_held self.old now segment.now ≡ true → result ≡ None) }
+        ensures quiet { WhileOpen self.old self.new
+            (self.new.quiet_until ≡ quiet_after self.old now segment.now (is_some result)) }
         ensures agreed { self.new.agreed ≡ self.old.agreed }
         ensures steps { StepsBy self.old self.new outgoing.now incoming.old incoming.new
             (Move.Arrives segment.entry fresh) result }
@@ -167,7 +177,7 @@ impl Socket {
     }
 
     // The first window is advertised.
-    fn begin_edge(&mut self, reply: &Option<Segment<'_>>)
+    pub(crate) fn begin_edge(&mut self, reply: &Option<Segment<'_>>)
         ensures { self.new ≡ record self.old { edge = self.new.edge } }
     {
         if let Some(reply) = reply
@@ -382,58 +392,5 @@ impl Socket {
         }
         let newly = self.flow.sacked().saturating_sub(known);
         (newly / u32::from(self.most().max(1))).min(MAX_SEGMENTS)
-    }
-
-    // What goes out at once. The acknowledgement of text waits for Tick.
-    fn answer<'a>(
-        &mut self,
-        before: &Before,
-        incoming: usize,
-        now: u64,
-        segment: &Segment,
-        reply: Option<Segment<'a>>,
-    ) -> Option<Segment<'a>>
-        requires rings { InFits self.old.connection.receiving incoming }
-        requires text { HasNoText reply }
-        requires bare { is_open before.now.state ≡ true → IfSome reply (λ s. len_of s ≡ 0) }
-        ensures same { self.new ≡ record self.old { timers = self.new.timers; edge = self.new.edge } }
-        ensures text { HasNoText result }
-        ensures bare { is_open before.now.state ≡ true → IfSome result (λ s. len_of s ≡ 0) }
-        ensures goes_out { (there back : World) (consumed buffer : List ℕ)
-            → Stands back consumed self.old.connection.receiving buffer
-            → IfSome (option_map said reply.entry) (GoesOut there back)
-            → IfSome (option_map said result) (GoesOut there back) }
-        ensures answers { is_open before.now.state ≡ true
-            → IfSome result (λ s. IsAnswerOf self.old.connection.receiving s.ack) }
-        ensures tells { is_open before.now.state ≡ true → IfSome result (λ s. IfSome s.ack
-            (λ ack. Tells self.old.edge self.new.edge self.old.connection.receiving incoming ack s.window)) }
-        ensures keeps { is_open before.now.state ≡ true → HasRoom self.old.edge self.old.connection.receiving incoming
-            → HasRoom self.new.edge self.old.connection.receiving incoming }
-        ensures acks { is_open before.now.state ≡ true → IfSome result (λ s. self.new.timers.ack_at ≡ None) }
-        ensures ends_at { self.new.timers.ends_at ≡ self.old.timers.ends_at }
-        ensures resend_at { self.new.timers.resend_at ≡ self.old.timers.resend_at }
-        ensures owes { is_open before.now.state ≡ true → is_some reply.entry ≡ true → AcksSoon self.new now result }
-        ensures replies { is_open before.now.state ≡ true
-            → spoken reply.entry ≡ Some (acknowledgement_of self.old.connection) → IsAcknowledgement self.old result }
-        ensures none { is_open before.now.state ≡ true → is_some reply.entry ≡ false → result ≡ None }
-        ensures some { is_open before.now.state ≡ true → self.old.connection.receiving.is_open ≡ true
-            → before.now.next ≡ self.old.connection.receiving.next → is_some result ≡ is_some reply.entry }
-    {
-        if before.state == State::SynSent {
-            self.begin_edge(&reply);
-            return reply;
-        }
-        if before.next == self.next() {
-            let Some(reply) = reply else {
-                return None;
-            };
-            return Some(self.advertise(reply, incoming));
-        }
-        let at_once = self.timers.ack_at.is_some()
-            || segment.fin
-            || before.has_gap
-            || self.connection.has_gap();
-        self.timers.owe(now, at_once);
-        None
     }
 }

@@ -29,6 +29,7 @@ pub struct SocketFields {
     resend_at: u64,
     ack_at: u64,
     probe_at: u64,
+    quiet_until: u64,
     options: Options,
     cursor: u32,
     rescued: u32,
@@ -66,6 +67,7 @@ impl Socket {
             resend_at: timers.resend_at.unwrap_or(0),
             ack_at: timers.ack_at.unwrap_or(0),
             probe_at: timers.probe_at,
+            quiet_until: self.quiet_until,
             options: self.options,
             cursor: flow.cursor,
             rescued: flow.rescued,
@@ -112,6 +114,7 @@ impl SocketFields {
             edge: self.edge,
             agreed: self.agreed.value(),
             limit: self.limit,
+            quiet_until: self.quiet_until,
         }
     }
 

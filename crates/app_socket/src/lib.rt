@@ -3,6 +3,7 @@
 //! `app_connection`. No input, output, clock or allocation.
 #![tactic(auto)]
 
+mod answers;
 mod arrival;
 mod before;
 mod calls;

@@ -1,10 +1,11 @@
 //! The options of a segment that arrives: what a SYN agrees on, timestamps and PAWS, the window scale (RFC 7323).
 
-ghost use Rattle.std.specs.Prelude.{false, None, ◌≡◌, ◌<◌, ℕ, List, is_some, length, true, IfSome, option_map, ◌&&◌, min, Option};
+ghost use Rattle.std.specs.Prelude.{false, None, ◌≡◌, ◌<◌, ℕ, List, is_some, length, true, IfSome, option_map, ◌&&◌, not, min, Option};
 ghost use Rattle.tcp_model.specs.Network.{World};
 ghost use Rattle.app_tcp.specs.Stands.{Stands};
 ghost use Rattle.app_connection.specs.Endpoints.{InFits, len_of};
 ghost use Rattle.app_connection.specs.Worlds.{GoesOut, said};
+ghost use Rattle.app_socket.specs.Limits.{is_held, quiet_after};
 ghost use Rattle.app_socket.specs.Resends.{scaled_by};
 ghost use Rattle.app_socket.specs.Segments.{rejects};
 ghost use Rattle.app_socket.specs.Times.{is_open};
@@ -34,11 +35,16 @@ impl Socket {
         &mut self,
         outgoing: &'a [u8],
         incoming: usize,
+        now: u64,
+        segment: &Segment,
         options: &TcpOptionSummary,
     ) -> Option<Segment<'a>>
         requires { InFits self.old.connection.receiving incoming }
         ensures same { ChangesOnlyAck self.old self.new }
-        ensures answered { is_some result ≡ is_some options.now.timestamp }
+        ensures answered { is_some result
+            ≡ (is_some options.now.timestamp && not (is_held self.old now segment.now)) }
+        ensures held { is_held self.old now segment.now ≡ true → result ≡ None }
+        ensures quiet { self.new.quiet_until ≡ quiet_after self.old now segment.now (is_some result) }
         ensures tells { IfSome result (λ s. IfSome s.ack
             (λ ack. Tells self.old.edge self.new.edge self.old.connection.receiving incoming ack s.window)) }
         ensures keeps { HasRoom self.old.edge self.old.connection.receiving incoming
@@ -51,7 +57,7 @@ impl Socket {
             → Stands back consumed self.old.connection.receiving buffer
             → IfSome (option_map said result) (GoesOut there back) }
     {
-        if options.timestamp.is_none() {
+        if options.timestamp.is_none() || !self.may_answer(segment, now) {
             return None;
         }
         let number = self.connection.acknowledgement().number;

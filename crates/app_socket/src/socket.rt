@@ -40,6 +40,8 @@ pub struct Socket {
     pub(crate) agreed: Agreed,
     // The largest segment that the peer and the path take, with its options.
     pub(crate) limit: u16,
+    // Before this time no answer goes to a segment without text.
+    pub(crate) quiet_until: u64,
 }
 
 /// What the TCP header of a segment has beside its numbers, flags and text.
@@ -67,6 +69,7 @@ impl Socket {
             edge: 0,
             agreed: Agreed::new(0),
             limit: options.most(),
+            quiet_until: 0,
         }
     }
 

@@ -7,7 +7,7 @@ ghost use Rattle.app_socket.specs.Events.{IsShort, IsTick, IsQuiet};
 ghost use Rattle.app_socket.specs.Resends.{Connects, ConnectsBy};
 ghost use Rattle.app_socket.specs.Times.{later, patience_of};
 ghost use Rattle.app_connection.specs.Promises.{HasNoText};
-ghost use Rattle.app_socket.specs.Promises.{AcknowledgesInTime, AcknowledgesReceived, AdvertisesWindow, AnswersBare, AnswersStale, BeginsSound, Continues, DropsStale, EndsBySilence, EndsNoLater, HasShortText, HearsTimestamp, IsOpen, IsPatient, KeepsRecent, KeepsRoom, LearnsFrom, OwesAck, OwesNoAck, ResendsInTime, ResendsSyn, RestsUntilDue, SendsStream, SendsWithin, StaysIdle, StaysOpen, TakesText, StepsBy};
+ghost use Rattle.app_socket.specs.Promises.{AcknowledgesInTime, AcknowledgesReceived, AdvertisesWindow, AnswersBare, AnswersStale, BeginsSound, Continues, DropsStale, EndsBySilence, EndsNoLater, HasShortText, HearsTimestamp, HoldsAnswers, IsOpen, IsPatient, KeepsRecent, KeepsRoom, LearnsFrom, LimitsAnswers, OwesAck, OwesNoAck, ResendsInTime, ResendsSyn, RestsUntilDue, SendsStream, SendsWithin, StaysIdle, StaysOpen, TakesText, StepsBy};
 ghost use Rattle.app_socket.specs.Replies.{RepliesToItems};
 
 use crate::socket::Socket;
@@ -64,6 +64,8 @@ impl Socket {
         ensures owes { OwesAck self.old self.new now event.entry result }
         ensures replies { RepliesToItems self.old self.new now event.entry result }
         ensures to_bare { AnswersBare self.old self.new (length incoming.old) now event.entry result }
+        ensures held { HoldsAnswers self.old self.new now event.entry result }
+        ensures quiet { LimitsAnswers self.old self.new now event.entry result }
         ensures recent { KeepsRecent self.old self.new now }
         ensures timestamp { HearsTimestamp event.entry self.old self.new now }
         ensures patience { IsPatient self.old self.new now }

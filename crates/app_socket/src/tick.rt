@@ -63,6 +63,7 @@ impl Socket {
         ensures sends { SendsStream self.old outgoing.now result }
         ensures answers { AcknowledgesReceived self.old self.new incoming.new result }
         ensures agreed { self.new.agreed ≡ self.old.agreed }
+        ensures quiet { self.new.quiet_until ≡ self.old.quiet_until }
         ensures resends { ResendsInTime self.old self.new outgoing.now now result }
         ensures acknowledges { AcknowledgesInTime self.old (length incoming.old) now result }
         ensures again { ResendsSyn self.old self.new now result }
@@ -95,6 +96,7 @@ impl Socket {
         ensures endpoint { endpoint_of self.new.connection ≡ endpoint_of self.old.connection }
         ensures goes { GoesFrom self.old.connection self.new.connection outgoing.now (option_map said result) }
         ensures agreed { self.new.agreed ≡ self.old.agreed }
+        ensures quiet { self.new.quiet_until ≡ self.old.quiet_until }
         ensures short { HasShortText result }
         ensures again { is_due self.old.timers.resend_at now ≡ true → SendsSyn self.old self.new now result }
         ensures ends_at { self.new.timers.ends_at ≡ self.old.timers.ends_at }
@@ -121,6 +123,7 @@ impl Socket {
         ensures receiving { self.new.connection.receiving ≡ self.old.connection.receiving }
         ensures goes { GoesFrom self.old.connection self.new.connection outgoing.now (option_map said result) }
         ensures agreed { self.new.agreed ≡ self.old.agreed }
+        ensures quiet { self.new.quiet_until ≡ self.old.quiet_until }
         ensures ends_at { EndsNoLater self.old self.new }
         ensures still { now < 9223372036854775808 → now < self.old.timers.ends_at → now < self.new.timers.ends_at }
         ensures resend { now < 9223372036854775808 → IfSome self.new.timers.resend_at (λ t. now < t) }

@@ -13,7 +13,7 @@ use Rattle.app_connection.specs.Steps as connection
 use Rattle.app_socket.specs.Events.{IsQuiet, IsTick}
 use Rattle.app_socket.specs.Fields.{socket_of}
 use Rattle.app_socket.specs.Promises.{AcknowledgesInTime, AcknowledgesReceived, AdvertisesWindow, AnswersBare, AnswersStale, BeginsSound}
-use Rattle.app_socket.specs.Promises.{Continues, DropsStale, EndsBySilence, EndsNoLater, HasShortText, HearsTimestamp, IsPatient, KeepsRecent, KeepsRoom, LearnsFrom}
+use Rattle.app_socket.specs.Promises.{Continues, DropsStale, EndsBySilence, EndsNoLater, HasShortText, HearsTimestamp, HoldsAnswers, IsPatient, KeepsRecent, KeepsRoom, LearnsFrom, LimitsAnswers}
 use Rattle.app_socket.specs.Promises.{OwesAck, OwesNoAck, ResendsInTime, ResendsSyn, RestsUntilDue, SendsStream, SendsWithin, StaysIdle, StaysOpen, TakesText}
 use Rattle.app_socket.specs.Replies.{RepliesToItems}
 use Rattle.app_socket.specs.Resends.{ConnectsBy}
@@ -55,6 +55,8 @@ pub record Steps (old new : Socket) (outgoing before after : List â„•) (now : â„
   pub owes : OwesAck old new now e given
   pub replies : RepliesToItems old new now e given
   pub to_bare : AnswersBare old new (length before) now e given
+  pub held : HoldsAnswers old new now e given
+  pub quiet : LimitsAnswers old new now e given
   pub recent : KeepsRecent old new now
   pub timestamp : HearsTimestamp e old new now
   pub patience : IsPatient old new now

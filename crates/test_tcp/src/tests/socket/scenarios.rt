@@ -387,3 +387,30 @@ fn a_slow_reader(rt: HostRuntime) {
     ];
     check(&rt, "a slow reader", &rows, S::FinWait1);
 }
+
+// Acknowledgements of what was not sent get one answer in half a second (RFC 5961, section 7), and text that came before one each.
+#[test]
+fn a_peer_out_of_step(rt: HostRuntime) {
+    let rows = [
+        (0, Listen, None, None),
+        (0, Gets(syn(99)), Some(syn_ack(500, 100)), Some(1000)),
+        (100, Gets(ack(100, 501)), None, Some(100_100)),
+        (200, Gets(ack(100, 502)), Some(ack(501, 100)), Some(100_200)),
+        (201, Gets(ack(100, 502)), None, Some(100_201)),
+        (699, Gets(ack(100, 502)), None, Some(100_699)),
+        (700, Gets(ack(100, 502)), Some(ack(501, 100)), Some(100_700)),
+        (
+            701,
+            Gets(text(99, 501, 1)),
+            Some(ack(501, 100)),
+            Some(100_700),
+        ),
+        (
+            702,
+            Gets(text(99, 501, 1)),
+            Some(ack(501, 100)),
+            Some(100_700),
+        ),
+    ];
+    check(&rt, "a peer out of step", &rows, S::Established);
+}

@@ -1,5 +1,5 @@
 use Rattle.std.proofs.Common.{◌≡◌, ◌∙◌, sym, subst, ap, length, ◌⊎◌, ℕ, List, ◌+◌, ◌≤◌, ◌<◌, true}
-use Rattle.std.specs.Prelude.{is_some, min, option_map, Option, Some, None, IfSome, if◌then◌else◌}
+use Rattle.std.specs.Prelude.{is_some, min, not, nat_lt, ◌&&◌, option_map, Option, Some, None, IfSome, if◌then◌else◌}
 use Rattle.app_tcp.specs.Stands.{Stands, room_of}
 use Rattle.app_tcp.specs.declared.receiving.Receiving.{Receiving}
 use Rattle.app_connection.specs.declared.connection.Connection.{Connection}
@@ -14,6 +14,7 @@ use Rattle.app_connection.specs.Worlds.{HearsAck}
 use Rattle.app_connection.specs.Sequence.{is_of_sent}
 use Rattle.app_socket.specs.declared.flow.Flow.{Flow}
 use Rattle.app_socket.specs.declared.socket.Socket.{Socket}
+use Rattle.app_socket.specs.Limits.{is_held, is_limited}
 use Rattle.app_socket.specs.Undo.{Undoes}
 use Rattle.app_socket.specs.Probes.{phase_heard}
 use Rattle.app_socket.specs.Resends.{IsArmed, IsDuplicate, IsSound, newly_in, restarted_at}
@@ -30,10 +31,23 @@ returns-in_default-clause-answers c = λ before after.
     (c.answer.ensures.answers (ap is_open c.before-before.ensures.state ∙ before))
 
 pub returns-in_default-clause-owes : goal.returns-in_default-clause-owes
-returns-in_default-clause-owes c = λ before after synced items none.
+returns-in_default-clause-owes c = λ before after synced held items none.
     let old = c.args.self.now.connection in
+    let s = c.args.segment.now in
     let said = c.step-reply.ensures.to_items (open_phase old before) (open_not_shut old before) synced items in
-    c.answer.ensures.owes (ap is_open c.before-before.ensures.state ∙ before) (is_spoken c.step-reply.result ∙ ap is_some said) none
+    let still : c.learn.new.self.quiet_until ≡ c.args.self.now.quiet_until = ap (λ (x : Socket). x.quiet_until) c.learn.ensures.same in
+    c.answer.ensures.owes (ap is_open c.before-before.ensures.state ∙ before) (is_spoken c.step-reply.result ∙ ap is_some said) (ap (λ (n : ℕ). is_limited s && nat_lt c.args.now n) still ∙ held) none
+
+pub returns-in_default-clause-held : goal.returns-in_default-clause-held
+returns-in_default-clause-held c = λ before after held.
+    let still : c.learn.new.self.quiet_until ≡ c.args.self.now.quiet_until = ap (λ (x : Socket). x.quiet_until) c.learn.ensures.same in
+    c.answer.ensures.held (ap is_open c.before-before.ensures.state ∙ before) (ap (λ (n : ℕ). is_limited c.args.segment.now && nat_lt c.args.now n) still ∙ held)
+
+pub returns-in_default-clause-quiet : goal.returns-in_default-clause-quiet
+returns-in_default-clause-quiet c = λ before after.
+    let still : c.learn.new.self.quiet_until ≡ c.args.self.now.quiet_until = ap (λ (x : Socket). x.quiet_until) c.learn.ensures.same in
+    c.answer.ensures.quiet (ap is_open c.before-before.ensures.state ∙ before)
+    ∙ ap (λ (n : ℕ). if (is_limited c.args.segment.now && is_some c.answer.result) then later c.args.now 500 else n) still
 
 pub returns-in_default-clause-replies : goal.returns-in_default-clause-replies
 returns-in_default-clause-replies c = λ before after synced items.
@@ -51,8 +65,11 @@ returns-in_default-clause-to_bare c = λ before after bare.
     let opened = ap is_open c.before-before.ensures.state ∙ before in
     let said = is_spoken c.step-reply.result ∙ ap is_some (c.step-reply.ensures.to_bare (open_phase old before) (open_not_shut old before) bare) ∙ is_said (answers_bare old window s.number s.ack) (acknowledgement_of old) in
     let kept : c.learn.new.self.connection.receiving ≡ old.receiving = ap (λ (x : Socket). x.connection.receiving) c.learn.ensures.same ∙ c.step-reply.ensures.still (open_phase old before) bare in
-    answers_exactly old.receiving.is_open _ c.step-reply.result c.answer.result said (c.answer.ensures.none opened)
-    (λ synced. c.answer.ensures.some opened (ap (λ (x : Receiving). x.is_open) kept ∙ synced) (c.before-before.ensures.next synced ∙ ap (λ (x : Receiving). x.next) (sym kept)))
+    let still : c.learn.new.self.quiet_until ≡ c.args.self.now.quiet_until = ap (λ (x : Socket). x.quiet_until) c.learn.ensures.same in
+    answers_exactly old.receiving.is_open _ (is_held c.args.self.now c.args.now s) c.step-reply.result c.answer.result said (c.answer.ensures.none opened)
+    (λ synced.
+    c.answer.ensures.some opened (ap (λ (x : Receiving). x.is_open) kept ∙ synced) (c.before-before.ensures.next synced ∙ ap (λ (x : Receiving). x.next) (sym kept))
+    ∙ ap (λ (n : ℕ). is_some c.step-reply.result && not (is_limited s && nat_lt c.args.now n)) still)
 
 pub returns-in_default-clause-steps : goal.returns-in_default-clause-steps
 returns-in_default-clause-steps c =
