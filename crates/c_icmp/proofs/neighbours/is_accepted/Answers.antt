@@ -1,5 +1,4 @@
-use Rattle.std.proofs.Common.{◌≡◌, ap, refl, rules}
-use Rattle.wire_icmp.specs.declared.ndisc.repr.NdiscRepr.{NdiscRepr}
+use Rattle.std.proofs.Common.{◌≡◌, refl}
 use Rattle.wire_icmp.specs.Ndisc.{is_allowed}
 use Rattle.c_icmp.proofs.Ndiscs.{accepted}
 use Rattle.c_icmp.specs.Neighbours.{ndisc_value}
