@@ -15,7 +15,7 @@ use Rattle.c_structs.specs.declared.types.Icmp.{Icmp}
 use Rattle.c_write.proofs.Exact.{and_then-some, only-some, or-none, pair-exact}
 use Rattle.c_write.proofs.ExactFrames.{and_then-of, framed-exact, most-fits, packet-exact, udp-tests}
 use Rattle.c_write.specs.Failures.{has_fields, ip_failure, most_payload, pair_failure}
-use Rattle.c_write.specs.Frames.{framed, ip_packet, is_whole}
+use Rattle.c_write.specs.Frames.{ip_packet, is_whole}
 use Rattle.c_write.specs.Headers.{is_yes, only_if}
 use Rattle.c_icmp.proofs.Packets.{length-icmp}
 use Rattle.c_icmp.specs.Frames.{icmp_failure, icmp_frame, icmp_frame_failure, icmp_packet, protocol_number}
