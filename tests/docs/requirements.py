@@ -24,7 +24,7 @@ TESTS = {
 LIBRARY = re.compile(r"net_base|ip_wire|wire_\w+")
 # The libraries whose types a Rattle program uses, also those of `wire_*` that `ip_wire` does not export. The types of the
 # crates for C are its structs and numbers.
-SHOWN = re.compile(r"net_base|(?:ip|app|wire)_\w+")
+SHOWN = re.compile(r"net_base|tcp_stream|(?:ip|app|wire)_\w+")
 # The crates that use the layer through `ip_wire` only. They may name the formats beside `ip_wire` too. Crates with tests of
 # the layer name what they test, and those of TCP name its options, so that they are proved early.
 ABOVE = re.compile(r"ip_(?!wire\b)\w+|app_\w+|promises\w*|test_(?!wire\b|support\b)\w+")
@@ -57,7 +57,7 @@ class Statements:
                     self.add(crate.name, module, item)
             self.definitions |= {f"{path[-1]}.{d.name}" for path, module in crate.specs.items() for d in module.items}
         crates = (
-            "ip_wire", "wire_icmp", "app_nat", "app_host", "app_edit", "app_fragment", "app_tcp", "app_connection",
+            "ip_wire", "wire_icmp", "app_nat", "app_host", "app_edit", "app_fragment", "tcp_stream", "app_connection",
             "app_congestion", "app_options", "app_socket", "c_socket", "c_read", "c_write", "c_icmp",
         )
         self.laws = {name[-1] for crate in crates

@@ -6,7 +6,7 @@ HERE = pathlib.Path(__file__).resolve().parent
 TOP = HERE.parents[1]
 LAYER = """net_base wire_addr wire_checksum wire_ethernet wire_arp wire_ipv4 wire_ipv6 wire_ip wire_udp wire_tcp_options wire_tcp
     ip_wire wire_icmp wire_link wire_extensions""".split()
-APPS = """app_short app_host app_mld app_router app_edit app_nat app_fragment app_congestion app_options tcp_model app_tcp
+APPS = """app_short app_host app_mld app_router app_edit app_nat app_fragment app_congestion app_options tcp_stream
     app_connection app_socket""".split()
 FLAT = "c_structs c_read c_write c_icmp c_routing c_socket".split()
 CRATES = LAYER + APPS + FLAT
@@ -122,7 +122,7 @@ PUBLIC = {
     "fragments": "app_fragment",
     "congestion": "app_congestion",
     "syn_options": "app_options",
-    "stream": "app_tcp",
+    "stream": "tcp_stream",
     "connection": "app_connection",
     "socket": "app_socket",
 }

@@ -21,10 +21,10 @@ GROUPS = {
     "wire_icmp": "ICMP and neighbor discovery", "app_short": "Short applications",
     "wire_link": "Link-layer headers", "wire_extensions": "IPv6 extension headers", "app_host": "Host",
     "app_router": "Router", "app_nat": "NAT", "app_edit": "Edits of a field",
-    "app_fragment": "Fragments", "app_mld": "Multicast listener discovery", "app_tcp": "TCP streams",
+    "app_fragment": "Fragments", "app_mld": "Multicast listener discovery", "tcp_stream": "TCP streams",
     "app_connection": "TCP connections", "app_congestion": "TCP timers and congestion control",
     "app_options": "TCP options of a connection", "app_socket": "TCP connections with timers",
-    "tcp_model": "TCP over a network", "c_exports": "Calls of the C library",
+    "c_exports": "Calls of the C library",
 }
 # What types come first below a heading, by the end of their names.
 ORDER = "Frame", "Packet", "Header", "Repr", "Address", "Cidr"

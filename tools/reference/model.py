@@ -12,8 +12,8 @@ from sources import Crate, Module, Sources  # noqa: E402
 # The libraries that a program in Rattle names.
 LIBRARIES = (
     "net_base", "ip_wire", "wire_icmp", "app_short", "wire_link", "wire_extensions", "app_host", "app_router", "app_nat",
-    "app_edit", "app_fragment", "app_mld", "app_tcp", "app_connection", "app_congestion", "app_options", "app_socket",
-    "tcp_model", "c_exports",
+    "app_edit", "app_fragment", "app_mld", "tcp_stream", "app_connection", "app_congestion", "app_options", "app_socket",
+    "c_exports",
 )
 VIEW = re.compile(r"= (\w+View)<")
 NAME = re.compile(r"[^\W\d][\w'-]*(?:\.[^\W\d][\w'-]*)?")

@@ -2,7 +2,7 @@
 -- bytes.
 -- Pinned by: `congestion/windows`
 use Rattle.std.specs.Prelude.{ℕ, ◌+◌, ◌-◌, ◌*◌, ◌/◌, ◌==◌, ◌&&◌, Bool, true, false, not, nat_le, nat_lt, if◌then◌else◌, min, max}
-use Rattle.tcp_model.specs.Endpoint.{is_earlier}
+use Rattle.tcp_stream.specs.Endpoint.{is_earlier}
 use Rattle.app_congestion.specs.declared.congestion.Congestion.{Congestion}
 use Rattle.app_congestion.specs.declared.phase.Phase.{Phase}
 use Rattle.app_congestion.specs.declared.phase.Phase.TheVariants.{Open, Recovery, Recovered}

@@ -4,7 +4,7 @@
 ghost use Rattle.std.specs.Prelude.{◌≤◌, ◌<◌, ◌*◌};
 
 use crate::phase::{Phase, outside, window_of};
-use app_tcp::is_before;
+use tcp_stream::is_before;
 
 /// The largest congestion window: more than the largest window of a receiver (RFC 7323, section 2.3).
 pub const MAX_CWND: u32 = 1 << 30;

@@ -3,7 +3,7 @@
 ghost use Rattle.std.specs.Prelude.{◌≡◌, ◌≤◌};
 ghost use Rattle.app_congestion.specs.Congestion.{initial_window, outside_of};
 
-use app_tcp::is_before;
+use tcp_stream::is_before;
 
 /// What is known of losses. The number is `recover` of RFC 6582, as a next number: one more than there.
 #[derive(Debug, Clone, Copy, PartialEq, Eq)]

@@ -1,14 +1,14 @@
 -- What is acknowledged has come.
 use Rattle.std.proofs.Common.{◌≡◌, sym, ◌∙◌, ap, refl, ℕ, ◌-◌, ◌≤◌, List, [], ◌∷◌, ◌++◌, Bool, true, false, length, map, take, arith, length-append, length-take, length-drop}
 use Rattle.std.proofs.lemmas.List.{length-map, take_all}
-use Rattle.tcp_model.specs.Endpoint.{Item, Byte}
-use Rattle.tcp_model.specs.Network.{World, bytes_of, end_of, is_ended, stream}
-use Rattle.tcp_model.proofs.Parts.{part_first}
-use Rattle.app_tcp.proofs.Standing.{reached_good}
-use Rattle.app_tcp.specs.Items.{syn_of}
-use Rattle.app_tcp.specs.Ring.{ring}
-use Rattle.app_tcp.specs.Waits.{Waits, count_of, pending, rest_of}
-use Rattle.app_tcp.specs.declared.sending.Sending.{Sending}
+use Rattle.tcp_stream.specs.Endpoint.{Item, Byte}
+use Rattle.tcp_stream.specs.Network.{World, bytes_of, end_of, is_ended, stream}
+use Rattle.tcp_stream.proofs.Parts.{part_first}
+use Rattle.tcp_stream.proofs.Standing.{reached_good}
+use Rattle.tcp_stream.specs.Items.{syn_of}
+use Rattle.tcp_stream.specs.Ring.{ring}
+use Rattle.tcp_stream.specs.Waits.{Waits, count_of, pending, rest_of}
+use Rattle.tcp_stream.specs.declared.sending.Sending.{Sending}
 use Rattle.app_connection.specs.Arrived.{BothComeAcross, ComesAcross}
 use Rattle.app_connection.specs.Runs.{End, Ends, Runs}
 use Rattle.app_connection.proofs.Delivery.{runs_pair}

@@ -1,7 +1,7 @@
 -- Single bytes of a prefix, and its length at the end.
 use Rattle.std.proofs.Common.{◌≡◌, refl, sym, ap, subst, ℕ, zero, suc, List, [], ◌∷◌, ◌++◌, Bool, true, false, length, eqb-true}
 use Rattle.std.specs.Prelude.{Some, slice_get, ◌==◌, ◌&&◌}
-use Rattle.tcp_model.specs.Network.{IsPrefixOf}
+use Rattle.tcp_stream.specs.Network.{IsPrefixOf}
 use Rattle.app_connection.specs.declared.connection.Connection.{Connection}
 use Rattle.app_connection.specs.Runs.{End, HasAll, Read}
 

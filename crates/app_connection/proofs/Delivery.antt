@@ -3,14 +3,14 @@ use Rattle.std.proofs.Common.{◌≡◌, ◌⊎◌, inl, inr, refl, sym, ◌∙�
 use Rattle.std.specs.Prelude.{◌||◌, Option, Some, None, IfSome, slice_get}
 use Rattle.std.proofs.lemmas.Bool.{cond_both, false≢true}
 use Rattle.std.proofs.lemmas.List.{append-nil}
-use Rattle.tcp_model.specs.Endpoint.{Item, Receiver, Syn}
-use Rattle.tcp_model.specs.Network.{World, Ack, Answer, Close, Send, Write, IsPrefixOf, bytes_of, happens, run, start}
-use Rattle.app_tcp.proofs.Standing.{end_delivers, held_delivers, reached_good, stands_still}
-use Rattle.app_tcp.specs.Items.{items_of}
-use Rattle.app_tcp.specs.Stands.{IsAnswer, SegmentComes, Stands}
-use Rattle.app_tcp.specs.Waits.{Waits}
-use Rattle.app_tcp.specs.declared.receiving.Receiving.{Receiving}
-use Rattle.app_tcp.specs.declared.sending.Sending.{Sending}
+use Rattle.tcp_stream.specs.Endpoint.{Item, Receiver, Syn}
+use Rattle.tcp_stream.specs.Network.{World, Ack, Answer, Close, Send, Write, IsPrefixOf, bytes_of, happens, run, start}
+use Rattle.tcp_stream.proofs.Standing.{end_delivers, held_delivers, reached_good, stands_still}
+use Rattle.tcp_stream.specs.Items.{items_of}
+use Rattle.tcp_stream.specs.Stands.{IsAnswer, SegmentComes, Stands}
+use Rattle.tcp_stream.specs.Waits.{Waits}
+use Rattle.tcp_stream.specs.declared.receiving.Receiving.{Receiving}
+use Rattle.tcp_stream.specs.declared.sending.Sending.{Sending}
 use Rattle.app_connection.specs.declared.connection.Connection.{Connection}
 use Rattle.app_connection.specs.declared.segment.Segment.{Segment as Packet}
 use Rattle.app_connection.specs.declared.step.Event.{Event}

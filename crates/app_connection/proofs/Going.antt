@@ -2,14 +2,14 @@
 use Rattle.std.proofs.Common.{◌≡◌, ◌⊎◌, ◌+◌, inl, inr, refl, sym, ◌∙◌, ap, subst, ℕ, List, [], ◌∷◌, ◌++◌, Bool, true, false, map, length, nat_lt, take, drop, arith}
 use Rattle.std.specs.Prelude.{Option, Some, None, IfSome, option_map, slice_get}
 use Rattle.std.proofs.lemmas.Bool.{cond_both, false≢true}
-use Rattle.tcp_model.specs.Endpoint.{Item, Syn, Byte}
-use Rattle.tcp_model.specs.Network.{World, Send, Segment as Sent, end_of, bytes_of, happens, is_ended, run, sends, stream}
-use Rattle.app_tcp.proofs.Standing.{answers}
-use Rattle.app_tcp.specs.Items.{items_of, syn_of}
-use Rattle.app_tcp.specs.Stands.{Stands, SegmentComes, IsAnswer, again}
-use Rattle.app_tcp.specs.Waits.{Waits, IsSend}
-use Rattle.app_tcp.specs.declared.receiving.Receiving.{Receiving}
-use Rattle.app_tcp.specs.declared.sending.Sending.{Sending}
+use Rattle.tcp_stream.specs.Endpoint.{Item, Syn, Byte}
+use Rattle.tcp_stream.specs.Network.{World, Send, Segment as Sent, end_of, bytes_of, happens, is_ended, run, sends, stream}
+use Rattle.tcp_stream.proofs.Standing.{answers}
+use Rattle.tcp_stream.specs.Items.{items_of, syn_of}
+use Rattle.tcp_stream.specs.Stands.{Stands, SegmentComes, IsAnswer, again}
+use Rattle.tcp_stream.specs.Waits.{Waits, IsSend}
+use Rattle.tcp_stream.specs.declared.receiving.Receiving.{Receiving}
+use Rattle.tcp_stream.specs.declared.sending.Sending.{Sending}
 use Rattle.app_connection.specs.Endpoints.{endpoint_in, endpoint_of, len_of, one}
 use Rattle.app_connection.specs.Sequence.{after}
 use Rattle.app_connection.specs.SetUp.{Endpoint, In_closed, In_listen, In_syn_sent, In_syn_received, In_established}

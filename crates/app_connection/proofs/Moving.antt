@@ -2,13 +2,13 @@
 use Rattle.std.proofs.Common.{◌≡◌, refl, sym, ◌∙◌, ap, subst, ℕ, suc, ◌+◌, List, [], ◌∷◌, length, nat_lt, take, drop}
 use Rattle.std.specs.Prelude.{Option, Some, None, slice_get}
 use Rattle.std.proofs.lemmas.Bool.{cond_both}
-use Rattle.tcp_model.specs.Endpoint.{Item, Receiver}
-use Rattle.tcp_model.specs.Network.{World, Event, Write, Close, Send, Segment_comes, Resegment, Answer, Ack_comes, Segment, Ack, ack_comes, happens, resegments, run, segment_comes, sends, start, stream}
-use Rattle.app_tcp.proofs.Standing.{keeps_still, reached_more}
-use Rattle.app_tcp.specs.Stands.{Holds, IsReached, Stands}
-use Rattle.app_tcp.specs.Waits.{Waits}
-use Rattle.app_tcp.specs.declared.receiving.Receiving.{Receiving}
-use Rattle.app_tcp.specs.declared.sending.Sending.{Sending}
+use Rattle.tcp_stream.specs.Endpoint.{Item, Receiver}
+use Rattle.tcp_stream.specs.Network.{World, Event, Write, Close, Send, Segment_comes, Resegment, Answer, Ack_comes, Segment, Ack, ack_comes, happens, resegments, run, segment_comes, sends, start, stream}
+use Rattle.tcp_stream.proofs.Standing.{keeps_still, reached_more}
+use Rattle.tcp_stream.specs.Stands.{Holds, IsReached, Stands}
+use Rattle.tcp_stream.specs.Waits.{Waits}
+use Rattle.tcp_stream.specs.declared.receiving.Receiving.{Receiving}
+use Rattle.tcp_stream.specs.declared.sending.Sending.{Sending}
 use Rattle.app_connection.specs.Worlds.{OfReceiver, OfSender}
 
 -- what is at a place of a list is in the other one too

@@ -3,14 +3,14 @@ use Rattle.std.proofs.Common.{◌≡◌, ◌⊎◌, inl, inr, refl, sym, ◌∙�
 use Rattle.std.specs.Prelude.{Option, Some, None, IfSome, slice_get}
 use Rattle.std.proofs.lemmas.Bool.Decides.{nat_tests}
 use Rattle.std.proofs.lemmas.List.{length-map, length-take, length-drop}
-use Rattle.tcp_model.specs.Endpoint.{Item, Receiver, Syn, Byte}
-use Rattle.tcp_model.specs.Network.{World, Segment, Ack, end_of, is_alive, start, stream}
-use Rattle.app_tcp.proofs.Standing.{reached_good}
-use Rattle.app_tcp.specs.Items.{syn_of}
-use Rattle.app_tcp.specs.Ring.{ring}
-use Rattle.app_tcp.specs.Stands.{IsReached, SegmentComes, Stands}
-use Rattle.app_tcp.specs.Waits.{AckComes, Waits, pending}
-use Rattle.app_tcp.specs.declared.sending.Sending.{Sending}
+use Rattle.tcp_stream.specs.Endpoint.{Item, Receiver, Syn, Byte}
+use Rattle.tcp_stream.specs.Network.{World, Segment, Ack, end_of, is_alive, start, stream}
+use Rattle.tcp_stream.proofs.Standing.{reached_good}
+use Rattle.tcp_stream.specs.Items.{syn_of}
+use Rattle.tcp_stream.specs.Ring.{ring}
+use Rattle.tcp_stream.specs.Stands.{IsReached, SegmentComes, Stands}
+use Rattle.tcp_stream.specs.Waits.{AckComes, Waits, pending}
+use Rattle.tcp_stream.specs.declared.sending.Sending.{Sending}
 use Rattle.app_connection.specs.declared.state.Phase.TheVariants as phase
 use Rattle.app_connection.specs.Endpoints.{OutFits}
 use Rattle.app_connection.specs.Sequence.{after}

@@ -3,13 +3,13 @@ use Rattle.std.proofs.Common.{◌≡◌, refl, sym, ◌∙◌, ap, subst, ℕ, z
 use Rattle.std.specs.Prelude.{◌&&◌, ◌==◌, not, Option, Some, None, slice_get, if◌then◌else◌}
 use Rattle.std.proofs.lemmas.Bool.{false≢true, cond_both}
 use Rattle.std.proofs.lemmas.Bool.Decides.{nat_tests}
-use Rattle.tcp_model.specs.Endpoint.{distance, is_earlier}
-use Rattle.tcp_model.specs.Network.{World, Segment, Ack, Event, Write, Close, Send, Segment_comes, Resegment, Answer, Ack_comes, number_at, segment_comes, resegments, ack_comes, happens, run}
-use Rattle.tcp_model.proofs.Kept.{Good}
-use Rattle.tcp_model.proofs.Numbers.{distance_after}
-use Rattle.app_tcp.proofs.Standing.{reached_good}
-use Rattle.app_tcp.specs.Stands.{Stands}
-use Rattle.app_tcp.specs.Waits.{Waits}
+use Rattle.tcp_stream.specs.Endpoint.{distance, is_earlier}
+use Rattle.tcp_stream.specs.Network.{World, Segment, Ack, Event, Write, Close, Send, Segment_comes, Resegment, Answer, Ack_comes, number_at, segment_comes, resegments, ack_comes, happens, run}
+use Rattle.tcp_stream.proofs.Kept.{Good}
+use Rattle.tcp_stream.proofs.Numbers.{distance_after}
+use Rattle.tcp_stream.proofs.Standing.{reached_good}
+use Rattle.tcp_stream.specs.Stands.{Stands}
+use Rattle.tcp_stream.specs.Waits.{Waits}
 use Rattle.app_connection.specs.Sequence.{is_taken_at}
 use Rattle.app_connection.specs.Endpoints.{one, next_of, acknowledgement_of, is_of_unsent, answers_bare}
 use Rattle.app_connection.specs.Worlds.{Stand, ComesNext}

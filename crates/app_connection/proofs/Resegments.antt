@@ -4,14 +4,14 @@ use Rattle.std.specs.Prelude.{Option, IfSome, slice_get}
 use Rattle.std.proofs.lemmas.Bool.{cond-false, false≢true}
 use Rattle.std.proofs.lemmas.Bool.Decides.{nat_tests}
 use Rattle.std.proofs.lemmas.List.{append-nil}
-use Rattle.tcp_model.specs.Endpoint.{Item, Syn}
-use Rattle.tcp_model.specs.Network.{World, Segment, Resegment, happens, is_alive, number_at, start, stream}
-use Rattle.tcp_model.proofs.Kept.{each_get, part_join, test_true}
-use Rattle.tcp_model.proofs.Numbers.{number_more, same_place}
-use Rattle.tcp_model.proofs.Parts.{IsPart, part_at, part_drop, part_take}
-use Rattle.app_tcp.proofs.Standing.{reached_good}
-use Rattle.app_tcp.specs.Stands.{IsReached, SegmentComes}
-use Rattle.app_tcp.specs.Waits.{AckComes, Waits}
+use Rattle.tcp_stream.specs.Endpoint.{Item, Syn}
+use Rattle.tcp_stream.specs.Network.{World, Segment, Resegment, happens, is_alive, number_at, start, stream}
+use Rattle.tcp_stream.proofs.Kept.{each_get, part_join, test_true}
+use Rattle.tcp_stream.proofs.Numbers.{number_more, same_place}
+use Rattle.tcp_stream.proofs.Parts.{IsPart, part_at, part_drop, part_take}
+use Rattle.tcp_stream.proofs.Standing.{reached_good}
+use Rattle.tcp_stream.specs.Stands.{IsReached, SegmentComes}
+use Rattle.tcp_stream.specs.Waits.{AckComes, Waits}
 use Rattle.app_connection.specs.Runs.{AreJoined, End, IsAckOf, IsFrom, IsOneOf, IsPiece, IsPieceOf, Sent, more, one}
 use Rattle.app_connection.specs.Worlds.{Brings, IsOut, Said}
 use Rattle.app_connection.proofs.Moving.{ByNetwork, resegmented_by}

@@ -2,13 +2,13 @@
 use Rattle.std.proofs.Common.{◌≡◌, ◌⊎◌, inl, inr, refl, sym, ◌∙◌, ap, subst, ℕ, List, [], ◌∷◌, Bool, true, false, Bor}
 use Rattle.std.specs.Prelude.{Option, Some, None, IfSome, not, option_map}
 use Rattle.std.proofs.lemmas.Bool.{false≢true}
-use Rattle.tcp_model.specs.Endpoint.{Item, Syn}
-use Rattle.tcp_model.specs.Network.{World, Close, happens}
-use Rattle.app_tcp.specs.Items.{items_of, syn_of}
-use Rattle.app_tcp.specs.Stands.{Stands}
-use Rattle.app_tcp.specs.Waits.{Waits}
-use Rattle.app_tcp.specs.declared.receiving.Receiving.{Receiving}
-use Rattle.app_tcp.specs.declared.sending.Sending.{Sending}
+use Rattle.tcp_stream.specs.Endpoint.{Item, Syn}
+use Rattle.tcp_stream.specs.Network.{World, Close, happens}
+use Rattle.tcp_stream.specs.Items.{items_of, syn_of}
+use Rattle.tcp_stream.specs.Stands.{Stands}
+use Rattle.tcp_stream.specs.Waits.{Waits}
+use Rattle.tcp_stream.specs.declared.receiving.Receiving.{Receiving}
+use Rattle.tcp_stream.specs.declared.sending.Sending.{Sending}
 use Rattle.app_connection.specs.declared.connection.Connection.{Connection}
 use Rattle.app_connection.specs.declared.segment.Reply.{Reply}
 use Rattle.app_connection.specs.declared.segment.Segment.{Segment}

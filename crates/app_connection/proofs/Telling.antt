@@ -4,11 +4,11 @@ use Rattle.std.specs.Prelude.{not}
 use Rattle.std.proofs.lemmas.Bool.{false≢true, cases_lt}
 use Rattle.std.proofs.lemmas.List.{drop_all}
 use mathlib.Core.Logic.{inl, inr}
-use Rattle.tcp_model.specs.Endpoint.{Item, Byte, Fin}
-use Rattle.tcp_model.specs.Network.{World, stream, end_of, is_ended}
-use Rattle.app_tcp.specs.Items.{syn_of}
-use Rattle.app_tcp.specs.Waits.{Waits, pending}
-use Rattle.app_tcp.specs.declared.sending.Sending.{Sending}
+use Rattle.tcp_stream.specs.Endpoint.{Item, Byte, Fin}
+use Rattle.tcp_stream.specs.Network.{World, stream, end_of, is_ended}
+use Rattle.tcp_stream.specs.Items.{syn_of}
+use Rattle.tcp_stream.specs.Waits.{Waits, pending}
+use Rattle.tcp_stream.specs.declared.sending.Sending.{Sending}
 use Rattle.app_connection.specs.States.{state_at}
 use Rattle.app_connection.specs.Worlds.{Stand, TellsState, IsDone}
 use Rattle.app_connection.specs.declared.connection.Connection.{Connection}

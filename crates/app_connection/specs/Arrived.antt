@@ -1,8 +1,8 @@
 -- What has come to the other end of a run.
 -- Pinned by: `connection/figures`
 use Rattle.std.specs.Prelude.{ℕ, ◌≡◌, ◌++◌, List, take, true}
-use Rattle.app_tcp.specs.Ring.{ring}
-use Rattle.app_tcp.specs.Waits.{count_of}
+use Rattle.tcp_stream.specs.Ring.{ring}
+use Rattle.tcp_stream.specs.Waits.{count_of}
 use Rattle.app_connection.specs.Runs.{End, Ends}
 
 -- the bytes that came in order, and wait in the ring until the application reads them

@@ -1,10 +1,10 @@
 -- What a connection of the code stands for in the set-up.
 -- Pinned by: `connection/figures`
 use Rattle.std.specs.Prelude.{ℕ, ◌≡◌, ◌==◌, ◌+◌, ◌-◌, ◌%◌, ◌&&◌, ◌<◌, ◌≤◌, not, Option, Some, None, is_some, length, Bool, true, false, if◌then◌else◌}
-use Rattle.tcp_model.specs.Endpoint.{distance, is_earlier}
-use Rattle.app_tcp.specs.Stands.{reach, room_of}
-use Rattle.app_tcp.specs.declared.receiving.Receiving.{Receiving}
-use Rattle.app_tcp.specs.declared.sending.Sending.{Sending}
+use Rattle.tcp_stream.specs.Endpoint.{distance, is_earlier}
+use Rattle.tcp_stream.specs.Stands.{reach, room_of}
+use Rattle.tcp_stream.specs.declared.receiving.Receiving.{Receiving}
+use Rattle.tcp_stream.specs.declared.sending.Sending.{Sending}
 use Rattle.app_connection.specs.Sequence.{is_taken_at, is_of_sent, is_newer}
 use Rattle.app_connection.specs.SetUp.{Endpoint, In_closed, In_listen, In_syn_sent, In_syn_received, In_established, Control, may_send}
 use Rattle.app_connection.specs.declared.connection.Connection.{Connection}

@@ -1,10 +1,10 @@
 -- The events of a connection.
 -- Pinned by: `connection/figures`
 use Rattle.std.specs.Prelude.{ℕ, ◌≡◌, ◌⊎◌, ◌<◌, List, length, Bool, false, not, if◌then◌else◌}
-use Rattle.tcp_model.specs.Network.{World, Close, happens}
-use Rattle.app_tcp.specs.Waits.{from_of}
-use Rattle.app_tcp.specs.declared.receiving.Receiving.{Receiving}
-use Rattle.app_tcp.specs.declared.sending.Sending.{Sending}
+use Rattle.tcp_stream.specs.Network.{World, Close, happens}
+use Rattle.tcp_stream.specs.Waits.{from_of}
+use Rattle.tcp_stream.specs.declared.receiving.Receiving.{Receiving}
+use Rattle.tcp_stream.specs.declared.sending.Sending.{Sending}
 use Rattle.app_connection.specs.Endpoints.{answers_bare, control_of, has_items, is_bare}
 use Rattle.app_connection.specs.Promises.{GetsTextOf, HearsAckOf, SameNext, TakesAckOf}
 use Rattle.app_connection.specs.declared.connection.Connection.{Connection}

@@ -2,13 +2,13 @@
 -- connection before and after the call.
 -- Pinned by: `connection/figures`
 use Rattle.std.specs.Prelude.{ℕ, ◌≡◌, ◌⊎◌, ◌+◌, ◌<◌, List, [], length, true, false, Option, is_some, IfSome}
-use Rattle.tcp_model.specs.Endpoint.{distance}
-use Rattle.tcp_model.specs.Network.{World, Send, happens}
-use Rattle.app_tcp.specs.Items.{items_of}
-use Rattle.app_tcp.specs.Stands.{IsAnswer, Stands}
-use Rattle.app_tcp.specs.Waits.{AckComes, IsSend, Waits}
-use Rattle.app_tcp.specs.declared.receiving.Receiving.{Receiving}
-use Rattle.app_tcp.specs.declared.sending.Sending.{Sending}
+use Rattle.tcp_stream.specs.Endpoint.{distance}
+use Rattle.tcp_stream.specs.Network.{World, Send, happens}
+use Rattle.tcp_stream.specs.Items.{items_of}
+use Rattle.tcp_stream.specs.Stands.{IsAnswer, Stands}
+use Rattle.tcp_stream.specs.Waits.{AckComes, IsSend, Waits}
+use Rattle.tcp_stream.specs.declared.receiving.Receiving.{Receiving}
+use Rattle.tcp_stream.specs.declared.sending.Sending.{Sending}
 use Rattle.app_connection.specs.declared.connection.Connection.{Connection}
 use Rattle.app_connection.specs.declared.segment.Reply.{Reply}
 use Rattle.app_connection.specs.declared.segment.Segment.{Segment}

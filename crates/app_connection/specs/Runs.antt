@@ -2,9 +2,9 @@
 -- splits and joins the segments that these calls returned. A run is what two programs see: calls, bytes and segments.
 -- Pinned by: `connection/figures`
 use Rattle.std.specs.Prelude.{ℕ, ◌≡◌, ◌⊎◌, ◌<◌, ◌≤◌, ◌+◌, ◌%◌, ◌++◌, ◌||◌, List, [], ◌∷◌, length, take, drop, Bool, true, false, Option, Some, None}
-use Rattle.tcp_model.specs.Endpoint.{Item, Byte, Fin}
-use Rattle.tcp_model.specs.Network.{IsPrefixOf, start}
-use Rattle.app_tcp.specs.Stands.{Stands}
+use Rattle.tcp_stream.specs.Endpoint.{Item, Byte, Fin}
+use Rattle.tcp_stream.specs.Network.{IsPrefixOf, start}
+use Rattle.tcp_stream.specs.Stands.{Stands}
 use Rattle.app_connection.specs.declared.connection.Connection.{Connection}
 use Rattle.app_connection.specs.declared.step.Event.{Event}
 use Rattle.app_connection.specs.declared.step.Event.TheVariants as event

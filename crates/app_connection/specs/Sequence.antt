@@ -1,7 +1,7 @@
 -- Windows of sequence numbers (RFC 9293, sections 3.4 and 3.10.7.4).
 -- Pinned by: `connection/figures`
 use Rattle.std.specs.Prelude.{ℕ, ◌+◌, ◌-◌, ◌%◌, ◌==◌, ◌&&◌, ◌||◌, Bool, false, not, nat_lt, if◌then◌else◌}
-use Rattle.tcp_model.specs.Endpoint.{distance, is_earlier}
+use Rattle.tcp_stream.specs.Endpoint.{distance, is_earlier}
 
 -- the next sequence number
 abbrev pub after : ℕ → ℕ

@@ -1,10 +1,10 @@
 -- What the calls of a connection promise so that they compose, whatever comes between them.
 -- Pinned by: `connection/figures`
 use Rattle.std.specs.Prelude.{ℕ, ◌≡◌, ◌++◌, List, [], ◌∷◌, true, false, Option, Some, None, IfSome}
-use Rattle.tcp_model.specs.Endpoint.{Syn}
-use Rattle.tcp_model.specs.Network.{World, Send, Write, happens, start}
-use Rattle.app_tcp.specs.Stands.{IsReached, SegmentComes, Stands}
-use Rattle.app_tcp.specs.Waits.{Waits}
+use Rattle.tcp_stream.specs.Endpoint.{Syn}
+use Rattle.tcp_stream.specs.Network.{World, Send, Write, happens, start}
+use Rattle.tcp_stream.specs.Stands.{IsReached, SegmentComes, Stands}
+use Rattle.tcp_stream.specs.Waits.{Waits}
 use Rattle.app_connection.specs.declared.connection.Connection.{Connection}
 use Rattle.app_connection.specs.declared.segment.Segment.{Segment}
 use Rattle.app_connection.specs.declared.state.Phase.TheVariants as phase

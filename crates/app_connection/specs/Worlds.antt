@@ -2,13 +2,13 @@
 -- reads.
 -- Pinned by: `connection/figures`
 use Rattle.std.specs.Prelude.{ℕ, ◌≡◌, ◌+◌, ◌<◌, ◌≤◌, ◌⊎◌, List, [], ◌∷◌, length, Bool, true, false, Option, Some, IfSome, slice_get}
-use Rattle.tcp_model.specs.Endpoint.{Item, Syn}
-use Rattle.tcp_model.specs.Network.{World, Event, Segment as Sent, Send, Segment_comes, Ack_comes, run, stream, is_ended, happens}
-use Rattle.app_tcp.specs.Items.{items_of, syn_of}
-use Rattle.app_tcp.specs.Stands.{Stands, SegmentComes, IsAnswer, Uses}
-use Rattle.app_tcp.specs.Waits.{Waits, AckComes}
-use Rattle.app_tcp.specs.declared.receiving.Receiving.{Receiving}
-use Rattle.app_tcp.specs.declared.sending.Sending.{Sending}
+use Rattle.tcp_stream.specs.Endpoint.{Item, Syn}
+use Rattle.tcp_stream.specs.Network.{World, Event, Segment as Sent, Send, Segment_comes, Ack_comes, run, stream, is_ended, happens}
+use Rattle.tcp_stream.specs.Items.{items_of, syn_of}
+use Rattle.tcp_stream.specs.Stands.{Stands, SegmentComes, IsAnswer, Uses}
+use Rattle.tcp_stream.specs.Waits.{Waits, AckComes}
+use Rattle.tcp_stream.specs.declared.receiving.Receiving.{Receiving}
+use Rattle.tcp_stream.specs.declared.sending.Sending.{Sending}
 use Rattle.app_connection.specs.declared.connection.Connection.{Connection}
 use Rattle.app_connection.specs.declared.segment.Segment.{Segment}
 use Rattle.app_connection.specs.declared.segment.Reply.{Reply}

@@ -1,10 +1,10 @@
 //! A segment arrives (RFC 9293, section 3.10.7; RFC 5961).
 
 ghost use Rattle.std.specs.Prelude.{◌≡◌, ◌≢◌, ◌&&◌, ◌==◌, ◌<◌, ◌≤◌, ℕ, List, length, true, false, if◌then◌else◌, not, IfSome, Some, None, option_map};
-ghost use Rattle.tcp_model.specs.Endpoint.{is_earlier};
-ghost use Rattle.tcp_model.specs.Network.{World};
-ghost use Rattle.app_tcp.specs.Items.{items_of};
-ghost use Rattle.app_tcp.specs.Stands.{Stands, SegmentComes, room_of};
+ghost use Rattle.tcp_stream.specs.Endpoint.{is_earlier};
+ghost use Rattle.tcp_stream.specs.Network.{World};
+ghost use Rattle.tcp_stream.specs.Items.{items_of};
+ghost use Rattle.tcp_stream.specs.Stands.{Stands, SegmentComes, room_of};
 ghost use Rattle.app_connection.specs.declared.state.Phase.TheVariants.{Closed, Listen, SynSent, SynReceived, Open};
 ghost use Rattle.app_connection.specs.Sequence.{is_taken_at, is_of_sent};
 ghost use Rattle.app_connection.specs.SetUp.{hears, reset_of};
@@ -18,7 +18,7 @@ use crate::connection::Connection;
 use crate::segment::{Reply, Segment, refusal};
 use crate::sequence::{is_in_window, is_taken};
 use crate::state::{Phase, State};
-use app_tcp::is_before;
+use tcp_stream::is_before;
 
 impl Connection {
     /// Takes a segment that comes, and returns what to send at once. `fresh` becomes ISS if the segment opens a connection in

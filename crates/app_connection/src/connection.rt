@@ -1,12 +1,12 @@
 //! The connection, and the calls of its application (RFC 9293, sections 3.10.1 to 3.10.5).
 
 ghost use Rattle.std.specs.Prelude.{◌≡◌, ◌==◌, ◌&&◌, ◌∷◌, not, ◌+◌, ◌%◌, ◌≤◌, ◌<◌, ◌++◌, ◌⊎◌, ℕ, List, [], length, true, false, IfSome, Some, None, max, take, option_map, MatchOption};
-ghost use Rattle.tcp_model.specs.Endpoint.{Syn};
-ghost use Rattle.tcp_model.specs.Network.{World, Event, Close, happens, run, start, IsPrefixOf};
-ghost use Rattle.app_tcp.specs.Ranges.{blocks_of, is_none};
-ghost use Rattle.app_tcp.specs.Stands.{AreTold, Stands, room_of, IsAnswer};
-ghost use Rattle.app_tcp.specs.Waits.{Waits, from_of, unsent_of, count_of};
-ghost use Rattle.app_tcp.specs.Items.{items_of};
+ghost use Rattle.tcp_stream.specs.Endpoint.{Syn};
+ghost use Rattle.tcp_stream.specs.Network.{World, Event, Close, happens, run, start, IsPrefixOf};
+ghost use Rattle.tcp_stream.specs.Ranges.{blocks_of, is_none};
+ghost use Rattle.tcp_stream.specs.Stands.{AreTold, Stands, room_of, IsAnswer};
+ghost use Rattle.tcp_stream.specs.Waits.{Waits, from_of, unsent_of, count_of};
+ghost use Rattle.tcp_stream.specs.Items.{items_of};
 ghost use Rattle.app_connection.specs.declared.state.Phase.TheVariants.{Closed, SynSent, Open, SynReceived};
 ghost use Rattle.app_connection.specs.SetUp.{In_closed, In_listen, In_syn_sent};
 ghost use Rattle.app_connection.specs.Endpoints.{endpoint_of, len_of, spoken, OutFits, InFits, IsLegal, acknowledgement_of, edge_of};
@@ -18,7 +18,7 @@ ghost use Rattle.app_connection.specs.Promises.{ChangesOnlyNext, GoesFrom, HasNo
 
 use crate::segment::{Reply, Segment};
 use crate::state::{Phase, State, state_of};
-use app_tcp::{Blocks, Receiving, Sending};
+use tcp_stream::{Blocks, Receiving, Sending};
 
 /// One end of a connection. Its bytes are in two rings of the caller's, each of less than 2^30 bytes.
 #[derive(Debug, Clone, Copy)]

@@ -5,7 +5,7 @@ ghost use Rattle.app_connection.specs.Fields.{connection_of, phase_of};
 
 use crate::connection::Connection;
 use crate::state::Phase;
-use app_tcp::{Receiving, Sending};
+use tcp_stream::{Receiving, Sending};
 
 /// A `Connection`.
 #[repr(C)]

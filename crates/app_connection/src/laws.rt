@@ -1,9 +1,9 @@
 //! Laws of the set-up, and of acknowledgements.
 
 ghost use Rattle.std.specs.Prelude.{◌≡◌, ◌+◌, ◌<◌, ◌≤◌, ℕ, List, [], ◌∷◌, length, Bool, true, false, IfSome, Some, None, option_map};
-ghost use Rattle.tcp_model.specs.Endpoint.{Byte, Fin};
-ghost use Rattle.tcp_model.specs.Network.{World, Event, run};
-ghost use Rattle.app_tcp.specs.Stands.{room_of};
+ghost use Rattle.tcp_stream.specs.Endpoint.{Byte, Fin};
+ghost use Rattle.tcp_stream.specs.Network.{World, Event, run};
+ghost use Rattle.tcp_stream.specs.Stands.{room_of};
 ghost use Rattle.app_connection.specs.declared.state.Phase.TheVariants.{Open};
 ghost use Rattle.app_connection.specs.Arrived.{BothComeAcross};
 ghost use Rattle.app_connection.specs.Endpoints.{OutFits, InFits, TakesAck, acknowledgement_of};

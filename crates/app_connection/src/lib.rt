@@ -1,4 +1,4 @@
-//! A TCP connection: its states, its set-up and its end, over both halves of `app_tcp` (RFC 9293, section 3.10; RFC 5961).
+//! A TCP connection: its states, its set-up and its end, over both halves of `tcp_stream` (RFC 9293, section 3.10; RFC 5961).
 //! No input, output or timers.
 #![tactic(auto)]
 

@@ -1,10 +1,10 @@
 //! A segment arrives before the connection is established (RFC 9293, sections 3.10.7.2 to 3.10.7.4).
 
 ghost use Rattle.std.specs.Prelude.{◌≡◌, ◌⊎◌, ◌&&◌, ◌==◌, ◌∷◌, ◌<◌, ℕ, List, length, true, false, IfSome, Some, None, option_map};
-ghost use Rattle.tcp_model.specs.Endpoint.{Item, Syn};
-ghost use Rattle.tcp_model.specs.Network.{World, Segment_comes, happens};
-ghost use Rattle.app_tcp.specs.Stands.{Stands, SegmentComes, room_of};
-ghost use Rattle.app_tcp.specs.Waits.{AckComes};
+ghost use Rattle.tcp_stream.specs.Endpoint.{Item, Syn};
+ghost use Rattle.tcp_stream.specs.Network.{World, Segment_comes, happens};
+ghost use Rattle.tcp_stream.specs.Stands.{Stands, SegmentComes, room_of};
+ghost use Rattle.tcp_stream.specs.Waits.{AckComes};
 ghost use Rattle.app_connection.specs.declared.state.Phase.TheVariants.{Closed, Listen, SynSent, SynReceived, Open};
 ghost use Rattle.app_connection.specs.Sequence.{after};
 ghost use Rattle.app_connection.specs.SetUp.{is_ack_of, hears, hears_in_listen, hears_in_syn_sent, hears_syn_again, hears_in_syn_received};

@@ -1,7 +1,7 @@
 //! One call for everything that can happen to a connection.
 
 ghost use Rattle.std.specs.Prelude.{◌≡◌, ◌<◌, [], length, true, false, if◌then◌else◌, IfSome, Some, None, option_map};
-ghost use Rattle.app_tcp.specs.Stands.{room_of};
+ghost use Rattle.tcp_stream.specs.Stands.{room_of};
 ghost use Rattle.app_connection.specs.declared.state.Phase.TheVariants.{Listen, Open};
 ghost use Rattle.app_connection.specs.declared.state.State.TheVariants as state;
 ghost use Rattle.app_connection.specs.Endpoints.{endpoint_of, len_of, spoken, acknowledgement_of, IsLegal, OutFits, InFits};

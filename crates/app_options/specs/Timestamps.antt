@@ -1,7 +1,7 @@
 -- Timestamps, and protection against wrapped sequence numbers (PAWS; RFC 7323, sections 3 to 5), in milliseconds.
 -- Pinned by: `options/timestamps`
 use Rattle.std.specs.Prelude.{ℕ, ◌+◌, ◌%◌, Bool, true, false, not, ◌&&◌, nat_lt, if◌then◌else◌, Option, Some, None}
-use Rattle.tcp_model.specs.Endpoint.{distance, is_ahead, is_earlier}
+use Rattle.tcp_stream.specs.Endpoint.{distance, is_ahead, is_earlier}
 use Rattle.app_options.specs.declared.timestamps.Recent.{Recent}
 
 -- the timestamp clock at a time (section 5.4)

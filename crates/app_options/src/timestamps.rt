@@ -3,7 +3,7 @@
 ghost use Rattle.std.specs.Prelude.{◌≡◌};
 ghost use Rattle.app_options.specs.Timestamps.{is_old, since, stamp};
 
-use app_tcp::{is_ahead, is_before};
+use tcp_stream::{is_ahead, is_before};
 
 // How many timestamps there are.
 const CLOCK: u64 = 1 << 32;

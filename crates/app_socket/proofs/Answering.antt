@@ -2,9 +2,9 @@
 use Rattle.std.proofs.Common.{◌≡◌, inl, inr, refl, sym, ◌∙◌, ap, subst, ℕ, ◌+◌, ◌≤◌, ◌<◌, List, ◌∷◌, true, false, length, min, arith, Bor}
 use Rattle.std.specs.Prelude.{Option, Some, None, MatchOption, is_some, option_map}
 use Rattle.std.proofs.lemmas.Bool.{cases_lt, false≢true}
-use Rattle.tcp_model.specs.Endpoint.{distance}
-use Rattle.app_tcp.specs.Stands.{room_of}
-use Rattle.app_tcp.specs.Waits.{count_of}
+use Rattle.tcp_stream.specs.Endpoint.{distance}
+use Rattle.tcp_stream.specs.Stands.{room_of}
+use Rattle.tcp_stream.specs.Waits.{count_of}
 use Rattle.app_connection.specs.declared.connection.Connection.{Connection}
 use Rattle.app_connection.specs.declared.segment.Segment.{Segment}
 use Rattle.app_connection.specs.declared.state.Phase.TheVariants as phase

@@ -3,18 +3,18 @@ use Rattle.std.proofs.Common.{◌≡◌, ◌⊎◌, inl, inr, refl, sym, ◌∙�
 use Rattle.std.specs.Prelude.{Option, is_some, ◌==◌, ◌||◌}
 use Rattle.std.proofs.lemmas.Bool.{cases_lt, cond-true, cond-false}
 use Rattle.std.proofs.lemmas.Bool.Decides.{nat_tests}
-use Rattle.tcp_model.specs.Endpoint.{Item, Receiver, accepted, distance, fresh, is_earlier, received}
-use Rattle.tcp_model.specs.Network.{World, Event, Segment_comes, happens, is_ended, number_at, run, stream}
-use Rattle.tcp_model.proofs.Kept.{Good, fresh_from}
-use Rattle.tcp_model.proofs.Numbers.{number_more}
-use Rattle.tcp_model.proofs.Parts.{part_first}
-use Rattle.tcp_model.proofs.Streams.{end_all}
-use Rattle.app_tcp.proofs.Rounds.{true_test}
-use Rattle.app_tcp.proofs.Standing.{comes, reached_good}
-use Rattle.app_tcp.specs.Stands.{SegmentComes, Stands, again, room_of}
-use Rattle.app_tcp.specs.Waits.{Waits, count_of}
-use Rattle.app_tcp.specs.declared.receiving.Receiving.{Receiving}
-use Rattle.app_tcp.specs.declared.sending.Sending.{Sending}
+use Rattle.tcp_stream.specs.Endpoint.{Item, Receiver, accepted, distance, fresh, is_earlier, received}
+use Rattle.tcp_stream.specs.Network.{World, Event, Segment_comes, happens, is_ended, number_at, run, stream}
+use Rattle.tcp_stream.proofs.Kept.{Good, fresh_from}
+use Rattle.tcp_stream.proofs.Numbers.{number_more}
+use Rattle.tcp_stream.proofs.Parts.{part_first}
+use Rattle.tcp_stream.proofs.Streams.{end_all}
+use Rattle.tcp_stream.proofs.GoesOn.{true_test}
+use Rattle.tcp_stream.proofs.Standing.{comes, reached_good}
+use Rattle.tcp_stream.specs.Stands.{SegmentComes, Stands, again, room_of}
+use Rattle.tcp_stream.specs.Waits.{Waits, count_of}
+use Rattle.tcp_stream.specs.declared.receiving.Receiving.{Receiving}
+use Rattle.tcp_stream.specs.declared.sending.Sending.{Sending}
 use Rattle.app_connection.specs.declared.connection.Connection.{Connection}
 use Rattle.app_connection.specs.declared.segment.Segment.{Segment}
 use Rattle.app_connection.specs.declared.state.Phase.TheVariants as phase

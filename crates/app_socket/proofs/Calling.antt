@@ -2,14 +2,14 @@
 use Rattle.std.proofs.Common.{◌≡◌, ◌⊎◌, inl, inr, refl, sym, ◌∙◌, ap, subst, ℕ, ◌+◌, ◌%◌, ◌<◌, List, [], ◌∷◌, ◌++◌, Bool, true, false, length, take, drop, nat_lt, arith, length-take, length-drop, Bor}
 use Rattle.std.specs.Prelude.{Option, Some, None, is_some, ◌==◌, ◌&&◌, not}
 use Rattle.std.proofs.lemmas.Bool.{cases_lt, cond_both, cond-true, false≢true}
-use Rattle.tcp_model.specs.Endpoint.{Item, distance}
-use Rattle.tcp_model.specs.Network.{World, Segment as Packet, number_at, stream}
-use Rattle.tcp_model.proofs.Numbers.{number_more}
-use Rattle.app_tcp.proofs.Standing.{reached_good}
-use Rattle.app_tcp.specs.Items.{items_of, syn_of}
-use Rattle.app_tcp.specs.Ring.{ring}
-use Rattle.app_tcp.specs.Waits.{IsSend, Waits, count_of, rest_of}
-use Rattle.app_tcp.specs.declared.sending.Sending.{Sending}
+use Rattle.tcp_stream.specs.Endpoint.{Item, distance}
+use Rattle.tcp_stream.specs.Network.{World, Segment as Packet, number_at, stream}
+use Rattle.tcp_stream.proofs.Numbers.{number_more}
+use Rattle.tcp_stream.proofs.Standing.{reached_good}
+use Rattle.tcp_stream.specs.Items.{items_of, syn_of}
+use Rattle.tcp_stream.specs.Ring.{ring}
+use Rattle.tcp_stream.specs.Waits.{IsSend, Waits, count_of, rest_of}
+use Rattle.tcp_stream.specs.declared.sending.Sending.{Sending}
 use Rattle.app_connection.specs.declared.connection.Connection.{Connection}
 use Rattle.app_connection.specs.declared.segment.Reply.{Reply}
 use Rattle.app_connection.specs.declared.segment.Segment.{Segment}

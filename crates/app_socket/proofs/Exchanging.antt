@@ -3,14 +3,14 @@ use Rattle.std.proofs.Common.{◌≡◌, ◌⊎◌, inl, inr, refl, sym, ◌∙�
 use Rattle.std.specs.Prelude.{Option, Some, None, MatchOption}
 use Rattle.std.proofs.lemmas.Bool.{cases_lt}
 use Rattle.std.proofs.lemmas.List.{at_drop_more, length-take-le}
-use Rattle.tcp_model.specs.Endpoint.{Item}
-use Rattle.tcp_model.specs.Network.{IsPrefixOf, bytes_of, stream}
-use Rattle.tcp_model.proofs.Parts.{part_first}
-use Rattle.tcp_model.proofs.Streams.{bytes_first}
-use Rattle.app_tcp.specs.Ring.{ring}
-use Rattle.app_tcp.specs.Waits.{count_of, unsent_of}
-use Rattle.app_tcp.proofs.Places.{length-ring}
-use Rattle.app_tcp.proofs.Standing.{reached_good}
+use Rattle.tcp_stream.specs.Endpoint.{Item}
+use Rattle.tcp_stream.specs.Network.{IsPrefixOf, bytes_of, stream}
+use Rattle.tcp_stream.proofs.Parts.{part_first}
+use Rattle.tcp_stream.proofs.Streams.{bytes_first}
+use Rattle.tcp_stream.specs.Ring.{ring}
+use Rattle.tcp_stream.specs.Waits.{count_of, unsent_of}
+use Rattle.tcp_stream.proofs.Places.{length-ring}
+use Rattle.tcp_stream.proofs.Standing.{reached_good}
 use Rattle.app_connection.specs.Endpoints.{InFits, OutFits}
 use Rattle.app_connection.specs.Runs as connection
 use Rattle.app_connection.specs.States.{state_from}

@@ -2,15 +2,15 @@
 use Rattle.std.proofs.Common.{◌≡◌, refl, ◌∙◌, ap, ℕ, ◌+◌, ◌-◌, ◌≤◌, List, [], ◌∷◌, true, length, take, drop, max, nat_lt, arith, length-append}
 use Rattle.std.specs.Prelude.{Option, Some, None, slice_get}
 use Rattle.std.proofs.lemmas.Bool.{cond_both}
-use Rattle.tcp_model.specs.Endpoint.{Item, Syn, Byte, Fin, Receiver, fresh, newly, opened, received}
-use Rattle.tcp_model.specs.Network.{World, Ack, Event, Write, Close, Send, Segment_comes, Resegment, Answer, Ack_comes, Segment as Sent, ack_comes, happens, is_alive, number_at, run, segment_comes, sends, stream}
-use Rattle.tcp_model.proofs.Numbers.{distance_after}
-use Rattle.tcp_model.specs.Endpoint.{distance}
-use Rattle.app_tcp.proofs.Standing.{reached_good}
-use Rattle.app_tcp.specs.Stands.{Stands}
-use Rattle.app_tcp.specs.Waits.{Waits}
-use Rattle.app_tcp.specs.declared.receiving.Receiving.{Receiving}
-use Rattle.app_tcp.specs.declared.sending.Sending.{Sending}
+use Rattle.tcp_stream.specs.Endpoint.{Item, Syn, Byte, Fin, Receiver, fresh, newly, opened, received}
+use Rattle.tcp_stream.specs.Network.{World, Ack, Event, Write, Close, Send, Segment_comes, Resegment, Answer, Ack_comes, Segment as Sent, ack_comes, happens, is_alive, number_at, run, segment_comes, sends, stream}
+use Rattle.tcp_stream.proofs.Numbers.{distance_after}
+use Rattle.tcp_stream.specs.Endpoint.{distance}
+use Rattle.tcp_stream.proofs.Standing.{reached_good}
+use Rattle.tcp_stream.specs.Stands.{Stands}
+use Rattle.tcp_stream.specs.Waits.{Waits}
+use Rattle.tcp_stream.specs.declared.receiving.Receiving.{Receiving}
+use Rattle.tcp_stream.specs.declared.sending.Sending.{Sending}
 use Rattle.app_connection.specs.Worlds.{OfReceiver, OfSender}
 
 le_then : (a b c : ℕ) → a ≤ b → b ≤ c → a ≤ c

@@ -4,14 +4,14 @@ use Rattle.std.specs.Prelude.{Option, Some, None, IfSome, MatchOption, is_some, 
 use Rattle.std.proofs.Math.Nat.{div-mul-le_self, zero-div, zero-mul}
 use Rattle.std.proofs.lemmas.Bool.{cond_both}
 use Rattle.std.proofs.lemmas.Bool.Decides.{nat_tests}
-use Rattle.tcp_model.specs.Endpoint.{Syn}
-use Rattle.tcp_model.specs.Network.{World, Segment as Packet, Ack, Event, Write, Close, Send, Segment_comes, Resegment, Answer, Ack_comes, ack_comes, happens, number_at, run, sends, start, stream}
-use Rattle.tcp_model.proofs.Kept.{GoodSegment, each_get}
-use Rattle.tcp_model.proofs.Parts.{IsPart}
-use Rattle.tcp_model.proofs.Streams.{syn_first}
-use Rattle.app_tcp.proofs.Standing.{reached_good}
-use Rattle.app_tcp.specs.Stands.{IsReached}
-use Rattle.app_tcp.specs.declared.sending.Sending.{Sending}
+use Rattle.tcp_stream.specs.Endpoint.{Syn}
+use Rattle.tcp_stream.specs.Network.{World, Segment as Packet, Ack, Event, Write, Close, Send, Segment_comes, Resegment, Answer, Ack_comes, ack_comes, happens, number_at, run, sends, start, stream}
+use Rattle.tcp_stream.proofs.Kept.{GoodSegment, each_get}
+use Rattle.tcp_stream.proofs.Parts.{IsPart}
+use Rattle.tcp_stream.proofs.Streams.{syn_first}
+use Rattle.tcp_stream.proofs.Standing.{reached_good}
+use Rattle.tcp_stream.specs.Stands.{IsReached}
+use Rattle.tcp_stream.specs.declared.sending.Sending.{Sending}
 use Rattle.app_connection.specs.declared.connection.Connection.{Connection}
 use Rattle.app_connection.specs.declared.segment.Reply.{Reply}
 use Rattle.app_connection.specs.declared.segment.Segment.{Segment}

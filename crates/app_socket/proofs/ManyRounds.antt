@@ -4,18 +4,18 @@ use Rattle.std.specs.Prelude.{Option, Some, None, IfSome, MatchOption, is_some, 
 use Rattle.std.proofs.lemmas.Bool.{cases_lt, cond-true, cond-false}
 use Rattle.std.proofs.lemmas.Bool.Decides.{nat_tests}
 use Rattle.std.proofs.lemmas.List.{at_drop_more, length-map, length-take-le}
-use Rattle.tcp_model.specs.Endpoint.{Byte, distance, is_earlier, newly}
-use Rattle.tcp_model.specs.Network.{World, Send, Ack_comes, end_of, happens, is_alive, number_at, run, sends, stream}
-use Rattle.tcp_model.proofs.Numbers.{distance_after, number_more}
-use Rattle.app_tcp.specs.Items.{syn_of}
+use Rattle.tcp_stream.specs.Endpoint.{Byte, distance, is_earlier, newly}
+use Rattle.tcp_stream.specs.Network.{World, Send, Ack_comes, end_of, happens, is_alive, number_at, run, sends, stream}
+use Rattle.tcp_stream.proofs.Numbers.{distance_after, number_more}
+use Rattle.tcp_stream.specs.Items.{syn_of}
 use Rattle.app_options.specs.declared.agreed.Agreed.{Agreed}
-use Rattle.app_tcp.specs.Ring.{ring}
-use Rattle.app_tcp.specs.Stands.{room_of}
-use Rattle.app_tcp.specs.Waits.{AckComes, Waits, count_of, pending, rest_of, unsent_of}
-use Rattle.app_tcp.specs.declared.sending.Sending.{Sending}
-use Rattle.app_tcp.proofs.Pending.{short_end}
-use Rattle.app_tcp.proofs.Places.{length-ring}
-use Rattle.app_tcp.proofs.Rounds.{true_test}
+use Rattle.tcp_stream.specs.Ring.{ring}
+use Rattle.tcp_stream.specs.Stands.{room_of}
+use Rattle.tcp_stream.specs.Waits.{AckComes, Waits, count_of, pending, rest_of, unsent_of}
+use Rattle.tcp_stream.specs.declared.sending.Sending.{Sending}
+use Rattle.tcp_stream.proofs.Pending.{short_end}
+use Rattle.tcp_stream.proofs.Places.{length-ring}
+use Rattle.tcp_stream.proofs.GoesOn.{true_test}
 use Rattle.app_connection.specs.declared.connection.Connection.{Connection}
 use Rattle.app_connection.specs.declared.segment.Segment.{Segment}
 use Rattle.app_connection.specs.declared.state.Phase.{Phase}

@@ -2,9 +2,9 @@
 use Rattle.std.proofs.Common.{◌≡◌, ◌⊎◌, inr, refl, ◌∙◌, ap, subst, ℕ, ◌+◌, ◌<◌, List, Bool, true, false, length, arith}
 use Rattle.std.specs.Prelude.{Option, Some, None, IfSome, is_some, not, nat_lt, ◌==◌, ◌||◌, ◌&&◌, if◌then◌else◌}
 use Rattle.std.proofs.lemmas.Bool.Decides.{nat_tests}
-use Rattle.tcp_model.specs.Network.{World}
-use Rattle.app_tcp.specs.Stands.{Stands, IsAnswer}
-use Rattle.app_tcp.specs.declared.receiving.Receiving.{Receiving}
+use Rattle.tcp_stream.specs.Network.{World}
+use Rattle.tcp_stream.specs.Stands.{Stands, IsAnswer}
+use Rattle.tcp_stream.specs.declared.receiving.Receiving.{Receiving}
 use Rattle.app_connection.specs.declared.connection.Connection.{Connection}
 use Rattle.app_connection.specs.declared.segment.Segment.{Segment}
 use Rattle.app_connection.specs.declared.state.Phase.{Phase}

@@ -1,7 +1,7 @@
 -- A run of two programs with sockets that open again and again is one of their connections.
 use Rattle.std.proofs.Common.{◌≡◌, inl, inr, refl, sym, ◌∙◌, ap, subst, ℕ, List, []}
 use Rattle.std.proofs.lemmas.List.{append-nil}
-use Rattle.app_tcp.specs.Stands.{Stands}
+use Rattle.tcp_stream.specs.Stands.{Stands}
 use Rattle.app_connection.specs.Openings as connection
 use Rattle.app_connection.specs.Runs as calls
 use Rattle.app_connection.specs.Steps.{Reads}

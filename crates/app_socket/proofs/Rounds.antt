@@ -4,16 +4,16 @@ use Rattle.std.specs.Prelude.{Option, Some, None, IfSome, ◌==◌, ◌&&◌, no
 use Rattle.std.proofs.lemmas.Bool.{cond-true, cases_lt}
 use Rattle.std.proofs.lemmas.Bool.Decides.{nat_tests}
 use Rattle.std.proofs.lemmas.List.{length-map}
-use Rattle.tcp_model.specs.Endpoint.{Item, Byte, Fin, distance, is_earlier}
-use Rattle.tcp_model.specs.Network.{Ack, World, Event, Send, Segment_comes, Answer, end_of, happens, number_at, run, start, stream}
-use Rattle.tcp_model.proofs.Kept.{Good, good_start, run_good}
-use Rattle.tcp_model.proofs.Numbers.{distance_after, distance_before, number_more}
-use Rattle.tcp_model.proofs.Round.{Came, brought, goes_on}
-use Rattle.app_tcp.specs.Items.{items_of, syn_of}
-use Rattle.app_tcp.specs.Ring.{ring}
-use Rattle.app_tcp.specs.Waits.{AckComes, Waits, count_of, rest_of}
-use Rattle.app_tcp.specs.declared.sending.Sending.{Sending}
-use Rattle.app_tcp.proofs.Rounds.{answer_acked, answer_sender, pending_some, segment_sender, true_test}
+use Rattle.tcp_stream.specs.Endpoint.{Item, Byte, Fin, distance, is_earlier}
+use Rattle.tcp_stream.specs.Network.{Ack, World, Event, Send, Segment_comes, Answer, end_of, happens, number_at, run, start, stream}
+use Rattle.tcp_stream.proofs.Kept.{Good, good_start, run_good}
+use Rattle.tcp_stream.proofs.Numbers.{distance_after, distance_before, number_more}
+use Rattle.tcp_stream.proofs.Round.{Came, brought, goes_on}
+use Rattle.tcp_stream.specs.Items.{items_of, syn_of}
+use Rattle.tcp_stream.specs.Ring.{ring}
+use Rattle.tcp_stream.specs.Waits.{AckComes, Waits, count_of, rest_of}
+use Rattle.tcp_stream.specs.declared.sending.Sending.{Sending}
+use Rattle.tcp_stream.proofs.GoesOn.{answer_acked, answer_sender, pending_some, segment_sender, true_test}
 use Rattle.app_connection.specs.declared.connection.Connection.{Connection}
 use Rattle.app_connection.specs.declared.segment.Segment.{Segment}
 use Rattle.app_connection.specs.Endpoints.{is_of_unsent, next_of, one}

@@ -1,7 +1,7 @@
 -- The segment at SND.UNA goes, and its acknowledgement comes back.
 use Rattle.std.proofs.Common.{◌≡◌, sym, ◌∙◌, ap, subst, ℕ, ◌+◌, ◌<◌, List, true, false, length, max, arith, Bor}
 use Rattle.std.specs.Prelude.{Option, None, Some, option_map}
-use Rattle.app_tcp.specs.Waits.{count_of}
+use Rattle.tcp_stream.specs.Waits.{count_of}
 use Rattle.app_connection.specs.declared.connection.Connection.{Connection}
 use Rattle.app_connection.specs.declared.segment.Segment.{Segment}
 use Rattle.app_connection.specs.declared.step.Event.TheVariants as move

@@ -3,9 +3,9 @@ use Rattle.std.proofs.Common.{◌≡◌, ◌⊎◌, inl, inr, ◌∙◌, sym, ap
 use Rattle.std.specs.Prelude.{Option, Some, None, MatchOption, ◌==◌, ◌&&◌, ◌||◌, not}
 use Rattle.std.proofs.lemmas.Bool.{cases_lt}
 use Rattle.std.proofs.lemmas.Bool.Decides.{nat_tests}
-use Rattle.app_tcp.specs.Items.{syn_of}
-use Rattle.app_tcp.specs.Waits.{count_of}
-use Rattle.app_tcp.proofs.Pending.{short_end}
+use Rattle.tcp_stream.specs.Items.{syn_of}
+use Rattle.tcp_stream.specs.Waits.{count_of}
+use Rattle.tcp_stream.proofs.Pending.{short_end}
 use Rattle.app_connection.specs.declared.connection.Connection.{Connection}
 use Rattle.app_connection.specs.declared.segment.Segment.{Segment}
 use Rattle.app_connection.specs.Endpoints.{OutFits, len_of}

@@ -2,8 +2,8 @@
 use Rattle.std.proofs.Common.{◌≡◌, ap, ℕ, List, [], ◌∷◌, true, length}
 use Rattle.std.specs.Prelude.{Option, Some, None, slice_get}
 use Rattle.std.proofs.lemmas.Bool.{cond_both, cond-true}
-use Rattle.tcp_model.specs.Endpoint.{Receiver, accepted, fresh}
-use Rattle.tcp_model.specs.Network.{World, Event, Write, Close, Send, Segment_comes, Resegment, Answer, Ack_comes, Segment as Sent, happens, is_alive, run, segment_comes}
+use Rattle.tcp_stream.specs.Endpoint.{Receiver, accepted, fresh}
+use Rattle.tcp_stream.specs.Network.{World, Event, Write, Close, Send, Segment_comes, Resegment, Answer, Ack_comes, Segment as Sent, happens, is_alive, run, segment_comes}
 use Rattle.app_connection.specs.Worlds.{OfReceiver}
 
 open_segment : (w : World) (room : ℕ) (o : Option Sent) → w.receiver.is_open ≡ true → (segment_comes w room o).receiver.is_open ≡ true

@@ -2,10 +2,10 @@
 use Rattle.std.proofs.Common.{◌≡◌, ◌⊎◌, inl, inr, refl, sym, ◌∙◌, ap, subst, ℕ, ◌+◌, ◌<◌, List, [], ◌∷◌, Bool, true, false, length, arith, Bor}
 use Rattle.std.specs.Prelude.{Option, None, IfSome, is_some, ◌&&◌, if◌then◌else◌}
 use Rattle.std.proofs.lemmas.Bool.{false≢true}
-use Rattle.tcp_model.specs.Network.{World, run}
-use Rattle.app_tcp.specs.Items.{items_of}
-use Rattle.app_tcp.specs.Stands.{Stands, IsAnswer}
-use Rattle.app_tcp.specs.declared.receiving.Receiving.{Receiving}
+use Rattle.tcp_stream.specs.Network.{World, run}
+use Rattle.tcp_stream.specs.Items.{items_of}
+use Rattle.tcp_stream.specs.Stands.{Stands, IsAnswer}
+use Rattle.tcp_stream.specs.declared.receiving.Receiving.{Receiving}
 use Rattle.app_connection.specs.declared.connection.Connection.{Connection}
 use Rattle.app_connection.specs.declared.segment.Segment.{Segment}
 use Rattle.app_connection.specs.declared.state.Phase.TheVariants as phase

@@ -1,11 +1,11 @@
 -- Where the SYN is in a stream.
 use Rattle.std.proofs.Common.{◌≡◌, ◌⊎◌, inl, inr, refl, sym, ◌∙◌, ap, ℕ, ◌<◌, List, [], ◌∷◌, ◌++◌, Bool, true, false, map, take, drop, zero, suc, arith}
 use Rattle.std.proofs.lemmas.Bool.{false≢true}
-use Rattle.tcp_model.specs.Endpoint.{Item, Syn, Byte, Fin}
-use Rattle.tcp_model.specs.Network.{World, end_of as last_of, stream}
-use Rattle.app_tcp.specs.Items.{items_of, syn_of}
-use Rattle.app_tcp.specs.Waits.{Waits, rest_of}
-use Rattle.app_tcp.specs.declared.sending.Sending.{Sending}
+use Rattle.tcp_stream.specs.Endpoint.{Item, Syn, Byte, Fin}
+use Rattle.tcp_stream.specs.Network.{World, end_of as last_of, stream}
+use Rattle.tcp_stream.specs.Items.{items_of, syn_of}
+use Rattle.tcp_stream.specs.Waits.{Waits, rest_of}
+use Rattle.tcp_stream.specs.declared.sending.Sending.{Sending}
 
 abbrev pub head_syn : List Item → Bool
 head_syn [] = false

@@ -1,8 +1,8 @@
 -- A window that has to be told again is told with all the room that there is.
 use Rattle.std.proofs.Common.{◌≡◌, refl, ◌∙◌, ap, ℕ, Bool, true, false, nat_lt}
 use Rattle.std.specs.Prelude.{Option, Some, None, IfSome, ◌-◌, ◌&&◌, ◌||◌, not, if◌then◌else◌}
-use Rattle.app_tcp.specs.Stands.{room_of}
-use Rattle.app_tcp.specs.declared.receiving.Receiving.{Receiving}
+use Rattle.tcp_stream.specs.Stands.{room_of}
+use Rattle.tcp_stream.specs.declared.receiving.Receiving.{Receiving}
 use Rattle.app_connection.specs.declared.segment.Segment.{Segment}
 use Rattle.app_connection.specs.Endpoints.{acknowledgement_of}
 use Rattle.app_connection.specs.States.{state_from}

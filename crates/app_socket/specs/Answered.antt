@@ -15,7 +15,7 @@ use Rattle.app_socket.specs.Rounds.{AcknowledgesItems}
 use Rattle.app_socket.specs.Runs.{End, Runs, end_of}
 use Rattle.app_socket.specs.Segments.{StaysOrUpdates}
 use Rattle.app_socket.specs.Times.{is_open, later}
-use Rattle.app_tcp.specs.Waits.{count_of}
+use Rattle.tcp_stream.specs.Waits.{count_of}
 
 -- the segment at SND.UNA of an end, which acknowledges all that came there
 pub record AtUna (a : connection.End) (s : Segment) : Type 0 where

@@ -10,7 +10,7 @@ use Rattle.app_socket.specs.declared.socket.Socket.{Socket}
 use Rattle.app_socket.specs.Pair.{Past, end_at}
 use Rattle.app_socket.specs.Runs.{Runs, end_of}
 use Rattle.app_socket.specs.Times.{is_open, later, resend_or_probe}
-use Rattle.app_tcp.specs.Waits.{count_of}
+use Rattle.tcp_stream.specs.Waits.{count_of}
 
 -- A round whose calls come in time. The timer of the end that sends expires by `by`, and silence ends its connection at `end`. The
 -- other end calls 40 ms after the segment came, or later, and before silence ends its connection: at `until`, or 5 minutes after

@@ -9,7 +9,7 @@ use Rattle.app_connection.specs.States.{state_from}
 use Rattle.app_socket.specs.declared.socket.Socket.{Socket}
 use Rattle.app_socket.specs.Resends.{is_due}
 use Rattle.app_socket.specs.Times.{is_open}
-use Rattle.app_tcp.specs.Waits.{count_of}
+use Rattle.tcp_stream.specs.Waits.{count_of}
 
 -- The program of a socket calls at this time, before the timer expires. The connection is open, something waits, and silence does
 -- not end it.

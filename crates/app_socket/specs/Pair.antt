@@ -12,7 +12,7 @@ use Rattle.app_socket.specs.Rounds.{IsWaiting}
 use Rattle.app_socket.specs.Runs.{End, Runs}
 use Rattle.app_socket.specs.Segments.{StaysOrUpdates}
 use Rattle.app_socket.specs.Times.{is_open, later}
-use Rattle.app_tcp.specs.Waits.{count_of}
+use Rattle.tcp_stream.specs.Waits.{count_of}
 
 -- the past of an end: whether it was ever opened, what its application wrote and read, and all segments that its calls returned
 pub record Past : Type 0 where

@@ -1,7 +1,7 @@
 -- What is sent, and when it is worth a segment.
 -- Pinned by: `socket/scenarios`
 use Rattle.std.specs.Prelude.{ℕ, ◌+◌, ◌*◌, ◌≤◌, ◌<◌, ◌==◌, ◌&&◌, ◌||◌, Bool, not, nat_lt}
-use Rattle.tcp_model.specs.Endpoint.{distance}
+use Rattle.tcp_stream.specs.Endpoint.{distance}
 use Rattle.app_socket.specs.Window.{limit_of}
 use Rattle.app_socket.specs.declared.flow.Queue.{Queue}
 use Rattle.app_socket.specs.declared.flow.Piece.{Piece}

@@ -2,9 +2,9 @@
 -- `new` are the socket before and after the event, and `given` is the segment that is returned.
 -- Pinned by: `socket/scenarios`
 use Rattle.std.specs.Prelude.{ℕ, ◌≡◌, ◌<◌, ◌≤◌, ◌&&◌, not, List, length, Option, IfSome, MatchOption, None, is_some, max, option_map, true, false}
-use Rattle.tcp_model.specs.Network.{World}
-use Rattle.app_tcp.specs.Stands.{room_of}
-use Rattle.app_tcp.specs.Waits.{Waits}
+use Rattle.tcp_stream.specs.Network.{World}
+use Rattle.tcp_stream.specs.Stands.{room_of}
+use Rattle.tcp_stream.specs.Waits.{Waits}
 use Rattle.app_connection.specs.declared.segment.Segment.{Segment}
 use Rattle.app_connection.specs.declared.step.Event.{Event as Move}
 use Rattle.app_connection.specs.Endpoints.{endpoint_of, len_of}

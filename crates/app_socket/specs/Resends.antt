@@ -1,11 +1,11 @@
 -- What goes again, and when (RFC 6298, section 5; RFC 5681; RFC 6582; RFC 6675).
 -- Pinned by: `socket/scenarios`
 use Rattle.std.specs.Prelude.{ℕ, ◌≡◌, ◌⊎◌, ◌+◌, ◌-◌, ◌*◌, ◌%◌, ◌<◌, ◌≤◌, ◌==◌, ◌&&◌, Bool, true, false, not, nat_le, nat_lt, if◌then◌else◌, min, List, [], length, Option, Some, None, is_some, IfSome, MatchOption}
-use Rattle.tcp_model.specs.Network.{World, Segment_comes, Send, happens, round, run}
-use Rattle.tcp_model.specs.Endpoint.{distance}
-use Rattle.app_tcp.specs.Stands.{room_of}
-use Rattle.app_tcp.specs.declared.sending.Sending.{Sending}
-use Rattle.app_tcp.specs.Waits.{Waits, count_of, unsent_of}
+use Rattle.tcp_stream.specs.Network.{World, Segment_comes, Send, happens, round, run}
+use Rattle.tcp_stream.specs.Endpoint.{distance}
+use Rattle.tcp_stream.specs.Stands.{room_of}
+use Rattle.tcp_stream.specs.declared.sending.Sending.{Sending}
+use Rattle.tcp_stream.specs.Waits.{Waits, count_of, unsent_of}
 use Rattle.app_congestion.specs.declared.rto.Rto.{Rto}
 use Rattle.app_congestion.specs.declared.scoreboard.Scoreboard.{Scoreboard}
 use Rattle.app_congestion.specs.Rto.{sampled, timeout_of}

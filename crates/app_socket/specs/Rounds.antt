@@ -1,9 +1,9 @@
 -- Rounds of a network that loses: in each of them the retransmission timer expires, and what goes then is acknowledged.
 -- Pinned by: `socket/scenarios`
 use Rattle.std.specs.Prelude.{ℕ, ◌≡◌, ◌+◌, ◌%◌, ◌≤◌, ◌<◌, max, true, false, List, [], ◌∷◌, MatchOption, Some}
-use Rattle.tcp_model.specs.Network.{World}
-use Rattle.app_tcp.specs.declared.sending.Sending.{Sending}
-use Rattle.app_tcp.specs.Waits.{Waits, count_of}
+use Rattle.tcp_stream.specs.Network.{World}
+use Rattle.tcp_stream.specs.declared.sending.Sending.{Sending}
+use Rattle.tcp_stream.specs.Waits.{Waits, count_of}
 use Rattle.app_connection.specs.declared.connection.Connection.{Connection}
 use Rattle.app_connection.specs.declared.segment.Segment.{Segment}
 use Rattle.app_connection.specs.Endpoints.{len_of}

@@ -1,12 +1,12 @@
 -- What comes and goes in a header: options, windows, and the items of a segment.
 -- Pinned by: `socket/scenarios`, `socket/options`
 use Rattle.std.specs.Prelude.{ℕ, ◌≡◌, ◌⊎◌, ◌==◌, ◌&&◌, List, [], ◌∷◌, length, replicate, Bool, false, not, nat_lt, is_some, if◌then◌else◌, min, max, Option, None, Some}
-use Rattle.tcp_model.specs.Network.{World}
-use Rattle.tcp_model.specs.Endpoint.{distance}
-use Rattle.app_tcp.specs.Items.{items_of}
-use Rattle.app_tcp.specs.Ranges.{block_of, blocks_of, is_none, order_of}
-use Rattle.app_tcp.specs.Waits.{IsSend}
-use Rattle.app_tcp.specs.declared.receiving.Receiving.{Receiving}
+use Rattle.tcp_stream.specs.Network.{World}
+use Rattle.tcp_stream.specs.Endpoint.{distance}
+use Rattle.tcp_stream.specs.Items.{items_of}
+use Rattle.tcp_stream.specs.Ranges.{block_of, blocks_of, is_none, order_of}
+use Rattle.tcp_stream.specs.Waits.{IsSend}
+use Rattle.tcp_stream.specs.declared.receiving.Receiving.{Receiving}
 use Rattle.app_congestion.specs.Congestion.{sender_of}
 use Rattle.app_congestion.specs.Scoreboard.{has}
 use Rattle.wire_tcp_options.specs.declared.tcp.summary.TcpOptionSummary.{TcpOptionSummary}

@@ -1,9 +1,9 @@
 -- The window that is advertised (RFC 9293, section 3.8.6).
 -- Pinned by: `socket/scenarios`
 use Rattle.std.specs.Prelude.{ℕ, ◌≡◌, ◌+◌, ◌-◌, ◌*◌, ◌/◌, ◌%◌, ◌^◌, ◌≤◌, ◌&&◌, ◌||◌, Bool, true, min, max, not, nat_lt, if◌then◌else◌}
-use Rattle.tcp_model.specs.Endpoint.{distance, is_ahead}
-use Rattle.app_tcp.specs.Stands.{room_of}
-use Rattle.app_tcp.specs.declared.receiving.Receiving.{Receiving}
+use Rattle.tcp_stream.specs.Endpoint.{distance, is_ahead}
+use Rattle.tcp_stream.specs.Stands.{room_of}
+use Rattle.tcp_stream.specs.declared.receiving.Receiving.{Receiving}
 use Rattle.app_connection.specs.Endpoints.{edge_of, len_of}
 use Rattle.app_connection.specs.declared.segment.Segment.{Segment}
 

@@ -1,8 +1,8 @@
 //! What goes out at once after a segment, and how often (RFC 9293, section 3.10.7.4; RFC 5961, section 7).
 
 ghost use Rattle.std.specs.Prelude.{false, ◌≤◌, None, max, ◌≡◌, ◌<◌, ℕ, List, is_some, length, true, IfSome, option_map, ◌&&◌, not, Option, Some};
-ghost use Rattle.tcp_model.specs.Network.{World};
-ghost use Rattle.app_tcp.specs.Stands.{Stands};
+ghost use Rattle.tcp_stream.specs.Network.{World};
+ghost use Rattle.tcp_stream.specs.Stands.{Stands};
 ghost use Rattle.app_connection.specs.Endpoints.{InFits, acknowledgement_of, len_of, spoken};
 ghost use Rattle.app_connection.specs.Promises.{HasNoText, IsAnswerOf};
 ghost use Rattle.app_connection.specs.Worlds.{GoesOut, said};

@@ -1,14 +1,14 @@
 //! A segment arrives.
 
 ghost use Rattle.std.specs.Prelude.{false, ◌≤◌, None, max, ◌≡◌, ◌<◌, ℕ, List, is_some, length, true, IfSome, if◌then◌else◌, option_map, ◌+◌, ◌-◌, ◌%◌, min, Option, Some};
-ghost use Rattle.tcp_model.specs.Network.{World};
-ghost use Rattle.app_tcp.specs.Stands.{Stands, room_of};
+ghost use Rattle.tcp_stream.specs.Network.{World};
+ghost use Rattle.tcp_stream.specs.Stands.{Stands, room_of};
 ghost use Rattle.app_connection.specs.Endpoints.{OutFits, InFits, acknowledgement_of, answers_bare, endpoint_of, has_items, is_bare, len_of, spoken};
 ghost use Rattle.app_connection.specs.Events.{GetsBy};
 ghost use Rattle.app_connection.specs.States.{state_from};
 ghost use Rattle.app_connection.specs.declared.state.State.TheVariants as state;
 ghost use Rattle.app_connection.specs.Worlds.{GoesOut, said};
-ghost use Rattle.tcp_model.specs.Endpoint.{distance};
+ghost use Rattle.tcp_stream.specs.Endpoint.{distance};
 ghost use Rattle.app_congestion.specs.Congestion.{is_in_recovery};
 ghost use Rattle.app_socket.specs.Resends.{IsArmed, IsDuplicate, IsSound, Learns, restarted_at, scaled_by, CountsDuplicate, ResendsOnPartial, ResendsOnThird, RestartsTimer, StaysSound, UndoesNeedless, newly_after};
 ghost use Rattle.app_socket.specs.Undo.{Undoes, is_needless};

@@ -1,8 +1,8 @@
 //! What is remembered while a segment is taken.
 
 ghost use Rattle.std.specs.Prelude.{◌≡◌, ◌+◌, ◌&&◌, true, not, nat_le, min};
-ghost use Rattle.tcp_model.specs.Endpoint.{distance};
-ghost use Rattle.app_tcp.specs.Stands.{room_of};
+ghost use Rattle.tcp_stream.specs.Endpoint.{distance};
+ghost use Rattle.tcp_stream.specs.Stands.{room_of};
 ghost use Rattle.app_connection.specs.Endpoints.{InFits};
 ghost use Rattle.app_connection.specs.States.{state_from};
 ghost use Rattle.app_socket.specs.Resends.{IsDuplicate};

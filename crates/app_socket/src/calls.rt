@@ -1,8 +1,8 @@
 //! Calls of the application that need no ring.
 
 ghost use Rattle.std.specs.Prelude.{◌≡◌, ◌+◌, ℕ, List, true, false, min, IfSome, None, option_map};
-ghost use Rattle.tcp_model.specs.Network.{World, Close, happens};
-ghost use Rattle.app_tcp.specs.Waits.{Waits, unsent_of};
+ghost use Rattle.tcp_stream.specs.Network.{World, Close, happens};
+ghost use Rattle.tcp_stream.specs.Waits.{Waits, unsent_of};
 ghost use Rattle.app_connection.specs.Endpoints.{InFits, OutFits, endpoint_of};
 ghost use Rattle.app_connection.specs.SetUp.{In_closed, In_listen};
 ghost use Rattle.app_connection.specs.States.{may_close, state_closed, state_from};

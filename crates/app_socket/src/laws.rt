@@ -8,8 +8,8 @@ ghost use Rattle.app_connection.specs.States.{has_peer, state_from};
 ghost use Rattle.app_socket.specs.Openings as openings;
 ghost use Rattle.app_socket.specs.Rounds.{AcknowledgesItems, AreBefore, AreRounds, GoesFurther, IsAllAcknowledged, IsRound, IsWaiting, StandsFor, StillWaits, expires_by};
 ghost use Rattle.app_socket.specs.Runs.{Ends, Runs, ends_of};
-ghost use Rattle.tcp_model.specs.Network.{World, Event as WorldEvent, run, start, stream};
-ghost use Rattle.app_tcp.specs.Waits.{Waits, count_of};
+ghost use Rattle.tcp_stream.specs.Network.{World, Event as WorldEvent, run, start, stream};
+ghost use Rattle.tcp_stream.specs.Waits.{Waits, count_of};
 ghost use Rattle.app_congestion.specs.Congestion.{sender_of};
 ghost use Rattle.app_options.specs.Timestamps.{round_trip, takes};
 ghost use Rattle.app_socket.specs.Resends.{ComesAcross, GoesRound, IsSound, is_due, newly_in};
@@ -89,7 +89,7 @@ pub fn what_is_lost_goes_again<'a>(
 
 /// A round after a loss: the timer expires, after the loss probe. What goes then is a part of the stream from SND.UNA on, and if it
 /// comes to the peer, and its acknowledgement comes back, more is acknowledged than before. The law `all_is_acknowledged` of
-/// `tcp_model` counts such rounds: after one for each item all is acknowledged.
+/// `tcp_stream` counts such rounds: after one for each item all is acknowledged.
 pub fn a_time_out_goes_on(socket: &mut Socket, outgoing: &[u8], incoming: &mut [u8], now: u64)
     requires out { OutFits socket.old.connection.sending (length outgoing.now) }
     requires rings { InFits socket.old.connection.receiving (length incoming.old) }
@@ -106,7 +106,7 @@ pub fn a_time_out_goes_on(socket: &mut Socket, outgoing: &[u8], incoming: &mut [
 }
 
 /// A whole round after a loss. The timer expires, after the loss probe, and then the peer's acknowledgement comes: of all that it
-/// has after what went came. That is a round of `tcp_model` (`goes_on`), after which more is acknowledged than before.
+/// has after what went came. That is a round of `tcp_stream` (`goes_on`), after which more is acknowledged than before.
 pub fn a_round_is_acknowledged(
     socket: &mut Socket,
     outgoing: &[u8],

@@ -1,8 +1,8 @@
 //! The options of a segment that arrives: what a SYN agrees on, timestamps and PAWS, the window scale (RFC 7323).
 
 ghost use Rattle.std.specs.Prelude.{false, None, ◌≡◌, ◌<◌, ℕ, List, is_some, length, true, IfSome, option_map, ◌&&◌, not, min, Option};
-ghost use Rattle.tcp_model.specs.Network.{World};
-ghost use Rattle.app_tcp.specs.Stands.{Stands};
+ghost use Rattle.tcp_stream.specs.Network.{World};
+ghost use Rattle.tcp_stream.specs.Stands.{Stands};
 ghost use Rattle.app_connection.specs.Endpoints.{InFits, len_of};
 ghost use Rattle.app_connection.specs.Worlds.{GoesOut, said};
 ghost use Rattle.app_socket.specs.Limits.{is_held, quiet_after};
@@ -17,7 +17,7 @@ use crate::socket::Socket;
 use crate::tick::is_open;
 use app_connection::{Segment, State};
 use app_options::{Agreed, peer_mss};
-use app_tcp::is_ahead;
+use tcp_stream::is_ahead;
 use wire_tcp_options::TcpOptionSummary;
 
 impl Socket {

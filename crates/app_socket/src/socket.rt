@@ -1,14 +1,14 @@
 //! The connection with its timers, and the calls of its application.
 
 ghost use Rattle.std.specs.Prelude.{◌≡◌, ◌==◌, ◌&&◌, ◌≤◌, ◌<◌, ◌++◌, [], max, ℕ, List, length, true, false, MatchOption, take, ◌+◌, nat_lt};
-ghost use Rattle.tcp_model.specs.Network.{World, Event, happens, run, start, IsPrefixOf};
-ghost use Rattle.app_tcp.specs.Ranges.{is_none};
-ghost use Rattle.app_tcp.specs.Stands.{Stands, room_of};
+ghost use Rattle.tcp_stream.specs.Network.{World, Event, happens, run, start, IsPrefixOf};
+ghost use Rattle.tcp_stream.specs.Ranges.{is_none};
+ghost use Rattle.tcp_stream.specs.Stands.{Stands, room_of};
 ghost use Rattle.app_connection.specs.SetUp.{In_closed};
 ghost use Rattle.app_connection.specs.Endpoints.{endpoint_of, OutFits, InFits};
 ghost use Rattle.app_connection.specs.States.{state_from, has_peer};
 ghost use Rattle.app_connection.specs.Steps.{Reads, Writes};
-ghost use Rattle.app_tcp.specs.Waits.{count_of, unsent_of};
+ghost use Rattle.tcp_stream.specs.Waits.{count_of, unsent_of};
 ghost use Rattle.app_socket.specs.Resends.{queue_of};
 ghost use Rattle.app_options.specs.Options.{of_segment};
 ghost use Rattle.app_socket.specs.Segments.{GoesAgain, Lowers, header_of, is_in_flight, is_narrower, kept_of, text_of};

@@ -1,9 +1,9 @@
 //! Time passes.
 
 ghost use Rattle.std.specs.Prelude.{[], false, ◌≡◌, ◌<◌, ◌≤◌, ℕ, List, length, true, Some, None, IfSome, ◌||◌, option_map, Option, MatchOption, min, ◌+◌, ◌%◌};
-ghost use Rattle.tcp_model.specs.Network.{World};
-ghost use Rattle.app_tcp.specs.Stands.{Stands};
-ghost use Rattle.app_tcp.specs.Waits.{Waits, count_of};
+ghost use Rattle.tcp_stream.specs.Network.{World};
+ghost use Rattle.tcp_stream.specs.Stands.{Stands};
+ghost use Rattle.tcp_stream.specs.Waits.{Waits, count_of};
 ghost use Rattle.app_connection.specs.declared.state.Phase.TheVariants.{Open};
 ghost use Rattle.app_connection.specs.Endpoints.{endpoint_of, len_of, OutFits, InFits, acknowledgement_of};
 ghost use Rattle.app_connection.specs.Worlds.{GoesOut, said};

@@ -3,7 +3,7 @@
 ghost use Rattle.std.specs.Prelude.{◌≡◌, ◌≤◌};
 ghost use Rattle.app_socket.specs.Window.{least_growth, advertised, moved, is_update_due, read_as};
 
-use app_tcp::is_ahead;
+use tcp_stream::is_ahead;
 
 // By how much the window has to grow before a larger one is advertised (section 3.8.6.2.2), with a ring of this size.
 pub(crate) fn least_growth(size: usize, mss: u16) -> u32

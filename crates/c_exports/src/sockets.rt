@@ -2,9 +2,9 @@
 
 ghost use Rattle.std.specs.Prelude.{◌≡◌, ◌≤◌, ◌<◌, ◌+◌, ℕ, List, length, true, min, pos};
 ghost use Rattle.std.specs.Option.{unwrap_or};
-ghost use Rattle.tcp_model.specs.Network.{Event, World, run, start};
-ghost use Rattle.app_tcp.specs.Stands.{Stands};
-ghost use Rattle.app_tcp.specs.Waits.{unsent_of};
+ghost use Rattle.tcp_stream.specs.Network.{Event, World, run, start};
+ghost use Rattle.tcp_stream.specs.Stands.{Stands};
+ghost use Rattle.tcp_stream.specs.Waits.{unsent_of};
 ghost use Rattle.app_connection.specs.Endpoints.{OutFits, endpoint_of};
 ghost use Rattle.app_connection.specs.SetUp.{In_closed};
 ghost use Rattle.app_connection.specs.States.{state_from};

@@ -2,8 +2,8 @@
 use Rattle.std.proofs.Common.{◌≡◌, ◌∙◌, sym, ap, subst, ℕ, ◌+◌, ◌≤◌, List, ◌++◌, length}
 use Rattle.std.specs.Prelude.{take, drop}
 use Rattle.std.proofs.lemmas.List.{append_assoc, length-append, take_at, drop_at, drop-drop, drop-append-le, take-append-drop}
-use Rattle.tcp_model.specs.Network.{run, start, IsPrefixOf}
-use Rattle.app_tcp.specs.Stands.{Stands}
+use Rattle.tcp_stream.specs.Network.{run, start, IsPrefixOf}
+use Rattle.tcp_stream.specs.Stands.{Stands}
 use Rattle.app_connection.specs.Steps.{Reads}
 use Rattle.app_connection.specs.declared.connection.Connection.{Connection}
 use Rattle.c_socket.specs.Calls.{Delivers}

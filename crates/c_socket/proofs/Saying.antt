@@ -2,7 +2,7 @@
 use Rattle.std.proofs.Common.{◌≡◌, refl, ◌∙◌, ap, ℕ, ◌+◌, ◌*◌, ◌/◌, ◌%◌, ◌≤◌, Bool, true, false, arith, length}
 use Rattle.std.specs.Prelude.{◌==◌, not, Option, None, Some, is_some, if◌then◌else◌}
 use Rattle.std.specs.Option.{unwrap_or}
-use Rattle.app_tcp.specs.Items.{items_of}
+use Rattle.tcp_stream.specs.Items.{items_of}
 use Rattle.app_connection.specs.declared.segment.Segment.{Segment}
 use Rattle.app_connection.specs.Worlds.{Said, said}
 use Rattle.app_socket.specs.declared.socket.Header.{Header}

@@ -1,8 +1,8 @@
 -- What the calls of the application that need no ring make of a connection.
 -- Pinned by: `judge`
 use Rattle.std.specs.Prelude.{ℕ, ℤ, pos, ◌≡◌, ◌⊎◌, true, false, List, Option, None, IfSome, max}
-use Rattle.tcp_model.specs.Network.{World, Close, happens}
-use Rattle.app_tcp.specs.Waits.{Waits}
+use Rattle.tcp_stream.specs.Network.{World, Close, happens}
+use Rattle.tcp_stream.specs.Waits.{Waits}
 use Rattle.app_connection.specs.declared.state.State.{State}
 use Rattle.app_connection.specs.declared.state.State.TheVariants.{Closed, Listen, SynSent, SynReceived, Established, FinWait1, FinWait2, CloseWait, Closing, LastAck, TimeWait}
 use Rattle.app_connection.specs.Endpoints.{endpoint_of}

@@ -1,9 +1,9 @@
 -- What the calls of a connection return and store.
 -- Pinned by: `judge`
 use Rattle.std.specs.Prelude.{ℕ, ℤ, pos, negsuc, ◌≡◌, ◌≤◌, ◌⊎◌, ◌++◌, false, Option, None, Some, List, length, take, drop}
-use Rattle.tcp_model.specs.Network.{World, run, start, IsPrefixOf}
-use Rattle.tcp_model.specs.Network.{Event as Move}
-use Rattle.app_tcp.specs.Stands.{Stands}
+use Rattle.tcp_stream.specs.Network.{World, run, start, IsPrefixOf}
+use Rattle.tcp_stream.specs.Network.{Event as Move}
+use Rattle.tcp_stream.specs.Stands.{Stands}
 use Rattle.app_connection.specs.declared.connection.Connection.{Connection}
 use Rattle.app_connection.specs.declared.segment.Segment.{Segment}
 use Rattle.app_connection.specs.Endpoints.{InFits, OutFits}

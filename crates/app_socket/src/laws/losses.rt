@@ -14,8 +14,8 @@ ghost use Rattle.app_socket.specs.Resends.{IsDuplicateFor, is_due, newly_in, sca
 ghost use Rattle.app_socket.specs.Times.{is_open, later, mss_of};
 ghost use Rattle.app_socket.specs.Undo.{is_needless};
 ghost use Rattle.app_socket.specs.Window.{least_growth, promised, read_as};
-ghost use Rattle.app_tcp.specs.Stands.{room_of};
-ghost use Rattle.app_tcp.specs.Waits.{count_of, unsent_of};
+ghost use Rattle.tcp_stream.specs.Stands.{room_of};
+ghost use Rattle.tcp_stream.specs.Waits.{count_of, unsent_of};
 
 use crate::{Event, Socket};
 use app_connection::Segment;

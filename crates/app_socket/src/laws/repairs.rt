@@ -10,7 +10,7 @@ ghost use Rattle.app_socket.specs.Losses.{HasTwoBlocks, IsEarly};
 ghost use Rattle.app_socket.specs.Resends.{IsSound, is_due};
 ghost use Rattle.app_socket.specs.Segments.{text_of};
 ghost use Rattle.app_socket.specs.Times.{is_open};
-ghost use Rattle.app_tcp.specs.Waits.{count_of};
+ghost use Rattle.tcp_stream.specs.Waits.{count_of};
 
 use crate::{Event, Socket};
 use app_connection::Segment;

@@ -5,7 +5,7 @@ ghost use Rattle.app_connection.specs.Endpoints.{InFits, OutFits};
 ghost use Rattle.app_socket.specs.Exchanges.{AllCame, MayExchange};
 ghost use Rattle.app_socket.specs.Pair.{Past, end_at};
 ghost use Rattle.app_socket.specs.Runs.{Runs};
-ghost use Rattle.app_tcp.specs.Waits.{count_of};
+ghost use Rattle.tcp_stream.specs.Waits.{count_of};
 
 use crate::Socket;
 use crate::laws::pair::{Exchange, a_round_of_two_sockets};

@@ -1,5 +1,5 @@
 use Rattle.std.proofs.Common.{inl, inr, refl, [], ◌∷◌, arith}
-use Rattle.tcp_model.specs.Endpoint.{Byte, Fin}
+use Rattle.tcp_stream.specs.Endpoint.{Byte, Fin}
 use Rattle.app_connection.specs.Runs.{IsPiece, more, one, two_sent}
 use Rattle.app_connection.proofs.laws.a_middlebox_makes_others.Goals as goal
 

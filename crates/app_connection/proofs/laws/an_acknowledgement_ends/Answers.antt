@@ -1,6 +1,6 @@
 use Rattle.std.proofs.Common.{◌≡◌, refl, sym, ◌∙◌, ap, subst, ℕ, Bool, length, true, false}
 use Rattle.std.specs.Prelude.{Some, None, IfSome, if◌then◌else◌}
-use Rattle.app_tcp.specs.Stands.{room_of}
+use Rattle.tcp_stream.specs.Stands.{room_of}
 use Rattle.app_connection.specs.Endpoints.{acknowledgement_of, answers_bare, is_of_unsent, TakesAck}
 use Rattle.app_connection.specs.Sequence.{is_taken_at}
 use Rattle.app_connection.specs.declared.segment.Reply.{Reply}

@@ -1,5 +1,5 @@
 use Rattle.std.proofs.Common.{◌≡◌, ◌∙◌, sym, ap, true, false, arith}
-use Rattle.tcp_model.specs.Network.{run, start}
+use Rattle.tcp_stream.specs.Network.{run, start}
 use Rattle.app_options.specs.declared.agreed.Agreed.{Agreed}
 use Rattle.app_options.specs.Timestamps.{takes}
 use Rattle.app_connection.specs.declared.connection.Connection.{Connection}

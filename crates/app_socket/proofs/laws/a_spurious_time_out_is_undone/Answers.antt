@@ -1,6 +1,6 @@
 use Rattle.std.proofs.Common.{◌≡◌, ◌∙◌, sym, ap, subst, ℕ, ◌<◌, ◌==◌, true, false}
 use Rattle.std.specs.Prelude.{if◌then◌else◌}
-use Rattle.tcp_model.specs.Endpoint.{distance}
+use Rattle.tcp_stream.specs.Endpoint.{distance}
 use Rattle.app_congestion.specs.Congestion.{Sender, acknowledged, sender_of, timed_out, unchanged, undone}
 use Rattle.app_connection.specs.declared.connection.Connection.{Connection}
 use Rattle.app_connection.specs.States.{state_from}

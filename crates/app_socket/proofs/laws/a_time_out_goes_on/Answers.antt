@@ -1,4 +1,4 @@
-use Rattle.tcp_model.specs.Network.{run, start}
+use Rattle.tcp_stream.specs.Network.{run, start}
 use Rattle.app_socket.proofs.Rounds.{across, count_some}
 use Rattle.app_socket.proofs.laws.a_time_out_goes_on.Goals as goal
 

@@ -1,6 +1,6 @@
 use Rattle.std.proofs.Common.{◌≡◌, length, drop}
 use Rattle.std.specs.Prelude.{None}
-use Rattle.app_tcp.specs.Waits.{count_of}
+use Rattle.tcp_stream.specs.Waits.{count_of}
 use Rattle.app_connection.specs.Endpoints.{OutFits, InFits}
 use Rattle.app_socket.specs.Rounds.{StandsFor}
 use Rattle.app_socket.proofs.ManyRounds.{Going}

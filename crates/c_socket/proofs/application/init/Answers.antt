@@ -1,7 +1,7 @@
 use Rattle.std.proofs.Common.{rules, ◌≡◌, ◌∙◌, SFits, ap, sym, subst, [], Bool, w32}
 use Rattle.std.proofs.lemmas.Int.{to_z-of_z}
-use Rattle.tcp_model.specs.Network.{start}
-use Rattle.app_tcp.specs.Stands.{Stands}
+use Rattle.tcp_stream.specs.Network.{start}
+use Rattle.tcp_stream.specs.Stands.{Stands}
 use Rattle.app_connection.specs.Endpoints.{OutFits}
 use Rattle.app_socket.specs.declared.options.Options.{Options}
 use Rattle.app_socket.specs.declared.socket.Socket.{Socket}

@@ -1,5 +1,5 @@
 use Rattle.std.proofs.Common.{◌≡◌, subst, min, ◌+◌}
-use Rattle.app_tcp.specs.Waits.{unsent_of}
+use Rattle.tcp_stream.specs.Waits.{unsent_of}
 use Rattle.app_connection.specs.Endpoints.{OutFits}
 use Rattle.app_socket.specs.declared.socket.Socket.{Socket}
 use Rattle.c_socket.proofs.application.waiting.Goals as goal

@@ -1,6 +1,6 @@
 //! The order of sequence numbers, by the examples of RFC 1982.
 
-use app_tcp::{is_ahead, is_before};
+use tcp_stream::{is_ahead, is_before};
 
 // The second number of each row is before the first one, in 8 bits (section 5.2). Shifted by 24 bits they are examples in 32 bits.
 const LATER: [(u32, u32); 10] = [

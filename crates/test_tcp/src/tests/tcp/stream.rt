@@ -1,7 +1,7 @@
 //! Two hosts over a network that loses, repeats and reorders: what one wrote the other one reads, over the end of the
 //! sequence numbers.
 
-use app_tcp::{Blocks, Receiving, Sending};
+use tcp_stream::{Blocks, Receiving, Sending};
 
 /// The size of a ring, the segments and acknowledgements that the network keeps, and the longest segment.
 const SIZE: usize = 16;

@@ -1,8 +1,8 @@
 use Rattle.std.proofs.Common.{◌≡◌, refl, sym, subst, ℕ, List, [], ◌∷◌, length, arith}
-use Rattle.tcp_model.specs.Endpoint.{Item, Syn}
-use Rattle.tcp_model.specs.Network.{Send, happens, start, number_at}
-use Rattle.app_tcp.specs.Items.{items_of}
-use Rattle.app_tcp.specs.Waits.{Waits, from_of}
+use Rattle.tcp_stream.specs.Endpoint.{Item, Syn}
+use Rattle.tcp_stream.specs.Network.{Send, happens, start, number_at}
+use Rattle.tcp_stream.specs.Items.{items_of}
+use Rattle.tcp_stream.specs.Waits.{Waits, from_of}
 use Rattle.app_connection.proofs.Going.{fresh_stands}
 use Rattle.app_connection.proofs.connection.Connection.begin.Goals as goal
 

@@ -1,6 +1,6 @@
 use Rattle.std.proofs.Common.{inr}
 use Rattle.std.specs.Prelude.{None}
-use Rattle.app_tcp.specs.Waits.{from_of}
+use Rattle.tcp_stream.specs.Waits.{from_of}
 use Rattle.app_connection.proofs.Going.{sends_goes, sent_out}
 use Rattle.app_connection.proofs.connection.Connection.cut.Goals as goal
 

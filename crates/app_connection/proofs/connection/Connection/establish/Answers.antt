@@ -1,5 +1,5 @@
 use Rattle.std.proofs.Common.{[], ◌∷◌}
-use Rattle.tcp_model.specs.Network.{Ack_comes}
+use Rattle.tcp_stream.specs.Network.{Ack_comes}
 use Rattle.app_connection.proofs.connection.Connection.establish.Goals as goal
 
 pub returns-clause-waits : goal.returns-clause-waits

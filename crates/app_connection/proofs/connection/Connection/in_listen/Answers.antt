@@ -1,10 +1,10 @@
 use Rattle.std.proofs.Common.{sym, ◌∙◌, ap, subst, ℕ, [], ◌∷◌, ◌++◌, map, false}
 use Rattle.std.specs.Prelude.{Some}
-use Rattle.tcp_model.specs.Endpoint.{Byte, Syn}
-use Rattle.tcp_model.specs.Network.{Segment_comes, end_of, happens}
-use Rattle.app_tcp.specs.Items.{syn_of}
-use Rattle.app_tcp.specs.Waits.{Waits}
-use Rattle.app_tcp.specs.declared.sending.Sending.{Sending}
+use Rattle.tcp_stream.specs.Endpoint.{Byte, Syn}
+use Rattle.tcp_stream.specs.Network.{Segment_comes, end_of, happens}
+use Rattle.tcp_stream.specs.Items.{syn_of}
+use Rattle.tcp_stream.specs.Waits.{Waits}
+use Rattle.tcp_stream.specs.declared.sending.Sending.{Sending}
 use Rattle.app_connection.specs.Sequence.{after}
 use Rattle.app_connection.specs.Steps.{first}
 use Rattle.app_connection.specs.Worlds.{IsOut, replied}

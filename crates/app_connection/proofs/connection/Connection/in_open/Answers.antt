@@ -1,9 +1,9 @@
 use Rattle.std.proofs.Common.{◌≡◌, false, length, sym, subst, ℕ}
 use Rattle.std.specs.Prelude.{Some, None}
-use Rattle.app_tcp.specs.Items.{items_of}
-use Rattle.app_tcp.specs.Stands.{Stands, room_of}
-use Rattle.app_tcp.specs.Waits.{AckComes}
-use Rattle.app_tcp.specs.declared.receiving.Receiving.{Receiving}
+use Rattle.tcp_stream.specs.Items.{items_of}
+use Rattle.tcp_stream.specs.Stands.{Stands, room_of}
+use Rattle.tcp_stream.specs.Waits.{AckComes}
+use Rattle.tcp_stream.specs.declared.receiving.Receiving.{Receiving}
 use Rattle.app_connection.specs.Worlds.{GetsText, replied}
 use Rattle.app_connection.proofs.Going.{ack_of, brought, goes_at, goes_reply, if_some, says_bare, says_challenge, settled_as, settled_open, stand_reset, text_later, waits_as, went, went_now}
 use Rattle.app_connection.proofs.connection.Connection.in_open.Goals as goal

@@ -1,9 +1,9 @@
 use Rattle.std.proofs.Common.{◌≡◌, inl, inr, sym, ap, subst, ℕ, false}
 use Rattle.std.specs.Prelude.{Some, None}
-use Rattle.app_tcp.specs.Items.{syn_of}
-use Rattle.app_tcp.specs.Stands.{Stands}
-use Rattle.app_tcp.specs.Waits.{AckComes}
-use Rattle.app_tcp.specs.declared.receiving.Receiving.{Receiving}
+use Rattle.tcp_stream.specs.Items.{syn_of}
+use Rattle.tcp_stream.specs.Stands.{Stands}
+use Rattle.tcp_stream.specs.Waits.{AckComes}
+use Rattle.tcp_stream.specs.declared.receiving.Receiving.{Receiving}
 use Rattle.app_connection.specs.Worlds.{replied}
 use Rattle.app_connection.specs.declared.segment.Reply.{Reply}
 use Rattle.app_connection.proofs.Going.{ack_of, brought, goes_at, goes_reply, if_some, says_challenge, says_first_ack, settled_as, settled_open, stand_reset, text_later, waits_as, went}

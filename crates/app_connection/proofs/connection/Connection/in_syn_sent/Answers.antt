@@ -1,11 +1,11 @@
 use Rattle.std.proofs.Common.{◌≡◌, inl, refl, sym, ◌∙◌, ap, subst, ℕ, [], ◌∷◌, ◌++◌, map}
 use Rattle.std.specs.Prelude.{Some, None}
-use Rattle.tcp_model.specs.Endpoint.{Byte, Syn}
-use Rattle.tcp_model.specs.Network.{end_of, run}
-use Rattle.app_tcp.specs.Items.{syn_of}
-use Rattle.app_tcp.specs.Waits.{Waits, AckComes}
-use Rattle.app_tcp.specs.declared.receiving.Receiving.{Receiving}
-use Rattle.app_tcp.specs.declared.sending.Sending.{Sending}
+use Rattle.tcp_stream.specs.Endpoint.{Byte, Syn}
+use Rattle.tcp_stream.specs.Network.{end_of, run}
+use Rattle.tcp_stream.specs.Items.{syn_of}
+use Rattle.tcp_stream.specs.Waits.{Waits, AckComes}
+use Rattle.tcp_stream.specs.declared.receiving.Receiving.{Receiving}
+use Rattle.tcp_stream.specs.declared.sending.Sending.{Sending}
 use Rattle.app_connection.specs.Sequence.{after}
 use Rattle.app_connection.specs.declared.segment.Reply.{Reply}
 use Rattle.app_connection.specs.declared.state.Phase.TheVariants.{Closed}

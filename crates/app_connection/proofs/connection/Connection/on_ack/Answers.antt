@@ -1,5 +1,5 @@
 use Rattle.std.proofs.Common.{[], ◌∷◌}
-use Rattle.tcp_model.specs.Network.{Ack_comes}
+use Rattle.tcp_stream.specs.Network.{Ack_comes}
 use Rattle.app_connection.proofs.connection.Connection.on_ack.Goals as goal
 
 pub returns-then-not-is_before-clause-waits : goal.returns-then-not-is_before-clause-waits

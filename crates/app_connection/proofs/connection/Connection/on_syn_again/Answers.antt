@@ -1,7 +1,7 @@
 use Rattle.std.proofs.Common.{refl, ap, ℕ}
 use Rattle.std.specs.Prelude.{Some, None}
-use Rattle.app_tcp.specs.Items.{syn_of}
-use Rattle.app_tcp.specs.Waits.{AckComes}
+use Rattle.tcp_stream.specs.Items.{syn_of}
+use Rattle.tcp_stream.specs.Waits.{AckComes}
 use Rattle.app_connection.specs.Worlds.{replied}
 use Rattle.app_connection.specs.declared.segment.Reply.{Reply}
 use Rattle.app_connection.specs.declared.state.Phase.TheVariants.{Listen}

@@ -1,6 +1,6 @@
 use Rattle.std.proofs.Common.{true, false, refl, sym, subst, ℕ, [], ◌∷◌}
 use Rattle.std.specs.Prelude.{Some, None}
-use Rattle.tcp_model.specs.Endpoint.{Syn}
+use Rattle.tcp_stream.specs.Endpoint.{Syn}
 use Rattle.app_connection.specs.Steps.{first}
 use Rattle.app_connection.specs.Worlds.{IsOut, replied}
 use Rattle.app_connection.specs.declared.segment.Reply.{Reply}

@@ -1,6 +1,6 @@
 use Rattle.std.proofs.Common.{sym, subst, ℕ, [], ◌∷◌}
 use Rattle.std.specs.Prelude.{Some, None}
-use Rattle.tcp_model.specs.Endpoint.{Syn}
+use Rattle.tcp_stream.specs.Endpoint.{Syn}
 use Rattle.app_connection.specs.Worlds.{IsOut, said}
 use Rattle.app_connection.proofs.Going.{goes_at, only_syn, says_first, says_syn_ack}
 use Rattle.app_connection.proofs.Phases.{phase_open, phase_received, phase_sent}

@@ -1,9 +1,9 @@
 use Rattle.std.proofs.Common.{◌≡◌, ◌⊎◌, inl, inr, refl, sym, ◌∙◌, subst, ap, ℕ, ◌<◌, List, [], Bool, true, false, length, arith}
 use Rattle.std.specs.Prelude.{Option, Some, None, is_some, ◌==◌, ◌&&◌, IfSome, not, option_map, if◌then◌else◌}
-use Rattle.tcp_model.specs.Network.{World}
-use Rattle.app_tcp.specs.Stands.{Stands, room_of}
-use Rattle.app_tcp.specs.declared.receiving.Receiving.{Receiving}
-use Rattle.app_tcp.specs.declared.sending.Sending.{Sending}
+use Rattle.tcp_stream.specs.Network.{World}
+use Rattle.tcp_stream.specs.Stands.{Stands, room_of}
+use Rattle.tcp_stream.specs.declared.receiving.Receiving.{Receiving}
+use Rattle.tcp_stream.specs.declared.sending.Sending.{Sending}
 use Rattle.app_connection.specs.declared.step.Event.{Event}
 use Rattle.app_connection.specs.declared.step.Event.TheVariants as event
 use Rattle.app_connection.specs.declared.state.Phase.{Phase}

@@ -1,7 +1,7 @@
 use Rattle.std.proofs.Common.{◌≡◌, ◌⊎◌, inl, inr, refl, sym, ◌∙◌, subst, ℕ, List, [], ◌∷◌, Bool, true, false}
-use Rattle.tcp_model.specs.Network.{World, Segment_comes, happens}
-use Rattle.app_tcp.specs.Stands.{Stands}
-use Rattle.app_tcp.specs.declared.receiving.Receiving.{Receiving}
+use Rattle.tcp_stream.specs.Network.{World, Segment_comes, happens}
+use Rattle.tcp_stream.specs.Stands.{Stands}
+use Rattle.tcp_stream.specs.declared.receiving.Receiving.{Receiving}
 use Rattle.app_connection.specs.Worlds.{StandsLater}
 use Rattle.app_connection.proofs.connection.Connection.take_syn.Goals as goal
 

@@ -1,6 +1,6 @@
 use Rattle.std.proofs.Common.{◌∷◌, length}
-use Rattle.tcp_model.specs.Network.{Segment_comes}
-use Rattle.app_tcp.specs.Stands.{again, room_of}
+use Rattle.tcp_stream.specs.Network.{Segment_comes}
+use Rattle.tcp_stream.specs.Stands.{again, room_of}
 use Rattle.app_connection.proofs.Going.{comings}
 use Rattle.app_connection.proofs.connection.Connection.take_text.Goals as goal
 

@@ -4,7 +4,7 @@ use Rattle.app_connection.specs.declared.connection.Connection.{Connection}
 use Rattle.app_connection.specs.declared.state.State.{State}
 use Rattle.app_connection.specs.States.{state_from}
 use Rattle.app_options.specs.Options.{own_scale}
-use Rattle.app_tcp.specs.Stands.{room_of}
+use Rattle.tcp_stream.specs.Stands.{room_of}
 use Rattle.app_socket.specs.declared.socket.Socket.{Socket}
 use Rattle.app_socket.specs.Resends.{is_room_news, waits_for_bytes}
 use Rattle.app_socket.specs.Times.{is_open, mss_of}

@@ -1,6 +1,6 @@
 use Rattle.std.proofs.Common.{◌≡◌, inl, inr, sym, ◌∙◌, ap, subst, ℕ, ◌+◌, ◌<◌, nat_lt, arith}
 use Rattle.std.specs.Prelude.{Option, Some, None, if◌then◌else◌}
-use Rattle.app_tcp.specs.Waits.{unsent_of}
+use Rattle.tcp_stream.specs.Waits.{unsent_of}
 use Rattle.app_socket.specs.Probes.{timer_of}
 use Rattle.app_socket.specs.Resends.{IsArmed}
 use Rattle.app_socket.specs.Times.{later}

@@ -1,5 +1,5 @@
 use Rattle.std.proofs.Common.{length, drop}
-use Rattle.app_tcp.specs.Waits.{count_of}
+use Rattle.tcp_stream.specs.Waits.{count_of}
 use Rattle.app_connection.specs.Endpoints.{OutFits, InFits}
 use Rattle.app_socket.specs.Exchanges.{MayExchange}
 use Rattle.app_socket.specs.Pair.{Past, end_at}

@@ -1,6 +1,6 @@
 use Rattle.std.proofs.Common.{◌≡◌, refl, ◌∙◌, ap, ℕ, Bool, true, false}
 use Rattle.std.specs.Prelude.{Option, Some, not, ◌&&◌}
-use Rattle.tcp_model.specs.Endpoint.{is_earlier}
+use Rattle.tcp_stream.specs.Endpoint.{is_earlier}
 use Rattle.app_options.specs.declared.timestamps.Recent.{Recent}
 use Rattle.app_options.specs.Timestamps.{is_outdated, takes, updated}
 use Rattle.app_socket.proofs.laws.schedules.rounds_of_two_sockets_may_take_so_long.Goals as goal

@@ -1,5 +1,5 @@
 use Rattle.std.proofs.Common.{◌≡◌, ◌∙◌, sym, ap, subst, ◌<◌}
-use Rattle.tcp_model.specs.Endpoint.{distance}
+use Rattle.tcp_stream.specs.Endpoint.{distance}
 use Rattle.app_connection.specs.Endpoints.{OutFits}
 use Rattle.app_socket.specs.declared.flow.Flow.{Flow}
 use Rattle.app_socket.specs.declared.socket.Socket.{Socket}

@@ -1,5 +1,5 @@
 use Rattle.std.proofs.Common.{◌≡◌, ◌∙◌, sym, ap, subst, ℕ, ◌+◌, ◌-◌, ◌%◌, false, arith}
-use Rattle.tcp_model.specs.Endpoint.{distance}
+use Rattle.tcp_stream.specs.Endpoint.{distance}
 use Rattle.app_congestion.specs.Congestion.{is_in_recovery, sender_of}
 use Rattle.app_connection.specs.declared.connection.Connection.{Connection}
 use Rattle.app_socket.specs.declared.flow.Flow.{Flow}

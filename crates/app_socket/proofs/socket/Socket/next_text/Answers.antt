@@ -5,7 +5,7 @@ use Rattle.app_socket.specs.declared.socket.Socket.{Socket}
 use Rattle.app_socket.proofs.Opened.{patience_on}
 use Rattle.app_socket.proofs.socket.Socket.next_text.Goals as goal
 use Rattle.std.proofs.lemmas.Bool.{cases_lt}
-use Rattle.app_tcp.specs.Waits.{count_of}
+use Rattle.tcp_stream.specs.Waits.{count_of}
 use Rattle.app_congestion.specs.declared.rto.Rto.{Rto}
 use Rattle.app_congestion.specs.Congestion.{sender_of}
 use Rattle.app_connection.specs.declared.connection.Connection.{Connection}

@@ -3,7 +3,7 @@ use Rattle.std.specs.Prelude.{not, ◌&&◌, option_map, Option, Some, None}
 use Rattle.app_connection.specs.Events.{GetsBy}
 use Rattle.app_connection.specs.States.{state_from}
 use Rattle.app_connection.specs.declared.connection.Connection.{Connection}
-use Rattle.app_tcp.specs.Stands.{room_of}
+use Rattle.tcp_stream.specs.Stands.{room_of}
 use Rattle.app_connection.specs.Worlds.{said}
 use Rattle.app_connection.specs.declared.step.Event.TheVariants as move
 use Rattle.app_options.specs.declared.agreed.Agreed.{Agreed}

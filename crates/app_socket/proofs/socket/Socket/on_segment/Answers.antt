@@ -1,14 +1,14 @@
 use Rattle.std.proofs.Common.{◌≡◌, ◌∙◌, sym, subst, ap, length, ◌⊎◌, ℕ, List, ◌+◌, ◌≤◌, ◌<◌, true}
 use Rattle.std.specs.Prelude.{is_some, min, not, nat_lt, ◌&&◌, option_map, Option, Some, None, IfSome, if◌then◌else◌}
-use Rattle.app_tcp.specs.Stands.{Stands, room_of}
-use Rattle.app_tcp.specs.declared.receiving.Receiving.{Receiving}
+use Rattle.tcp_stream.specs.Stands.{Stands, room_of}
+use Rattle.tcp_stream.specs.declared.receiving.Receiving.{Receiving}
 use Rattle.app_connection.specs.declared.connection.Connection.{Connection}
 use Rattle.app_connection.specs.States.{state_from}
 use Rattle.app_connection.specs.Endpoints.{acknowledgement_of, answers_bare, edge_of, endpoint_of, TakesAck, next_of}
 use Rattle.app_connection.specs.Events.{GetsBy}
 use Rattle.app_connection.specs.declared.step.Event.{Event as Move}
 use Rattle.app_connection.specs.declared.step.Event.TheVariants as move
-use Rattle.tcp_model.specs.Endpoint.{distance, is_ahead}
+use Rattle.tcp_stream.specs.Endpoint.{distance, is_ahead}
 use Rattle.app_congestion.specs.Congestion.{is_partial, is_past}
 use Rattle.app_connection.specs.Worlds.{HearsAck}
 use Rattle.app_connection.specs.Sequence.{is_of_sent}

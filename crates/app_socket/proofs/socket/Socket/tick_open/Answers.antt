@@ -8,7 +8,7 @@ use Rattle.app_socket.proofs.Opened.{patience_on}
 use Rattle.app_socket.proofs.Stepping.{goes_result, goes_to}
 use Rattle.app_socket.proofs.Telling.{all_told}
 use Rattle.app_socket.proofs.socket.Socket.tick_open.Goals as goal
-use Rattle.app_tcp.specs.declared.receiving.Receiving.{Receiving}
+use Rattle.tcp_stream.specs.declared.receiving.Receiving.{Receiving}
 use Rattle.app_connection.specs.declared.connection.Connection.{Connection}
 use Rattle.app_connection.specs.declared.segment.Reply.{Reply}
 use Rattle.app_connection.specs.Endpoints.{len_of, next_of}

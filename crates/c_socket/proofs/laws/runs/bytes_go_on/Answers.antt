@@ -3,7 +3,7 @@ use Rattle.std.proofs.lemmas.Int.{to_z-of_z}
 use Rattle.std.specs.Prelude.{pos}
 use Rattle.app_connection.specs.Endpoints.{OutFits}
 use Rattle.app_socket.specs.declared.socket.Socket.{Socket}
-use Rattle.app_tcp.specs.declared.sending.Sending.{Sending}
+use Rattle.tcp_stream.specs.declared.sending.Sending.{Sending}
 use Rattle.c_socket.proofs.Extending.{goes_then, learns_on, reads_on, reads_same, writes_on}
 use Rattle.c_socket.proofs.laws.runs.bytes_go_on.Goals as goal
 

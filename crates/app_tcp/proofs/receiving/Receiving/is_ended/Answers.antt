@@ -1,7 +1,0 @@
-use Rattle.tcp_model.specs.Network.{run, start}
-use Rattle.app_tcp.proofs.Pending.{eq_test}
-use Rattle.app_tcp.proofs.Standing.{end_delivers}
-use Rattle.app_tcp.proofs.receiving.Receiving.is_ended.Goals as goal
-
-pub returns-then-self-clause-whole : goal.returns-then-self-clause-whole
-returns-then-self-clause-whole c = λ initial events consumed buffer is_last stands. end_delivers (run events (start initial)) consumed c.args.self.now buffer c.if-self.true (eq_test _ _ is_last) stands

@@ -1,0 +1,17 @@
+pub mod Numbers
+pub mod Parts
+pub mod Streams
+pub mod Kept
+pub mod Round
+pub mod Pair
+pub mod Rounds
+pub mod Places
+pub mod Pending
+pub mod Spans
+pub mod Received
+pub mod Gaps
+pub mod Standing
+pub mod Keeping
+pub mod Taking
+pub mod Told
+pub mod GoesOn

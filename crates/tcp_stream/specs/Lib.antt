@@ -1,0 +1,11 @@
+pub mod Endpoint
+pub mod Network
+pub mod Both
+pub mod Rounds
+pub mod Ring
+pub mod Order
+pub mod Ranges
+pub mod Items
+pub mod Waits
+pub mod Stands
+pub mod GoesOn
