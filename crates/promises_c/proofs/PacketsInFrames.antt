@@ -1,7 +1,8 @@
 -- A packet is what its frame has after the Ethernet header.
-use Rattle.std.proofs.Common.{ℕ, ℤ, pos, negsuc, ◌≡◌, ◌∙◌, ◌+◌, ◌≤◌, ◌<◌, ◌++◌, List, Option, Some, None, inl, inr, drop, length, length-append, ap, arith, sym}
+use Rattle.std.proofs.Common.{ℕ, ℤ, pos, negsuc, ◌≡◌, ◌∙◌, ◌+◌, ◌≤◌, ◌<◌, ◌++◌, List, Option, Some, None, inl, inr, append_assoc, drop, length, length-append, ap, arith, sym}
 use Rattle.std.proofs.lemmas.Bool.{cases_lt}
-use Rattle.std.proofs.lemmas.Grind.{common_steps}
+use Rattle.std.proofs.Math.Seq.{drop-append_seam}
+use Rattle.std.proofs.lemmas.List.{drop-drop}
 use Rattle.c_write.proofs.Framed.{length-link}
 use Rattle.c_write.specs.Frames.{framed, packet_link}
 use Rattle.c_structs.specs.Written.{Writes, failed_by, max_len}
@@ -26,6 +27,24 @@ both-fail why old new frame_old frame_new a b rest (is, same) (also, kept) = rec
   failed = λ n none. also ∙ sym is ∙ none;
 }
 
+-- what follows a header of 14 bytes
+following : (header bytes old rest new frame : List ℕ) → length header ≡ 14 → drop 14 old ≡ rest → new ≡ bytes ++ drop (length bytes) rest
+    → frame ≡ (header ++ bytes) ++ drop (length (header ++ bytes)) old → drop 14 frame ≡ new
+following header bytes old rest new frame len is same framed_too =
+    let whole = length-append header bytes in
+    let size : length (header ++ bytes) ≡ 14 + length bytes = omega (arith, whole, len) in
+    let after : drop (length (header ++ bytes)) old ≡ drop (length bytes) rest =
+    ap (λ n. drop n old) size ∙ sym (drop-drop (length bytes) 14 old) ∙ ap (λ s. drop (length bytes) s) is in
+    let frame_is : frame ≡ header ++ new =
+    framed_too ∙ ap (λ s. (header ++ bytes) ++ s) after ∙ append_assoc header bytes (drop (length bytes) rest) ∙ ap (λ s. header ++ s) (sym same) in
+    ap (λ s. drop 14 s) frame_is ∙ ap (λ n. drop n (header ++ new)) (sym len) ∙ drop-append_seam header new
+
+counted : (header bytes : List ℕ) (n : ℕ) → length header ≡ 14 → pos (length bytes) ≡ pos n → pos (length (header ++ bytes)) ≡ pos (14 + n)
+counted header bytes n len e =
+    let whole = length-append header bytes in
+    let count : length bytes ≡ n = cc in
+    ap pos (omega (arith, whole, len, count))
+
 pub in-frame : (f : FrameFields) (packet : Option (List ℕ)) (why : Option Failure) (old new frame_old frame_new : List ℕ) (a b : ℤ)
     → length f.ethernet.src ≡ 6 → length f.ethernet.dst ≡ 6 → length frame_old ≡ 14 + length old → length frame_old ≤ max_len → drop 14 frame_old ≡ old
     → Writes packet why old new a → Writes (framed f packet) why frame_old frame_new b → InFrame new frame_new a b
@@ -40,8 +59,8 @@ in-frame f (Some bytes) why old new frame_old frame_new a b src dst room most re
           let (is, same) = wrote.fits fits (omega (arith, room, most)) in
           let (also, kept) = framed_too.fits (omega (arith, link, whole, room, fits)) most in
           record {
-            written = grind (arith, common_steps, link, same, kept, rest);
-            returned = λ n some. also ∙ ap pos (let of = sym is ∙ some in grind (arith, common_steps, link, whole, of));
+            written = following (packet_link f) bytes frame_old old new frame_new link rest same kept;
+            returned = λ n some. also ∙ counted (packet_link f) bytes n link (sym is ∙ some);
             failed = λ n none. absurd (let no = sym is ∙ none in cc);
           }
     ]

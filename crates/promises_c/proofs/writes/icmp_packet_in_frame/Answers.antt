@@ -1,4 +1,5 @@
-use Rattle.std.proofs.Common.{◌≡◌, length, rules}
+use Rattle.std.proofs.Common.{◌≡◌, ◌∙◌, SFits, length, rules, sym, w64}
+use Rattle.std.proofs.lemmas.Int.{to_z-of_z}
 use Rattle.c_icmp.specs.Frames.{icmp_frame_failure, icmp_packet}
 use Rattle.promises_c.proofs.PacketsInFrames.{InFrame, in-frame}
 use Rattle.promises_c.proofs.writes.icmp_packet_in_frame.Goals as goal
@@ -12,4 +13,12 @@ returns c =
     let both : InFrame c.lk_emit_icmp_packet.new.out c.lk_emit_icmp_frame.new.out c.lk_emit_icmp_packet.result c.lk_emit_icmp_frame.result =
     in-frame f (icmp_packet f c.args.payload.now) (icmp_frame_failure f (length c.args.payload.now)) old c.lk_emit_icmp_packet.new.out c.args.frame.now c.lk_emit_icmp_frame.new.out _ _ src dst c.requires.room c.requires.most c.requires.rest
     c.lk_emit_icmp_packet.ensures c.lk_emit_icmp_frame.ensures in
-    record { written = both.written; returned = both.returned; failed = both.failed }
+    let fits : SFits w64 c.lk_emit_icmp_packet.result = search rules in
+    let fits_too : SFits w64 c.lk_emit_icmp_frame.result = search rules in
+    let packet_len = to_z-of_z w64 c.lk_emit_icmp_packet.result fits in
+    let frame_len = to_z-of_z w64 c.lk_emit_icmp_frame.result fits_too in
+    record {
+      written = both.written;
+      returned = λ n some. frame_len ∙ both.returned n (sym packet_len ∙ some);
+      failed = λ n none. frame_len ∙ both.failed n (sym packet_len ∙ none);
+    }
