@@ -7,8 +7,8 @@ ghost use Rattle.c_structs.specs.Written.{max_len};
 use c_exports::edits::lk_set_port_as;
 use c_exports::emit::lk_emit_ip;
 use c_exports::frames::{
-    lk_emit_tcp_frame, lk_emit_tcp_packet, lk_emit_udp_frame, lk_emit_udp_packet, lk_wrap_tcp_frame,
-    lk_wrap_tcp_packet, lk_wrap_udp_frame, lk_wrap_udp_packet,
+    lk_emit_tcp_frame, lk_emit_tcp_packet, lk_emit_udp_frame, lk_emit_udp_packet,
+    lk_wrap_tcp_frame, lk_wrap_tcp_packet, lk_wrap_udp_frame, lk_wrap_udp_packet,
 };
 use c_exports::icmp::{lk_emit_icmp_frame, lk_emit_icmp_packet};
 use c_structs::{Addr, FrameFields, Ip, TcpOptions};
