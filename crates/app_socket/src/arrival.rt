@@ -1,6 +1,6 @@
 //! A segment arrives.
 
-ghost use Rattle.std.specs.Prelude.{false, ◌≤◌, None, max, ◌≡◌, ◌<◌, ℕ, List, is_some, length, true, IfSome, if◌then◌else◌, option_map, ◌+◌, ◌-◌, ◌%◌, min, Option, Some};
+ghost use Rattle.std.specs.Prelude.{false, ◌≤◌, None, max, ◌≡◌, ◌<◌, ℕ, List, is_some, length, true, IfSome, if◌then◌else◌, option_map, ◌+◌, ◌-◌, ◌%◌, ◌&&◌, not, min, Option, Some};
 ghost use Rattle.tcp_stream.specs.Network.{World};
 ghost use Rattle.tcp_stream.specs.Stands.{Stands, room_of};
 ghost use Rattle.app_connection.specs.Endpoints.{OutFits, InFits, acknowledgement_of, answers_bare, endpoint_of, has_items, is_bare, len_of, spoken};

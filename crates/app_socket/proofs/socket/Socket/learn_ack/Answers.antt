@@ -1,10 +1,10 @@
-use Rattle.std.proofs.Common.{◌≡◌, ◌∙◌, sym, ap, subst, ℕ, ◌+◌, ◌-◌, ◌%◌, false, arith}
+use Rattle.std.proofs.Common.{◌≡◌, ◌∙◌, sym, ap, subst, ℕ, ◌+◌, ◌-◌, ◌%◌, true, false, arith}
 use Rattle.tcp_stream.specs.Endpoint.{distance}
 use Rattle.app_congestion.specs.Congestion.{is_in_recovery, sender_of}
 use Rattle.app_connection.specs.declared.connection.Connection.{Connection}
 use Rattle.app_socket.specs.declared.flow.Flow.{Flow}
 use Rattle.app_socket.specs.declared.socket.Socket.{Socket}
-use Rattle.app_socket.specs.Resends.{IsSound, restarted_at}
+use Rattle.app_socket.specs.Resends.{IsSound, ResendsOnPartial, restarted_at}
 use Rattle.app_socket.specs.Undo.{Undoes}
 use Rattle.app_socket.proofs.socket.Socket.learn_ack.Goals as goal
 use Rattle.app_socket.proofs.socket.Socket.learn_ack.Goals.{then-newly-gt0, else-newly-gt0}
@@ -74,5 +74,24 @@ returns-clause-undoes c = λ some needless.
             cursor = ap (λ (f : Flow). f.cursor) still ∙ all.cursor;
             resend = ap (λ (f : Flow). f.resend) still ∙ all.resend;
           }
+      | else-newly-gt0 w ↦ absurd (omega (arith, some, w.if-newly-gt0.false, c.una.ensures))
+    ]
+
+pub returns-clause-partial : goal.returns-clause-partial
+returns-clause-partial c = λ needed some partial rescued.
+    let old = c.args.self.now in
+    let una = old.connection.sending.una in
+    let flight = old.connection.sending.flight in
+    let b = c.args.before.now.una in
+    let newly = (c.una.result + (4294967296 - b)) % 4294967296 in
+    let is : newly ≡ distance una b = omega (arith, c.una.ensures) in
+    elim c.if-newly-gt0.branch [
+      | then-newly-gt0 w ↦
+          let last : (b + newly) % 4294967296 ≡ una = omega (arith, is, c.una.ensures) in
+          let first : ResendsOnPartial old.flow w.learn_newly.new.self.flow una flight newly =
+          subst (λ (n : ℕ). ResendsOnPartial old.flow w.learn_newly.new.self.flow n flight newly) last (w.learn_newly.ensures.partial needed)
+          in
+          let resend : w.learn_newly.new.self.flow.resend ≡ true = first (omega (arith, is, some)) partial (omega (arith, is, rescued)) in
+          c.learn_duplicates.ensures.still (ap (λ (x : Socket). x.flow.resend) w.self-is ∙ resend)
       | else-newly-gt0 w ↦ absurd (omega (arith, some, w.if-newly-gt0.false, c.una.ensures))
     ]

@@ -1,4 +1,4 @@
-use Rattle.std.proofs.Common.{◌≡◌, ◌∙◌, sym, subst, ap, length, ◌⊎◌, ℕ, List, ◌+◌, ◌≤◌, ◌<◌, true}
+use Rattle.std.proofs.Common.{◌≡◌, ◌∙◌, sym, subst, ap, length, ◌⊎◌, ℕ, List, ◌+◌, ◌%◌, ◌≤◌, ◌<◌, true}
 use Rattle.std.specs.Prelude.{is_some, min, not, nat_lt, ◌&&◌, option_map, Option, Some, None, IfSome, if◌then◌else◌}
 use Rattle.tcp_stream.specs.Stands.{Stands, room_of}
 use Rattle.tcp_stream.specs.declared.receiving.Receiving.{Receiving}
