@@ -46,7 +46,7 @@ TellsOf ours frame problem.FragmentMissing mtu header carried = IsError ours fra
 abbrev pub own_interface : InterfaceFields → Option Interface
 own_interface own = interface_of own.ipv4 own.ipv6 own.hardware false
 
--- The error of an interface about a frame is written. Without an interface nothing is written.
+-- the error of an interface about a frame is written, or nothing without one
 abbrev pub WritesError : Option Interface → List ℕ → Problem → ℕ → List ℕ → List ℕ → ℤ → Type 0
 WritesError None frame p mtu old new answer = (answer ≡ failure_code failure.NoVersion) × (new ≡ old)
 WritesError (Some ours) frame p mtu old new answer = WritesReplyTo frame unmarked (TellsOf ours frame p mtu) old new answer

@@ -84,7 +84,7 @@ pub record Met (Is : Event → Type 0) (old new : SocketFields) (outgoing before
   pub steps : Steps (socket_of old) (socket_of new) outgoing before after now e given
   pub stores : Stores (socket_of new) (length before) now given out out' code
 
--- nothing is changed, and -1 is returned
+-- nothing changes, and -1 is returned
 pub record IsUnchanged (old new : SocketFields) (before after : List ℕ) (out out' : SegmentFields) (code : ℤ) : Type 0 where
   pub is : code ≡ negsuc 0
   pub kept : new ≡ old
