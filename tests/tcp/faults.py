@@ -397,15 +397,6 @@ class NoRestart(Socket):
         self.sent_at = sent_at
 
 
-class RestartsWhenSilent(Socket):
-    """cwnd is that of the beginning again when the peer was silent, and not when nothing was sent."""
-
-    def time_what_waits(self):
-        self.sent_at, sent_at = self.probe_at - self.keep_alive, self.sent_at
-        super().time_what_waits()
-        self.sent_at = sent_at
-
-
 class OneSegment(Socket):
     """Slow start adds at most a segment, also before the first loss."""
 
